@@ -1,0 +1,2 @@
+// River files, flows and the head of a reach.
+pub mod card;
