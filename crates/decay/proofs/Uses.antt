@@ -9,10 +9,10 @@
 -- * A lemma over few variables checks quickest. Cost: an identity of six variables and degree four (126 monomials) 0.3 s; eighteen variables and 150 leaves 0.2 s; 715 monomials 1.4 s.
 use mathlib.Core.Path.{_≡_}
 use mathlib.Core.List.{[], _∷_}
-use Prim.Native.Nat.{ℕ, suc, _+_, _*_, _/_, _≤_, _<_}
-use lib.IntN.{ℤ, _+ℤ_, _-ℤ_, _*ℤ_}
+use Prim.Native.Nat.{ℕ, _*_, _/_, _≤_, _<_}
+use lib.IntN.{ℤ, _-ℤ_, _*ℤ_}
 use Rattle.decay.specs.Fraction.{Fraction, _≈_, _≼_, ofℕ, ofℤ, _+ᶠ_, _-ᶠ_, _*ᶠ_, _÷_, over, distance}
-use Rattle.decay.proofs.Algebra.{quote, replaced, ring, ring-by, ringℤ, none, _&_, _⋅_, Nonneg, ≼-computed, slack, number, _⊞_, _⊠_, certify, certify-by, certify-times, certify-over, Positive, positive-whole, ÷-cancel-pos, Within, small, sized, _⊞ˢ_, _⊠ˢ_, near, within→distance, distance→within, ofℕ-mono, ofℕ-reflect, ofℕ-suc, floor-low, floor-high}
+use Rattle.decay.proofs.Algebra.{quote, replaced, ring, ring-by, ringℤ, none, _&_, _⋅_, Nonneg, ≼-computed, slack, number, _⊞_, _⊠_, certify, certify-by, certify-times, certify-over, Positive, ÷-cancel-pos, Within, small, sized, _⊞ˢ_, _⊠ˢ_, near, within→distance, ofℕ-mono, floor-low, floor-high}
 
 -- 1. An identity.
 product-of-sum-and-difference : (a b : Fraction) → (a +ᶠ b) *ᶠ (a -ᶠ b) ≈ a *ᶠ a -ᶠ b *ᶠ b

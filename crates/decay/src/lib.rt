@@ -1,4 +1,4 @@
-// Decay factors of a reach.
-pub fn one() -> u64 {
-    17592186044416
-}
+// Decay factors of a reach: the shares of BOD and oxygen deficit at each of its 1,025 instants.
+pub mod factors;
+pub mod fixed;
+pub mod step;

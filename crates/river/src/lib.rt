@@ -1,2 +1,9 @@
 // River files, flows and the head of a reach.
+pub mod bytes;
 pub mod card;
+pub mod flow;
+pub mod head;
+pub mod range;
+pub mod read;
+pub mod refusal;
+pub mod write;

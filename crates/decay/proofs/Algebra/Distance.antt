@@ -3,15 +3,15 @@
 use mathlib.Core.Path.{_≡_, refl, sym, subst}
 use mathlib.Core.List.{List, [], _∷_}
 use mathlib.Core.Logic.{_⊎_, inl, inr}
-use Prim.Native.Nat.{ℕ, zero, suc}
-use lib.IntN.{ℤ, pos, negsuc, negℤ, natAbs, _*ℤ_}
-use lib.Signed.{_≤ℤ_, ≤ℤ-refl}
-use Rattle.decay.specs.Fraction.{Fraction, _≈_, _≼_, ofℤ, ofℕ, _+ᶠ_, -ᶠ_, _-ᶠ_, _*ᶠ_, ∣_∣ᶠ, distance}
-use Rattle.decay.proofs.Algebra.Signed.{≤ℤ-mul-r, nonneg-pos}
+use Prim.Native.Nat.{suc}
+use lib.IntN.{ℤ, pos, negsuc, negℤ}
+use lib.Signed.{_≤ℤ_}
+use Rattle.decay.specs.Fraction.{Fraction, _≈_, _≼_, ofℕ, _+ᶠ_, -ᶠ_, _-ᶠ_, _*ᶠ_, ∣_∣ᶠ, distance}
+use Rattle.decay.proofs.Algebra.Signed.{nonneg-pos}
 use Rattle.decay.proofs.Algebra.Normal.{Given, rest, Vanishes}
-use Rattle.decay.proofs.Algebra.Rational.{Fraction-ring, ≈-refl, ≈-sym, ≈-trans}
+use Rattle.decay.proofs.Algebra.Rational.{Fraction-ring, ≈-refl, ≈-sym}
 use Rattle.decay.proofs.Algebra.Identity.{ring, ring-by, Zeros, none, _&_, _⋅_, quote}
-use Rattle.decay.proofs.Algebra.Order.{≼-refl, ≼-trans, ≼-of-≈, ≼-by, Nonneg, num-nonneg, slack, number, _⊞_, _⊠_, certify, certify-by, certify-times}
+use Rattle.decay.proofs.Algebra.Order.{≼-refl, ≼-trans, ≼-of-≈, Nonneg, num-nonneg, slack, number, _⊞_, _⊠_, certify, certify-by, certify-times}
 
 pub record Small (x e : Fraction) : Type 0 where
   pub high : x ≼ e

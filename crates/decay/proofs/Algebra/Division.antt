@@ -1,21 +1,19 @@
 -- Strict order, positive fractions, and division.
 -- A quotient enters a certificate by its equation: `multiple c (÷-cancel-pos a hb)` turns c × (a ÷ b × b) there into c × a.
-use mathlib.Core.Path.{_≡_, refl, sym, subst, subst₂}
+use mathlib.Core.Path.{_≡_, refl, sym, subst₂}
 use mathlib.Core.List.{List, [], _∷_}
 use mathlib.Core.Logic.{_⊎_, inl, inr}
-use mathlib.Core.Bool.{Bool, true, false}
-use Prim.Native.Nat.{ℕ, zero, suc, _*_, _≤_, _<_, zero-le, suc-le-suc}
+use Prim.Native.Nat.{ℕ, zero, suc, _≤_, _<_, zero-le, suc-le-suc}
 use native.Mathlib.Omega.{arith}
-use lib.Dec.{T, lt→ltb, ltb→lt}
-use lib.IntN.{ℤ, pos, negsuc, negℤ, _+ℤ_, _*ℤ_, ℤ-discrete}
-use lib.Signed.{_≤ℤ_, _<ℤ_, leZ, ltZ, ltZ-no, clashℤ, ≤ℤ-refl}
+use lib.IntN.{ℤ, pos, negsuc, _*ℤ_, ℤ-discrete}
+use lib.Signed.{_≤ℤ_, ≤ℤ-refl}
 use Rattle.decay.specs.Fraction.{Fraction, _≈_, _≼_, ofℤ, ofℕ, _+ᶠ_, -ᶠ_, _-ᶠ_, _*ᶠ_, over, _÷_}
-use Rattle.decay.proofs.Algebra.Signed.{≤ℤ-total, *ℤ-idr, nonneg-pos, nonneg-cancel, pos-reflect}
-use Rattle.decay.proofs.Algebra.Normal.{var, con, _:+_, _:*_, :-_, Given, rest, Vanishes}
+use Rattle.decay.proofs.Algebra.Signed.{≤ℤ-total, *ℤ-idr, nonneg-cancel, pos-reflect}
+use Rattle.decay.proofs.Algebra.Normal.{var, con, _:*_, :-_, Given, rest, Vanishes}
 use Rattle.decay.proofs.Algebra.Whole.{solveℤ}
-use Rattle.decay.proofs.Algebra.Rational.{Fraction-ring, ≈-refl, ≈-sym, ≈-trans, +ᶠ-cong, *ᶠ-cong, zero-num, num-zero}
+use Rattle.decay.proofs.Algebra.Rational.{Fraction-ring, ≈-refl, ≈-sym, ≈-trans, *ᶠ-cong, zero-num, num-zero}
 use Rattle.decay.proofs.Algebra.Identity.{ring, ring-by, Zeros, none, _&_, _⋅_, quote}
-use Rattle.decay.proofs.Algebra.Order.{≼-refl, ≼-trans, ≼-antisym, ≼-of-≈, Nonneg, nonneg-num, num-nonneg, nonneg-by, slack, from-slack, number, _⊞_, _⊠_, square, certify, certify-by}
+use Rattle.decay.proofs.Algebra.Order.{≼-refl, ≼-trans, ≼-antisym, ≼-of-≈, Nonneg, nonneg-num, num-nonneg, nonneg-by, slack, from-slack, number, _⊞_, _⊠_, certify, certify-by}
 
 -- ---- a < b
 

@@ -1,19 +1,19 @@
 -- Whole numbers as fractions: sums, products, order, and division rounded down. `quote` reads ofℕ (m + n) and ofℕ (m * n) as sums and products by itself.
-use mathlib.Core.Path.{_≡_, refl, sym, _∙_, ap, subst, subst₂}
+use mathlib.Core.Path.{_≡_, sym, _∙_, ap, subst, subst₂}
 use mathlib.Core.List.{List, [], _∷_}
-use Prim.Native.Nat.{ℕ, zero, suc, _+_, _-_, _*_, _/_, _≤_, _<_, zero-le, suc-le-suc}
+use Prim.Native.Nat.{ℕ, suc, _+_, _-_, _*_, _/_, _≤_, _<_, zero-le, suc-le-suc}
 use native.Mathlib.Nat.{le-antisymm, div-mul-le-self, lt-div-mul-add}
 use native.Mathlib.Numerals.{add-one}
 use native.Mathlib.Omega.{arith}
-use lib.IntN.{ℤ, pos, negsuc, negℤ, _+ℤ_, _*ℤ_}
+use lib.IntN.{ℤ, pos, negsuc}
 use lib.Signed.{_≤ℤ_, shrZ}
 use Rattle.decay.specs.Fraction.{Fraction, _≈_, _≼_, ofℤ, ofℕ, _+ᶠ_, -ᶠ_, _-ᶠ_, _*ᶠ_, _÷_}
 use Rattle.decay.proofs.Algebra.Signed.{*ℤ-idr, pos-mono, pos-reflect}
 use Rattle.decay.proofs.Algebra.Normal.{Sides, gap, Vanishes}
 use Rattle.decay.proofs.Algebra.Rational.{Fraction-ring, ≈-refl, ≈-sym, ≈-trans, -ᶠ-cong, ofℤ-+, ofℤ-*, ofℤ-neg}
 use Rattle.decay.proofs.Algebra.Identity.{ring, ring-by, none, _&_, _⋅_, quote, replaced}
-use Rattle.decay.proofs.Algebra.Order.{≼-refl, ≼-trans, ≼-of-≈, Nonneg, slack, number, _⊞_, _⊠_, certify, certify-by}
-use Rattle.decay.proofs.Algebra.Division.{Positive, _≺_, positive-whole, ÷-le, le-÷, ÷-cancel-pos}
+use Rattle.decay.proofs.Algebra.Order.{≼-of-≈, slack, number, _⊞_, _⊠_, certify, certify-by}
+use Rattle.decay.proofs.Algebra.Division.{_≺_, positive-whole, ÷-le, le-÷, ÷-cancel-pos}
 use Rattle.decay.proofs.Algebra.Distance.{Within}
 
 -- ---- order

@@ -1,6 +1,6 @@
 -- Identities of fractions in one line: `ring (a ∷ b ∷ []) (search quote depth 40 fits 9999) tt : (a +ᶠ b) *ᶠ (a -ᶠ b) ≈ a *ᶠ a -ᶠ b *ᶠ b`.
 -- The list names the terms that count as variables; `quote` reads both sides as expressions over them. A wrong identity fails at `tt`, and the error (or a hole there) shows the left-over polynomial.
-use mathlib.Core.Path.{_≡_, refl}
+use mathlib.Core.Path.{_≡_}
 use mathlib.Core.List.{List, [], _∷_}
 use mathlib.Core.Bool.{true}
 use Prim.Native.Nat.{ℕ, _+_, _*_}

@@ -1,17 +1,17 @@
 -- The order of fractions, and inequalities by certificate.
 -- A certificate for a ≼ b is a fraction c that is not negative by the way it is put together, with (n + 1) × (b − a) ≈ c by the normaliser.
-use mathlib.Core.Path.{_≡_, refl, sym, _∙_, ap, subst, subst₂}
+use mathlib.Core.Path.{_≡_, sym, subst, subst₂}
 use mathlib.Core.List.{List, [], _∷_}
 use mathlib.Core.Logic.{_⊎_, inl, inr}
-use Prim.Native.Nat.{ℕ, zero, suc, _*_, zero-le, suc-le-suc}
-use lib.IntN.{ℤ, pos, negsuc, negℤ, _+ℤ_, _-ℤ_, _*ℤ_}
+use Prim.Native.Nat.{ℕ, suc, _*_, zero-le, suc-le-suc}
+use lib.IntN.{ℤ, pos, negsuc, _-ℤ_, _*ℤ_}
 use lib.Dec.{T}
 use lib.Signed.{_≤ℤ_, ≤ℤ-refl, leZ}
 use Rattle.decay.specs.Fraction.{Fraction, _≈_, _≼_, ofℤ, ofℕ, _+ᶠ_, -ᶠ_, _-ᶠ_, _*ᶠ_}
-use Rattle.decay.proofs.Algebra.Signed.{≤ℤ-of-eq, ≤ℤ-trans, ≤ℤ-antisym, ≤ℤ-total, ≤ℤ-diff, ≤ℤ-of-diff, ≤ℤ-cancel-r, ≤ℤ-mul-r, nonneg-pos, nonneg-*ℤ, nonneg-+ℤ, nonneg-cancel, pos-mono, pos-reflect, *ℤ-idr}
+use Rattle.decay.proofs.Algebra.Signed.{≤ℤ-of-eq, ≤ℤ-trans, ≤ℤ-antisym, ≤ℤ-total, ≤ℤ-diff, ≤ℤ-of-diff, ≤ℤ-cancel-r, ≤ℤ-mul-r, nonneg-pos, nonneg-*ℤ, nonneg-+ℤ, nonneg-cancel, *ℤ-idr}
 use Rattle.decay.proofs.Algebra.Normal.{var, con, _:+_, _:*_, :-_, Sides, gap, Given, rest, Vanishes}
 use Rattle.decay.proofs.Algebra.Whole.{solveℤ}
-use Rattle.decay.proofs.Algebra.Rational.{Fraction-ring, ≈-refl, ≈-sym, ≈-trans, +ᶠ-cong, *ᶠ-cong}
+use Rattle.decay.proofs.Algebra.Rational.{Fraction-ring, swap, ≈-refl, ≈-sym, ≈-trans, +ᶠ-cong, *ᶠ-cong}
 use Rattle.decay.proofs.Algebra.Identity.{ring, ring-by, Zeros, quote}
 
 -- ---- the order
@@ -21,9 +21,6 @@ pub ≼-refl : (a : Fraction) → a ≼ a
 
 pub ≼-of-≈ : {a b : Fraction} → a ≈ b → a ≼ b
 ≼-of-≈ h = record { across = ≤ℤ-of-eq (h .across) }
-
-swap : (x : ℤ) (m n : ℕ) → x *ℤ pos m *ℤ pos n ≡ x *ℤ pos n *ℤ pos m
-swap x m n = solveℤ (x ∷ pos m ∷ pos n ∷ []) (var 0 :* var 1 :* var 2) (var 0 :* var 2 :* var 1) tt
 
 pub ≼-trans : {a b c : Fraction} → a ≼ b → b ≼ c → a ≼ c
 ≼-trans {a} {b} {c} h k =

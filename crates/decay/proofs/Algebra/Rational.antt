@@ -52,7 +52,8 @@ pub ≈-refl : (a : Fraction) → a ≈ a
 pub ≈-sym : {a b : Fraction} → a ≈ b → b ≈ a
 ≈-sym h = record { across = sym (h .across) }
 
-swap : (x : ℤ) (m n : ℕ) → x *ℤ pos m *ℤ pos n ≡ x *ℤ pos n *ℤ pos m
+-- the last two of three factors change places
+pub swap : (x : ℤ) (m n : ℕ) → x *ℤ pos m *ℤ pos n ≡ x *ℤ pos n *ℤ pos m
 swap x m n = solveℤ (x ∷ pos m ∷ pos n ∷ []) (var 0 :* var 1 :* var 2) (var 0 :* var 2 :* var 1) tt
 
 pub ≈-trans : {a b c : Fraction} → a ≈ b → b ≈ c → a ≈ c

@@ -2,7 +2,7 @@
 use mathlib.Core.Path.{_≡_, refl, sym, _∙_, ap, ap₂}
 use mathlib.Core.List.{List}
 use Prim.Native.Nat.{suc, zero-le, suc-le-suc}
-use lib.IntN.{ℤ, pos, negsuc, negℤ, _+ℤ_, _*ℤ_, +ℤ-assoc, +ℤ-comm, +ℤ-idl, *ℤ-comm, zero-*ℤ}
+use lib.IntN.{ℤ, pos, negℤ, _+ℤ_, _*ℤ_, +ℤ-assoc, +ℤ-comm, +ℤ-idl, *ℤ-comm, zero-*ℤ}
 use Rattle.decay.proofs.Algebra.Signed.{*ℤ-assoc, *ℤ-distrib-r, *ℤ-idl, neg-*ℤ, *ℤ-cancel-r}
 use Rattle.decay.proofs.Algebra.Ring.{Ring}
 use Rattle.decay.proofs.Algebra.Normal.{Expr, _:+_, :-_, norm, Vanishes, eval, solve}

@@ -1,0 +1,194 @@
+-- The shares of a step of a reach against document 01's S and F at one step: within 3 units for BOD lost and deficit filled, 5 for BOD used.
+use mathlib.Core.List.{[], _∷_}
+use Prim.Native.Nat.{ℕ, _*_, _^_, _≤_, _<_, zero-le}
+use native.Mathlib.Nat.{mul-one, le-trans}
+use lib.Dec.{lit<, lit≤}
+use lib.Signed.{leZ-yes}
+use Rattle.decay.specs.Fraction.{Fraction, ofℕ, ofℤ, over, _+ᶠ_, -ᶠ_, _-ᶠ_, _*ᶠ_, _÷_, _≈_, _≼_}
+use Rattle.decay.specs.Exact.{power, factorial, exponent, S, F}
+use Rattle.decay.specs.Fixed.{small}
+use Rattle.decay.specs.Step.{Passed, exponentOf, stepOf}
+use Rattle.decay.specs.Promise.{share}
+use Rattle.decay.proofs.Algebra.{≈-sym, ≈-trans, ring-by, _⋅_, _&_, none, quote, ≼-of-≈, ≼-trans, Nonneg, slack, number, _⊞_, _⊠_, multiple, certify, certify-times, positive-whole, ÷-cancel-pos, ofℕ-≈, Within}
+use Rattle.decay.proofs.Algebra.Identity.{replaced}
+use Rattle.decay.proofs.Exponential.Terms.{e, e-zero, e-suc, e-nonneg, e-mono, S-six}
+use Rattle.decay.proofs.Exponential.Exponent.{exponent-nonneg, exponent-step, exponent-scaled}
+use Rattle.decay.proofs.Exponential.Used.{d, d-zero, d-suc, d-nonneg}
+use Rattle.decay.proofs.Exponential.Short.{S-short, F-short, d-small}
+use Rattle.decay.proofs.Shares.{exponent-small, step-sound}
+use Rattle.decay.proofs.Accuracy.Units.{eps, eps-nonneg, share-nonneg, share-mono, share-one, share-is, Below, exponent-below}
+use Rattle.decay.proofs.Accuracy.Step.{Exponents, ExactTerms, Sum, lost-near, used-near}
+use Rattle.decay.proofs.Accuracy.Advance.{StepNear}
+
+-- ---- the exponents of a step
+
+near-exponent : (k v Q : ℕ) → 0 < Q → Below (exponent k v Q 1) (share (exponentOf k v Q))
+near-exponent k v Q h =
+    exponent-below k v Q (exponent k v Q 1) h (≈-trans (exponent-scaled k v Q 1 h) (ofℕ-≈ (mul-one (k * v))))
+
+small-exponent : (k v Q : ℕ) → k * v ≤ 345600 * Q → ofℕ 256 *ᶠ exponent k v Q 1 ≼ ofℕ 1
+small-exponent k v Q h =
+    certify (exponent k v Q 1 ∷ (ofℕ 1 ÷ ofℕ 256) ∷ []) (number 256 ⊠ slack (exponent-step k v Q h) ⊞ multiple (ofℕ 1) (÷-cancel-pos (ofℕ 1) (positive-whole {n = 256} (lit< tt)))) (search quote depth 40 fits 9999) tt
+
+-- no exponent at all, for the deficit alone
+nothing : Below (ofℕ 0) (share 0)
+nothing =
+    record {
+      low = certify (eps ∷ []) (number 0) (search (quote, replaced (share-is 0)) depth 40 fits 9999) tt;
+      high = certify (eps ∷ []) eps-nonneg (search (quote, replaced (share-is 0)) depth 40 fits 9999) tt;
+    }
+
+exact-terms : (y z : Fraction) → ExactTerms y z (e y) (d y z)
+exact-terms y z =
+    record {
+      e-first = ring-by (y ∷ e y 0 ∷ e y 1 ∷ []) (ofℕ 1 ⋅ e-suc y 0 & y ⋅ e-zero y & none) (search quote depth 40 fits 9999) tt;
+      e-next = e-suc y;
+      d-first =
+          ring-by (y ∷ z ∷ e y 0 ∷ d y z 0 ∷ d y z 1 ∷ []) (ofℕ 1 ⋅ d-suc y z 0 & y ⋅ e-zero y & z ⋅ d-zero y z & none) (search quote depth 40 fits 9999) tt;
+      d-next = d-suc y z;
+    }
+
+-- ---- the tails of the series are small against a unit
+
+tail-S : ofℕ 64 *ᶠ (ofℕ 1 ÷ ofℕ (2 ^ 56)) ≼ eps
+unfolding _÷_ _*ᶠ_ over ofℤ eps
+tail-S = record { across = leZ-yes tt }
+
+tail-F : ofℕ 64 *ᶠ (ofℕ 1 ÷ ofℕ (2 ^ 53)) ≼ eps
+unfolding _÷_ _*ᶠ_ over ofℤ eps
+tail-F = record { across = leZ-yes tt }
+
+-- 1 / 256, the greatest exponent of a step
+abbrev step : Fraction
+step = ofℕ 1 ÷ ofℕ 256
+
+-- the first terms that are left out
+
+fifth-e : ofℕ 64 *ᶠ e step 5 ≼ ofℕ 9 *ᶠ eps
+unfolding e power factorial _÷_ over _*ᶠ_ ofℤ eps
+fifth-e = record { across = leZ-yes tt }
+
+fifth-d : ofℕ 64 *ᶠ (step *ᶠ e step 4) ≼ ofℕ 43 *ᶠ eps
+unfolding e power factorial _÷_ over _*ᶠ_ ofℤ eps
+fifth-d = record { across = leZ-yes tt }
+
+small-e : {y : Fraction} → Nonneg y → y ≼ step → ofℕ 64 *ᶠ e y 5 ≼ ofℕ 9 *ᶠ eps
+small-e {y} h k =
+    certify (e y 5 ∷ e step 5 ∷ eps ∷ []) (number 64 ⊠ slack (e-mono h k 5) ⊞ slack fifth-e) (search quote depth 40 fits 9999) tt
+
+small-d : {y z : Fraction} → Nonneg y → Nonneg z → y ≼ step → z ≼ step → ofℕ 64 *ᶠ d y z 5 ≼ ofℕ 43 *ᶠ eps
+small-d {y} {z} h k p q =
+    certify (d y z 5 ∷ y ∷ step ∷ e step 4 ∷ eps ∷ [])
+    (number 64 ⊠ slack (d-small h k p q 4) ⊞ number 64 ⊠ slack p ⊠ e-nonneg (≼-trans h p) 4 ⊞ slack fifth-d)
+    (search quote depth 40 fits 9999)
+    tt
+
+within-lost :
+    (s s6 X e5 L τ : Fraction) →
+    Within s s6 τ →
+    s6 ≈ ofℕ 1 -ᶠ X -ᶠ e5 →
+    ofℕ 64 *ᶠ τ ≼ eps →
+    Nonneg e5 →
+    ofℕ 64 *ᶠ e5 ≼ ofℕ 9 *ᶠ eps →
+    Sum X L 129 130 →
+    Within s (ofℕ 1 -ᶠ L) (ofℕ 3 *ᶠ eps)
+within-lost s s6 X e5 L τ w six tail fifth-nonneg fifth sum =
+    record {
+      high =
+          certify-times 63 (s ∷ s6 ∷ X ∷ e5 ∷ L ∷ τ ∷ eps ∷ [])
+          (number 64 ⊠ slack (w .high) ⊞ slack (sum .low) ⊞ slack tail ⊞ number 64 ⊠ fifth-nonneg ⊞ number 61 ⊠ eps-nonneg ⊞ multiple (ofℕ 64) six)
+          (search quote depth 40 fits 9999)
+          tt;
+      low =
+          certify-times 63 (s ∷ s6 ∷ X ∷ e5 ∷ L ∷ τ ∷ eps ∷ [])
+          (number 64 ⊠ slack (w .low) ⊞ slack (sum .high) ⊞ slack tail ⊞ slack fifth ⊞ number 53 ⊠ eps-nonneg ⊞ multiple (ofℕ 64) (≈-sym six))
+          (search quote depth 40 fits 9999)
+          tt;
+    }
+
+within-used :
+    (f D d5 U τ : Fraction) →
+    Within f (D +ᶠ d5) τ →
+    ofℕ 64 *ᶠ τ ≼ eps →
+    Nonneg d5 →
+    ofℕ 64 *ᶠ d5 ≼ ofℕ 43 *ᶠ eps →
+    Sum D U 194 260 →
+    Within f U (ofℕ 5 *ᶠ eps)
+within-used f D d5 U τ w tail fifth-nonneg fifth sum =
+    record {
+      high =
+          certify-times 63 (f ∷ D ∷ d5 ∷ U ∷ τ ∷ eps ∷ [])
+          (number 64 ⊠ slack (w .high) ⊞ slack (sum .high) ⊞ slack tail ⊞ slack fifth ⊞ number 82 ⊠ eps-nonneg)
+          (search quote depth 40 fits 9999)
+          tt;
+      low =
+          certify-times 63 (f ∷ D ∷ d5 ∷ U ∷ τ ∷ eps ∷ [])
+          (number 64 ⊠ slack (w .low) ⊞ slack (sum .low) ⊞ slack tail ⊞ number 64 ⊠ fifth-nonneg ⊞ number 59 ⊠ eps-nonneg)
+          (search quote depth 40 fits 9999)
+          tt;
+    }
+
+six-terms : (y : Fraction) → S 6 y ≈ ofℕ 1 -ᶠ (e y 1 -ᶠ e y 2 +ᶠ e y 3 -ᶠ e y 4) -ᶠ e y 5
+six-terms y =
+    ring-by (S 6 y ∷ e y 1 ∷ e y 2 ∷ e y 3 ∷ e y 4 ∷ e y 5 ∷ []) (ofℕ 1 ⋅ S-six y & none) (search quote depth 40 fits 9999) tt
+
+-- a small whole number is a share of at most one
+small-share-one : {n : ℕ} → n ≤ small → share n ≼ ofℕ 1
+small-share-one {n} h = ≼-trans (share-mono (le-trans h (lit≤ tt))) (≼-of-≈ share-one)
+
+module _ {N k1 k2 v Q : ℕ} (long : 40 ≤ N) (p : Passed k1 k2 v Q) where
+  abbrev y : Fraction
+  y = exponent k1 v Q 1
+
+  abbrev z : Fraction
+  z = exponent k2 v Q 1
+
+  exponents : Exponents (exponentOf k1 v Q) (exponentOf k2 v Q) y z
+  exponents =
+      record {
+        near-y = near-exponent k1 v Q (p .flow-above);
+        near-z = near-exponent k2 v Q (p .flow-above);
+        small-y = small-exponent k1 v Q (p .k1-short);
+        small-z = small-exponent k2 v Q (p .k2-short);
+      }
+
+  deficit-exponents : Exponents (exponentOf k2 v Q) 0 z (ofℕ 0)
+  deficit-exponents =
+      record {
+        near-y = near-exponent k2 v Q (p .flow-above);
+        near-z = nothing;
+        small-y = small-exponent k2 v Q (p .k2-short);
+        small-z = certify [] (number 1) (search quote depth 40 fits 9999) tt;
+      }
+
+  hy : exponentOf k1 v Q ≤ small
+  hy = exponent-small k1 v Q (p .k1-short)
+
+  hz : exponentOf k2 v Q ≤ small
+  hz = exponent-small k2 v Q (p .k2-short)
+
+  pub step-near :
+      StepNear (share ((stepOf k1 k2 v Q) .lost)) (share ((stepOf k1 k2 v Q) .used)) (share ((stepOf k1 k2 v Q) .filled)) (S N y) (F N k1 k2 v Q 1) (S N z)
+  unfolding stepOf
+  step-near =
+      let sound = step-sound k1 k2 v Q p in
+      let y-sign = exponent-nonneg k1 v Q 1 in
+      let z-sign = exponent-nonneg k2 v Q 1 in
+      let y-step = exponent-step k1 v Q (p .k1-short) in
+      let z-step = exponent-step k2 v Q (p .k2-short) in
+      record {
+        used-nonneg = share-nonneg _;
+        used-lost = share-mono (sound .used-lost);
+        lost-one = small-share-one (sound .lost-small);
+        filled-nonneg = share-nonneg _;
+        filled-one = small-share-one (sound .filled-small);
+        lost-near =
+            within-lost (S N y) (S 6 y) _ (e y 5) _ (ofℕ 1 ÷ ofℕ (2 ^ 56)) (S-short long y-sign y-step) (six-terms y) tail-S (e-nonneg y-sign 5) (small-e y-sign y-step)
+            (lost-near (exponentOf k1 v Q) (exponentOf k2 v Q) y z (e y) (d y z) exponents (exact-terms y z) hy hz);
+        used-near =
+            within-used (F N k1 k2 v Q 1) _ (d y z 5) _ (ofℕ 1 ÷ ofℕ (2 ^ 53)) (F-short long k1 k2 v Q (p .k1-short) (p .k2-short)) tail-F (d-nonneg y-sign z-sign 5) (small-d y-sign z-sign y-step z-step)
+            (used-near (exponentOf k1 v Q) (exponentOf k2 v Q) y z (e y) (d y z) exponents (exact-terms y z) hy hz);
+        filled-near =
+            within-lost (S N z) (S 6 z) _ (e z 5) _ (ofℕ 1 ÷ ofℕ (2 ^ 56)) (S-short long z-sign z-step) (six-terms z) tail-S (e-nonneg z-sign 5) (small-e z-sign z-step)
+            (lost-near (exponentOf k2 v Q) 0 z (ofℕ 0) (e z) (d z (ofℕ 0)) deficit-exponents (exact-terms z (ofℕ 0)) hz zero-le);
+      }

@@ -1,0 +1,80 @@
+// Prints the shares of a step and the factors at the instants 0, 1, 512 and 1024 for a dozen reaches: equal rates, rates one apart, zero
+// rates, no volume, the longest travel time that check 11 passes, the smallest and the largest flow.
+use decay::factors::Factors;
+use decay::step::Step;
+ghost use Prim.Native.Nat.{_≤_};
+ghost use Rattle.decay.specs.Step.{Passed};
+ghost use Rattle.decay.specs.Factors.{Sound, InRange};
+
+// A label and three numbers on a line.
+fn line(label: &[u8], a: u64, b: u64, c: u64) {
+    io::write_all(1, label);
+    io::write_all(1, b" ");
+    io::print_decimal(1, a);
+    io::write_all(1, b" ");
+    io::print_decimal(1, b);
+    io::write_all(1, b" ");
+    io::print_decimal(1, c);
+    io::write_all(1, b"\n");
+}
+
+// The factors so many steps further down.
+fn after(s: Step, from: Factors, steps: u32) -> Factors
+    requires { ⌜ Sound s × InRange from ⌝ }
+    ensures { λ r. ⌜ InRange r ⌝ }
+{
+    let mut f = from;
+    let mut i: u32 = 0;
+    while i < steps {
+        f = decay::factors::next(s, f);
+        i = i + 1;
+    }
+    f
+}
+
+// One line for an instant.
+fn instant(label: &[u8], f: Factors) {
+    line(label, f.left, f.turned, f.kept);
+}
+
+// Four instants of a reach.
+fn instants(s: Step)
+    requires { ⌜ Sound s ⌝ }
+{
+    let head = decay::factors::start();
+    instant(b"0", head);
+    let first = after(s, head, 1);
+    instant(b"1", first);
+    let middle = after(s, first, 511);
+    instant(b"512", middle);
+    instant(b"1024", after(s, middle, 512));
+}
+
+// A reach: its card's numbers, the shares of its step, and four instants.
+fn reach(k1: u16, k2: u16, volume: u32, flow: u32)
+    requires { ⌜ Passed k1 k2 volume flow ⌝ }
+{
+    io::write_all(1, b"flow ");
+    io::print_decimal(1, flow as u64);
+    io::write_all(1, b"\n");
+    line(b"card", k1 as u64, k2 as u64, volume as u64);
+    let s = decay::step::step_of(k1, k2, volume, flow);
+    line(b"step", s.lost, s.used, s.filled);
+    instants(s);
+}
+
+fn main() {
+    reach(1000, 1000, 864000, 10000);
+    reach(1000, 1001, 864000, 10000);
+    reach(1001, 1000, 864000, 10000);
+    reach(0, 1000, 864000, 10000);
+    reach(1000, 0, 864000, 10000);
+    reach(0, 0, 864000, 10000);
+    reach(300, 700, 0, 10000);
+    reach(20000, 20000, 1728000, 100000);
+    reach(20000, 19999, 1728000, 100000);
+    reach(1, 20000, 17, 1);
+    reach(345, 1000, 345, 1);
+    reach(20000, 3, 1000000000, 100000000);
+    reach(3, 20000, 1000000000, 100000000);
+}

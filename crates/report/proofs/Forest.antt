@@ -1,0 +1,65 @@
+-- What an accepted river gives for every reach of the forest above a reach: its card lies in range and passes the flow check.
+use mathlib.Core.Bool.{Bool, true, false}
+use mathlib.Core.List.{List}
+use Prim.Native.Nat.{ℕ, zero, suc, _≤_, _<_}
+use native.Mathlib.Omega.{arith}
+use lib.ListN.{length, getD}
+use lib.Dec.{eqb}
+use Rattle.decay.specs.Step.{Passed}
+use Rattle.river.specs.declared.card.Card.{Card}
+use Rattle.river.specs.Card.{InRange, LawfulDam, Lawful}
+use Rattle.river.proofs.Checks.{lawful-at}
+use Rattle.river.proofs.Table.{deepest-few}
+use Rattle.river.specs.Flow.{Feeders, none, more, blank, joined, feedersAmong, reachFlow, reachDepth, Sound, Flows}
+
+-- an accepted reach: its fields lie in range, and it passes the flow check
+pub record Accepted (card : Card) (up : Feeders) : Type 0 where
+  pub fields : InRange card
+  pub dam : LawfulDam (card .dam)
+  pub flows : Sound card up
+
+-- and so the factors' promise holds for it
+pub passed : {card : Card} {up : Feeders} → Accepted card up → Passed (card .k1) (card .k2) (card .volume) (reachFlow card up)
+passed a =
+    record {
+      k1-range = a .fields .k1;
+      k2-range = a .fields .k2;
+      volume-range = a .fields .volume;
+      flow-above = a .flows .flowing;
+      flow-below = a .flows .bounded;
+      k1-short = a .flows .decay-rule;
+      k2-short = a .flows .aeration-rule;
+    }
+
+-- every reach of a forest is accepted
+pub data AllAccepted : Feeders → Type 0 where
+  no-more : AllAccepted none
+  one-more : {card : Card} {up rest : Feeders} → Accepted card up → AllAccepted up → AllAccepted rest → AllAccepted (more card up rest)
+
+joined-accepted : (t : Bool) (card : Card) (up rest : Feeders) → Accepted card up → AllAccepted up → AllAccepted rest → AllAccepted (joined t card up rest)
+unfolding joined
+joined-accepted true card up rest own water others = one-more own water others
+joined-accepted false card up rest own water others = others
+
+-- a river: lawful cards whose flows pass
+module _ (cards : List Card) (lawful : Lawful cards) (flows : Flows cards) where
+  -- every reach of a river is accepted
+  pub reach-accepted : (n : ℕ) → n < length cards → Accepted (getD cards n blank) (feedersAmong cards n (suc n))
+  reach-accepted n l =
+      let own = lawful-at lawful n l in
+      record {
+        fields = own .in-range;
+        dam = own .dam;
+        flows = flows .each n l;
+      }
+
+  -- and so is every reach above it
+  pub above-accepted : (n i : ℕ) → n ≤ length cards → AllAccepted (feedersAmong cards n i)
+  unfolding feedersAmong
+  above-accepted zero i l = no-more
+  above-accepted (suc n) i l =
+      joined-accepted (eqb ((getD cards n blank) .outlet) i) (getD cards n blank) (feedersAmong cards n (suc n)) (feedersAmong cards n i) (reach-accepted n l) (above-accepted n (suc n) (omega arith)) (above-accepted n i (omega arith))
+
+  -- no reach is deeper than there are reaches
+  pub reach-shallow : (n : ℕ) → n < length cards → reachDepth (feedersAmong cards n (suc n)) ≤ 128
+  reach-shallow n l = omega (arith, deepest-few cards n (suc n), lawful .few)

@@ -1,0 +1,88 @@
+-- The ties along a reach: BOD lies from 0 to head BOD, and where nothing decays or is aerated the figures stay to the unit.
+use mathlib.Core.Path.{_≡_, sym, _∙_, ap}
+use Prim.Native.Nat.{ℕ, _*_, _≤_, _<_}
+use native.Mathlib.Nat.{mul-le-mul-right, div-le-of-le-mul, mul-div-cancel-left, zero-mul, add-zero}
+use native.Mathlib.Omega.{arith}
+use lib.Dec.{lit<}
+use lib.IntN.{ℤ, pos, negℤ, _+ℤ_, _-ℤ_, +ℤ-assoc, +ℤ-idl, +ℤ-invr, negℤ-negℤ, negℤ-+ℤ}
+use Rattle.decay.specs.Fixed.{one, product}
+use Rattle.decay.specs.Factors.{InRange}
+use Rattle.decay.proofs.Shares.{step-sound}
+use Rattle.decay.proofs.Instants.{range, bod-tie, deficit-tie}
+use Rattle.decay.specs.declared.factors.Factors.{Factors}
+use Rattle.river.specs.declared.card.Card.{Card}
+use Rattle.river.specs.Flow.{Feeders, reachFlow, reachDepth}
+use Rattle.river.specs.Saturation.{saturation}
+use Rattle.report.specs.Program.{bodWith, oxygenWith, factorsOf, bodAlong, oxygenAlong, bodAt, oxygenAt, bodAtHead, oxygenAtHead, criticalOf, figuresOf, foot}
+use Rattle.report.proofs.Lowest.{lowest-constant}
+use Rattle.report.proofs.Forest.{Accepted, passed}
+use Rattle.report.proofs.Floor.{floor-multiple}
+
+one-pos : 0 < one
+one-pos = lit< tt
+
+-- no more BOD than at the head
+pub bod-falls : (f : Factors) (L : ℕ) → f .left ≤ one → bodWith f L ≤ L
+unfolding bodWith product
+bod-falls f L h = div-le-of-le-mul one (mul-le-mul-right L h)
+
+-- where all BOD is left, BOD is that of the head
+pub bod-stays : (f : Factors) (L : ℕ) → f .left ≡ one → bodWith f L ≡ L
+unfolding bodWith product
+bod-stays f L h = rw (h, mul-div-cancel-left L one-pos)
+
+-- a number less the difference to another is the other
+back-again : (a b : ℤ) → a -ℤ (a -ℤ b) ≡ b
+back-again a b = ap (λ (x : ℤ). a +ℤ x) (negℤ-+ℤ a (negℤ b) ∙ ap (λ (x : ℤ). negℤ a +ℤ x) (negℤ-negℤ b)) ∙ sym (+ℤ-assoc a (negℤ a) b) ∙ ap (λ (x : ℤ). x +ℤ b) (+ℤ-invr a) ∙ +ℤ-idl b
+
+-- where no BOD has turned and all deficit is kept, oxygen is that of the head
+pub oxygen-stays : (f : Factors) (Cs L : ℕ) (C : ℤ) → f .turned ≡ 0 → f .kept ≡ one → oxygenWith f Cs L C ≡ C
+unfolding oxygenWith product
+oxygen-stays f Cs L C h k = rw (h, k, zero-mul, floor-multiple (pos Cs -ℤ C) one one-pos, add-zero) (back-again (pos Cs) C)
+
+-- the factors of an accepted reach are shares of one
+pub factors-range : {card : Card} {up : Feeders} → Accepted card up → (m : ℕ) → InRange (factorsOf card (reachFlow card up) m)
+unfolding factorsOf
+factors-range {card} {up} a m = range (step-sound (card .k1) (card .k2) (card .volume) (reachFlow card up) (passed a)) m
+
+module _ {card : Card} {up : Feeders} (a : Accepted card up) where
+  -- BOD lies from 0 to head BOD, at the foot too
+  pub bod-at-most-head : (m : ℕ) → bodAt card up m ≤ bodAtHead card up
+  unfolding bodAt bodAlong
+  bod-at-most-head m =
+      let f = factorsOf card (reachFlow card up) m in
+      bod-falls f (bodAtHead card up) (omega (arith, factors-range a m .bod))
+
+  -- k1 = 0 or volume 0 keeps BOD
+  pub bod-kept : card .k1 * card .volume ≡ 0 → (m : ℕ) → bodAt card up m ≡ bodAtHead card up
+  unfolding bodAt bodAlong factorsOf
+  bod-kept h m =
+      bod-stays _ (bodAtHead card up) (bod-tie (card .k1) (card .k2) (card .volume) (reachFlow card up) (passed a) h m .0)
+
+  -- both rates 0, or volume 0, keep oxygen
+  pub oxygen-kept : card .k1 * card .volume ≡ 0 → card .k2 * card .volume ≡ 0 → (m : ℕ) → oxygenAt card up m ≡ oxygenAtHead card up
+  unfolding oxygenAt oxygenAlong factorsOf
+  oxygen-kept h k m =
+      oxygen-stays _ (saturation (card .temperature)) (bodAtHead card up) (oxygenAtHead card up) (bod-tie (card .k1) (card .k2) (card .volume) (reachFlow card up) (passed a) h m .1) (deficit-tie (card .k1) (card .k2) (card .volume) (reachFlow card up) (passed a) k m)
+
+  -- and then the figures are those of the head, and the head is critical
+  pub still-figures :
+      card .k1 * card .volume ≡ 0 →
+      card .k2 * card .volume ≡ 0 →
+      figuresOf card up ≡
+      record {
+        depth = reachDepth up;
+        flow = reachFlow card up;
+        head-bod = bodAtHead card up;
+        foot-bod = bodAtHead card up;
+        head-oxygen = oxygenAtHead card up;
+        critical-instant = 0;
+        critical-oxygen = oxygenAtHead card up;
+        foot-oxygen = oxygenAtHead card up;
+      }
+  unfolding figuresOf criticalOf
+  still-figures h k =
+      let bod = bod-kept h foot in
+      let oxygen = oxygen-kept h k foot in
+      let critical = lowest-constant (oxygenAt card up) (oxygenAtHead card up) foot (λ m l. oxygen-kept h k m) in
+      cc

@@ -1,0 +1,4 @@
+pub mod Program
+pub mod Recurrence
+pub mod Distance
+pub mod Locality

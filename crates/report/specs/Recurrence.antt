@@ -1,0 +1,92 @@
+-- The exact recurrence of document 01 at the series length N: the steps of a head and the formulas along a reach, with
+-- nothing rounded, saturation included. A feeder's foot is the feeder's exact foot. Concentrations are in units.
+use mathlib.Core.Bool.{Bool, true, false}
+use Prim.Native.Nat.{ℕ, _+_, _*_, _-_}
+use Rattle.decay.specs.Fraction.{Fraction, ofℕ, _+ᶠ_, _-ᶠ_, _*ᶠ_, _÷_}
+use Rattle.decay.specs.Exact.{exponent, S, F}
+use Rattle.river.specs.declared.card.Dam.{Dam}
+use Rattle.river.specs.declared.card.Dam.the-variants.{Absent, Aerating}
+use Rattle.river.specs.declared.card.Card.{Card}
+use Rattle.river.specs.Flow.{Feeders, none, more, fed, flowOf, reachFlow}
+use Rattle.river.specs.Saturation.{saturationThousandths}
+use Rattle.report.specs.Program.{foot}
+
+-- saturation, unrounded
+unfoldable pub exactSaturation : (temperature : ℕ) → Fraction
+exactSaturation temperature = ofℕ (saturationThousandths temperature) ÷ ofℕ 1_000
+
+-- 1. upstream BOD or oxygen: the flow-weighted mean of the feeders' exact foot values, 0 without feeders
+unfoldable pub exactMean : (fed : Bool) (Qu : ℕ) (sum : Fraction) → Fraction
+exactMean false Qu sum = ofℕ 0
+exactMean true Qu sum = sum ÷ ofℕ Qu
+
+-- 2. oxygen C below a dam
+unfoldable pub exactAerated : Dam → (Cs : Fraction) (Qu : ℕ) (C : Fraction) → Fraction
+exactAerated Absent Cs Qu C = C
+exactAerated (Aerating share generating) Cs Qu C =
+    C +ᶠ (Cs -ᶠ C) *ᶠ ofℕ (share * (Qu - generating)) ÷ ofℕ (1_000 * Qu)
+
+-- 2. the dam of a reach, skipped without feeders
+unfoldable pub exactBelowDam : Card → (fed : Bool) (Qu : ℕ) (C : Fraction) → Fraction
+exactBelowDam card false Qu C = C
+exactBelowDam card true Qu C = exactAerated (card .dam) (exactSaturation (card .temperature)) Qu C
+
+-- 3. mixing with inflow and load
+unfoldable pub exactMixedBod : Card → (Qu : ℕ) (upstream : Fraction) → Fraction
+exactMixedBod card Qu upstream =
+    (ofℕ Qu *ᶠ upstream +ᶠ ofℕ (1_000 * card .inflow * card .«inflow_bod») +ᶠ ofℕ (1_000_000 * card .load)) ÷ ofℕ (Qu + card .inflow)
+
+unfoldable pub exactMixedOxygen : Card → (Qu : ℕ) (upstream : Fraction) → Fraction
+exactMixedOxygen card Qu upstream =
+    (ofℕ Qu *ᶠ upstream +ᶠ ofℕ (1_000 * card .inflow * card .«inflow_oxygen»)) ÷ ofℕ (Qu + card .inflow)
+
+-- the head of a reach, by its card, whether it has feeders, Qu, and the feeders' sums of Q × exact foot BOD and oxygen
+unfoldable pub exactHeadBod : Card → (fed : Bool) (Qu : ℕ) (sum : Fraction) → Fraction
+exactHeadBod card fed Qu sum = exactMixedBod card Qu (exactMean fed Qu sum)
+
+unfoldable pub exactHeadOxygen : Card → (fed : Bool) (Qu : ℕ) (sum : Fraction) → Fraction
+exactHeadOxygen card fed Qu sum = exactMixedOxygen card Qu (exactBelowDam card fed Qu (exactMean fed Qu sum))
+
+-- the recurrence, at one N throughout
+module _ (N : ℕ) where
+  -- BOD at instant m of a reach with flow Q and head BOD L: L × S(x1)
+  unfoldable pub exactBodAlong : Card → (Q : ℕ) (L : Fraction) (m : ℕ) → Fraction
+  exactBodAlong card Q L m = L *ᶠ S N (exponent (card .k1) (card .volume) Q m)
+
+  -- oxygen at instant m, with head oxygen C too: Cs − F × L − S(x2) × (Cs − C)
+  unfoldable pub exactOxygenAlong : Card → (Q : ℕ) (L C : Fraction) (m : ℕ) → Fraction
+  exactOxygenAlong card Q L C m =
+      let Cs = exactSaturation (card .temperature) in
+      Cs -ᶠ F N (card .k1) (card .k2) (card .volume) Q m *ᶠ L -ᶠ S N (exponent (card .k2) (card .volume) Q m) *ᶠ (Cs -ᶠ C)
+
+  -- the sum over the feeders of Q × exact foot BOD
+  unfoldable pub exactBodSum : Feeders → Fraction
+  exactBodSum none = ofℕ 0
+  exactBodSum (more card up rest) =
+      let Q = reachFlow card up in
+      let L = exactHeadBod card (fed up) (flowOf up) (exactBodSum up) in
+      ofℕ Q *ᶠ exactBodAlong card Q L foot +ᶠ exactBodSum rest
+
+  -- the sum over the feeders of Q × exact foot oxygen
+  unfoldable pub exactOxygenSum : Feeders → Fraction
+  exactOxygenSum none = ofℕ 0
+  exactOxygenSum (more card up rest) =
+      let Q = reachFlow card up in
+      let L = exactHeadBod card (fed up) (flowOf up) (exactBodSum up) in
+      let C = exactHeadOxygen card (fed up) (flowOf up) (exactOxygenSum up) in
+      ofℕ Q *ᶠ exactOxygenAlong card Q L C foot +ᶠ exactOxygenSum rest
+
+  -- exact BOD and oxygen at the head of a reach
+  unfoldable pub exactBodAtHead : Card → Feeders → Fraction
+  exactBodAtHead card up = exactHeadBod card (fed up) (flowOf up) (exactBodSum up)
+
+  unfoldable pub exactOxygenAtHead : Card → Feeders → Fraction
+  exactOxygenAtHead card up = exactHeadOxygen card (fed up) (flowOf up) (exactOxygenSum up)
+
+  -- exact BOD and oxygen at instant m of a reach
+  unfoldable pub exactBodAt : Card → Feeders → ℕ → Fraction
+  exactBodAt card up m = exactBodAlong card (reachFlow card up) (exactBodAtHead card up) m
+
+  unfoldable pub exactOxygenAt : Card → Feeders → ℕ → Fraction
+  exactOxygenAt card up m =
+      exactOxygenAlong card (reachFlow card up) (exactBodAtHead card up) (exactOxygenAtHead card up) m

@@ -1,0 +1,1 @@
+// Reports of BOD and dissolved oxygen along the reaches of a river.

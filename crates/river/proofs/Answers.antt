@@ -1,0 +1,68 @@
+-- Laws of answers: what passes a guard and a sequence, and what an accepted answer says about the guards before it.
+-- Assumes nothing.
+use Prim.Native.Nat.{ℕ}
+use mathlib.Core.Path.{_≡_, refl, ap, sym, _∙_}
+use mathlib.Core.Bool.{Bool, true, false, _&&_}
+use native.Mathlib.Omega.{arith}
+use Rattle.river.specs.Refusal.{Answer, accepted, refused, refuse, need, choose, after}
+
+pub never : {A : Type 0} {a : A} {r : _} {P : Type 0} → _≡_ {A = Answer A} (refused r) (accepted a) → P
+never {A} {a} {r} {P} e = let z : _≡_ {A = ℕ} 0 1 = cc in absurd (let h : ⊥ = omega arith in h)
+
+pub record Both (a b : Bool) : Type 0 where
+  pub left : a ≡ true
+  pub right : b ≡ true
+
+-- a conjunction of tests
+pub both-true : {a b : Bool} → (a && b) ≡ true → Both a b
+both-true {a = true} e = record { left = refl; right = e }
+both-true {a = false} e = let z : _≡_ {A = ℕ} 0 1 = cc in absurd (let h : ⊥ = omega arith in h)
+
+pub both : {a b : Bool} → a ≡ true → b ≡ true → (a && b) ≡ true
+both p q = rw (p, q)
+
+module _ {A : Type 0} where
+  pub need-true : (b : Bool) (n i : ℕ) (x : Answer A) → b ≡ true → need b n i x ≡ x
+  unfolding need
+  need-true b n i x p = rw p
+
+  pub need-false : (b : Bool) (n i : ℕ) (x : Answer A) → b ≡ false → need b n i x ≡ refused (refuse n i)
+  unfolding need
+  need-false b n i x p = rw p
+
+  pub choose-true : (b : Bool) (x y : Answer A) → b ≡ true → choose b x y ≡ x
+  unfolding choose
+  choose-true b x y p = rw p
+
+  pub choose-false : (b : Bool) (x y : Answer A) → b ≡ false → choose b x y ≡ y
+  unfolding choose
+  choose-false b x y p = rw p
+
+  pub after-accepted : {B : Type 0} (x : Answer A) {a : A} (f : A → Answer B) → x ≡ accepted a → after x f ≡ f a
+  unfolding after
+  after-accepted x f p = rw p
+
+  pub after-refused : {B : Type 0} (x : Answer A) {r : _} (f : A → Answer B) → x ≡ refused r → after x f ≡ refused r
+  unfolding after
+  after-refused x f p = rw p
+
+  -- what passed a guard
+  pub record Passed (b : Bool) (x : Answer A) (a : A) : Type 0 where
+    pub test : b ≡ true
+    pub rest : x ≡ accepted a
+
+  pub passed : (b : Bool) (n i : ℕ) (x : Answer A) {a : A} → need b n i x ≡ accepted a → Passed b x a
+  unfolding need
+  passed true n i x e = record { test = refl; rest = e }
+  passed false n i x e = never e
+
+  -- what passed a sequence
+  pub record Went {B : Type 0} (x : Answer A) (f : A → Answer B) (b : B) : Type 0 where
+    pub value : A
+    pub first : x ≡ accepted value
+    pub then : f value ≡ accepted b
+
+  pub went : {B : Type 0} (x : Answer A) (f : A → Answer B) {b : B} → after x f ≡ accepted b → Went x f b
+  unfolding after
+  went (accepted a) f e = record { value = a; first = refl; then = e }
+  went (refused r) f e = never e

@@ -1,0 +1,190 @@
+-- Reading yields cards exactly for the files of lawful cards; so each river has one file.
+-- Assumes nothing.
+use Prim.Native.Nat.{ℕ, zero, suc, _+_, _≤_, _<_}
+use mathlib.Core.Logic.{_↔_}
+use mathlib.Core.Path.{_≡_, refl, ap, sym, subst, _∙_}
+use mathlib.Core.List.{List, [], _∷_, _++_}
+use mathlib.Core.Bool.{Bool, true, false}
+use native.Mathlib.Nat.{div-add-mod'}
+use native.Mathlib.Omega.{arith}
+use lib.ListN.{length, drop}
+use borrow.Author.Tests.{le-leb, leb-true, eqb-true}
+use Rattle.river.specs.Bytes.{AreBytes, twoAt, marked}
+use Rattle.river.specs.Card.{Lawful, LawfulCard, LawfulFrom, LawfulDam, outletOk}
+use Rattle.river.specs.Read.{readHeader, readReach, readReaches, readFile, sizeOf}
+use Rattle.river.specs.Refusal.{accepted}
+use Rattle.river.specs.Write.{encode, encodeDam, encodeCard, encodeCards, encodeHeader}
+use Rattle.river.specs.declared.card.Card.{Card}
+use Rattle.river.specs.declared.card.Dam.{Dam}
+use Rattle.river.specs.declared.card.Dam.the-variants.{Absent, Aerating}
+use Rattle.river.proofs.Answers.{need-true, after-accepted, passed, went}
+use Rattle.river.proofs.Numbers.{are-bytes-cons, are-bytes-two, are-bytes-four, are-bytes-drop, mark, twoBytes-twoAt, spelled}
+use Rattle.river.proofs.Ranges.{countOk-true, true-countOk, outlet-below}
+use Rattle.river.proofs.Records.{readReach-encode, drop-encodeCard, readReach-is}
+
+-- Reading what was encoded.
+
+-- no river's records begin with `DM`
+no-dam-first : (cs : List Card) → marked (encodeCards cs) 0 68 77 ≡ false
+no-dam-first [] = refl
+no-dam-first (c ∷ cs) = refl
+
+readReaches-encode : (n i : ℕ) (cs : List Card) → LawfulFrom n i cs → readReaches n i (length cs) (encodeCards cs) ≡ accepted cs
+unfolding readReaches
+readReaches-encode n i [] h = need-true _ _ _ _ refl
+readReaches-encode n i (c ∷ cs) h =
+    after-accepted _ _ (readReach-encode n i c (encodeCards cs) (h .0) (no-dam-first cs)) ∙
+    after-accepted _ _ (rw drop-encodeCard (readReaches-encode n (suc i) cs (h .1)))
+
+readHeader-encode : (n : ℕ) (rest : List ℕ) → 1 ≤ n → n ≤ 128 → readHeader (encodeHeader n ++ rest) ≡ accepted n
+unfolding readHeader
+readHeader-encode n rest p q =
+    need-true _ _ _ _ (le-leb 4 (length (encodeHeader n ++ rest)) (omega arith)) ∙
+    need-true _ _ _ _ refl ∙
+    need-true _ _ _ _ (rw div-add-mod' (countOk-true n p q)) ∙
+    ap accepted (div-add-mod' n 256)
+
+-- THEOREM: the file of lawful cards is read as these cards
+pub reads-lawful : (cs : List Card) → Lawful cs → readFile (encode cs) ≡ accepted cs
+unfolding readFile encode
+reads-lawful cs h =
+    after-accepted _ _ (readHeader-encode (length cs) (encodeCards cs) (h .some) (h .few)) ∙
+    readReaches-encode (length cs) 1 cs (h .each)
+
+-- What was read, encoded.
+
+record AreReaches (n i m : ℕ) (s : List ℕ) (cs : List Card) : Type 0 where
+  lawful : LawfulFrom n i cs
+  count : length cs ≡ m
+  bytes : s ≡ encodeCards cs
+
+empty : (s : List ℕ) → length s ≡ 0 → s ≡ []
+empty [] e = refl
+empty (x ∷ s) e = absurd (let h : ⊥ = omega arith in h)
+
+readReaches-is : (n i m : ℕ) (s : List ℕ) (cs : List Card) → AreBytes s → readReaches n i m s ≡ accepted cs → AreReaches n i m s cs
+unfolding readReaches
+readReaches-is n i zero s cs h e =
+    let p = passed _ _ _ _ e in
+    let same : [] ≡ cs = cc (p .rest) in
+    subst (AreReaches n i 0 s) same
+    (record { lawful = tt; count = refl; bytes = empty s (eqb-true _ _ (p .test)) })
+readReaches-is n i (suc m) s cs h e =
+    let p = went _ _ e in
+    let q = went _ _ (p .then) in
+    let r = readReach-is n i s (p .value) h (p .first) in
+    let t = drop (sizeOf (p .value)) s in
+    let rest = readReaches-is n (suc i) m t (q .value) (are-bytes-drop (sizeOf (p .value)) h) (q .first) in
+    let same : p .value ∷ q .value ≡ cs = cc (q .then) in
+    subst (AreReaches n i (suc m) s) same
+    (record {
+      lawful = (r .lawful, rest .lawful);
+      count = ap suc (rest .count);
+      bytes = r .bytes ∙ ap (λ (x : List ℕ). encodeCard (p .value) ++ x) (rest .bytes);
+    })
+
+record IsHeader (s : List ℕ) (n : ℕ) : Type 0 where
+  some : 1 ≤ n
+  few : n ≤ 128
+  bytes : s ≡ encodeHeader n ++ drop 4 s
+
+readHeader-is : (s : List ℕ) (n : ℕ) → AreBytes s → readHeader s ≡ accepted n → IsHeader s n
+unfolding readHeader
+readHeader-is s n h e =
+    let p = passed _ _ _ _ e in
+    let q = passed _ _ _ _ (p .rest) in
+    let r = passed _ _ _ _ (q .rest) in
+    let m = mark s 0 82 86 (q .test) in
+    let ok = true-countOk (twoAt s 2) (r .test) in
+    let same : twoAt s 2 ≡ n = cc (r .rest) in
+    subst (IsHeader s) same
+    (record {
+      some = ok .0;
+      few = ok .1;
+      bytes =
+          spelled s 4 0 (leb-true _ _ (p .test)) ∙
+          (λ j. m .first j ∷ m .second j ∷ sym (twoBytes-twoAt s 2 h) j ++ drop 4 s);
+    })
+
+-- what reading accepts: lawful cards, from their file
+pub record IsFile (s : List ℕ) (cs : List Card) : Type 0 where
+  pub lawful : Lawful cs
+  pub bytes : s ≡ encode cs
+
+-- THEOREM: whatever is read as cards is the file of these cards, and they are lawful
+pub reads-only-lawful : (s : List ℕ) (cs : List Card) → AreBytes s → readFile s ≡ accepted cs → IsFile s cs
+unfolding readFile encode
+reads-only-lawful s cs h e =
+    let p = went _ _ e in
+    let n = p .value in
+    let a = readHeader-is s n h (p .first) in
+    let b = readReaches-is n 1 n (drop 4 s) cs (are-bytes-drop 4 h) (p .then) in
+    let same : n ≡ length cs = sym (b .count) in
+    record {
+      lawful =
+          record {
+            some = rw same at (a .some);
+            few = rw same at (a .few);
+            each = rw same at (b .lawful);
+          };
+      bytes =
+          a .bytes ∙
+          ap (λ (x : List ℕ). encodeHeader n ++ x) (b .bytes) ∙
+          ap (λ (x : ℕ). encodeHeader x ++ encodeCards cs) same;
+    }
+
+-- THEOREM: reading yields cards exactly for the files of lawful cards
+pub reads-exactly : (s : List ℕ) (cs : List Card) → AreBytes s → (readFile s ≡ accepted cs) ↔ IsFile s cs
+reads-exactly s cs h = (reads-only-lawful s cs h, λ f. rw (f .bytes) (reads-lawful cs (f .lawful)))
+
+-- THEOREM: each river has one file
+pub one-file : (s t : List ℕ) (cs : List Card) → AreBytes s → AreBytes t → readFile s ≡ accepted cs → readFile t ≡ accepted cs → s ≡ t
+one-file s t cs h k p q = reads-only-lawful s cs h p .bytes ∙ sym (reads-only-lawful t cs k q .bytes)
+
+-- THEOREM: each file has one river
+pub one-river : (cs ds : List Card) → Lawful cs → Lawful ds → encode cs ≡ encode ds → cs ≡ ds
+one-river cs ds p q e =
+    let a = reads-lawful cs p in
+    let b = reads-lawful ds q in
+    let c = ap readFile e in
+    cc
+
+-- THEOREM: a dam of share 0 and generating flow 0 makes another card than no dam
+pub idle-dam : (c d : Card) → c .dam ≡ Absent → d .dam ≡ Aerating 0 0 → c ≡ d → ⊥
+idle-dam c d p q e = let z : _≡_ {A = ℕ} 0 1 = cc (ap (λ (x : Card). x .dam) e) in omega arith
+
+-- the file of lawful cards is made of bytes
+
+are-bytes-dam : (d : Dam) (s : List ℕ) → LawfulDam d → AreBytes s → AreBytes (encodeDam d ++ s)
+are-bytes-dam Absent s h k = k
+are-bytes-dam (Aerating x g) s h k =
+    are-bytes-cons (omega arith)
+    (are-bytes-cons (omega arith)
+    (are-bytes-two x (omega (arith, h .share)) (are-bytes-four g (omega (arith, h .generating)) k)))
+
+are-bytes-card : (n i : ℕ) (c : Card) (s : List ℕ) → n ≤ 128 → LawfulCard n i c → AreBytes s → AreBytes (encodeCard c ++ s)
+are-bytes-card n i c s few h k =
+    let r = h .in-range in
+    are-bytes-cons (omega arith)
+    (are-bytes-cons (omega arith)
+    (are-bytes-cons (outlet-below n i (c .outlet) few (h .outlet))
+    (are-bytes-cons (omega (arith, r .temperature))
+    (are-bytes-two (c .k1) (omega (arith, r .k1))
+    (are-bytes-two (c .k2) (omega (arith, r .k2))
+    (are-bytes-four (c .volume) (omega (arith, r .volume))
+    (are-bytes-four (c .inflow) (omega (arith, r .inflow))
+    (are-bytes-four (c .«inflow_bod») (omega (arith, r .inflow-bod))
+    (are-bytes-two (c .«inflow_oxygen») (omega (arith, r .inflow-oxygen))
+    (are-bytes-four (c .load) (h .load) (are-bytes-dam (c .dam) s (h .dam) k)))))))))))
+
+are-bytes-cards : (n i : ℕ) (cs : List Card) → n ≤ 128 → LawfulFrom n i cs → AreBytes (encodeCards cs)
+are-bytes-cards n i [] few h = record { below = λ k. omega arith }
+are-bytes-cards n i (c ∷ cs) few h = are-bytes-card n i c (encodeCards cs) few (h .0) (are-bytes-cards n (suc i) cs few (h .1))
+
+-- THEOREM: the file of lawful cards is made of bytes
+pub encode-is-bytes : (cs : List Card) → Lawful cs → AreBytes (encode cs)
+unfolding encode
+encode-is-bytes cs h =
+    are-bytes-cons (omega arith)
+    (are-bytes-cons (omega arith)
+    (are-bytes-two (length cs) (omega (arith, h .few)) (are-bytes-cards (length cs) 1 cs (h .few) (h .each))))

@@ -1,0 +1,14 @@
+pub mod Answers
+pub mod Bench
+pub mod Checks
+pub mod Count
+pub mod Files
+pub mod FlowCheck
+pub mod Numbers
+pub mod Ranges
+pub mod Reaches
+pub mod Records
+pub mod RoundTrip
+pub mod Steps
+pub mod Table
+pub mod Tests

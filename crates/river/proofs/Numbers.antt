@@ -1,0 +1,74 @@
+-- Numbers and their bytes undo each other, and a list of bytes is its bytes written out.
+-- Assumes nothing.
+use Prim.Native.Nat.{ℕ, zero, suc, _+_, _-_, _*_, _/_, _%_, _≤_, _<_}
+use mathlib.Core.Path.{_≡_, refl, ap, ap₂, sym, _∙_}
+use mathlib.Core.List.{List, [], _∷_, _++_}
+use mathlib.Core.Bool.{Bool, true, false}
+use native.Mathlib.Nat.{div-add-mod', suc-add, add-suc, zero-add}
+use native.Mathlib.Omega.{arith}
+use lib.Arith.{digits-div, digits-mod}
+use lib.ListN.{length, getD, take, drop, length-drop}
+use lib.Seq.{drop-cons, getD-drop, take-all}
+use borrow.Author.Tests.{eqb-true}
+use Rattle.river.specs.Bytes.{AreBytes, twoBytes, fourBytes, byteAt, twoAt, fourAt, marked}
+use Rattle.river.proofs.Answers.{both-true}
+
+-- a number of two digits to a base has these two digits
+pub two-digits : (m a b : ℕ) → b < m → _≡_ {A = List ℕ} ((a * m + b) / m ∷ (a * m + b) % m ∷ []) (a ∷ b ∷ [])
+two-digits m a b h = rw (digits-div a h, digits-mod a h)
+
+pub twoAt-below : (s : List ℕ) (k : ℕ) → AreBytes s → twoAt s k < 65536
+twoAt-below s k h = omega (arith, h .below k, h .below (k + 1))
+
+pub fourAt-below : (s : List ℕ) (k : ℕ) → AreBytes s → fourAt s k < 4294967296
+fourAt-below s k h = omega (arith, twoAt-below s k h, twoAt-below s (k + 2) h)
+
+pub twoBytes-twoAt : (s : List ℕ) (k : ℕ) → AreBytes s → twoBytes (twoAt s k) ≡ byteAt s k ∷ byteAt s (k + 1) ∷ []
+twoBytes-twoAt s k h = two-digits 256 (byteAt s k) (byteAt s (k + 1)) (h .below (k + 1))
+
+pub fourBytes-fourAt : (s : List ℕ) (k : ℕ) → AreBytes s
+    → fourBytes (fourAt s k) ≡ byteAt s k ∷ byteAt s (k + 1) ∷ byteAt s (k + 2) ∷ byteAt s (k + 2 + 1) ∷ []
+fourBytes-fourAt s k h =
+    let b = twoAt-below s (k + 2) h in
+    ap₂ (λ (x y : ℕ). twoBytes x ++ twoBytes y) (digits-div (twoAt s k) b) (digits-mod (twoAt s k) b) ∙
+    ap₂ (λ (x y : List ℕ). x ++ y) (twoBytes-twoAt s k h) (twoBytes-twoAt s (k + 2) h)
+
+-- numbers within their width are written in bytes
+pub are-bytes-cons : {x : ℕ} {s : List ℕ} → x < 256 → AreBytes s → AreBytes (x ∷ s)
+are-bytes-cons {x} {s} p h = record { below = go }
+  where
+    go : (k : ℕ) → getD (x ∷ s) k 0 < 256
+    go zero = p
+    go (suc k) = h .below k
+
+pub are-bytes-two : {s : List ℕ} (x : ℕ) → x < 65536 → AreBytes s → AreBytes (twoBytes x ++ s)
+are-bytes-two x p h = are-bytes-cons (omega arith) (are-bytes-cons (omega arith) h)
+
+pub are-bytes-four : {s : List ℕ} (x : ℕ) → x < 4294967296 → AreBytes s → AreBytes (fourBytes x ++ s)
+are-bytes-four x p h = are-bytes-two (x / 65536) (omega arith) (are-bytes-two (x % 65536) (omega arith) h)
+
+pub are-bytes-drop : {s : List ℕ} (k : ℕ) → AreBytes s → AreBytes (drop k s)
+are-bytes-drop {s} k h = record { below = λ j. rw getD-drop (h .below (k + j)) }
+
+-- the n bytes from k on, written out
+abbrev pub bytesFrom : List ℕ → ℕ → ℕ → List ℕ
+bytesFrom s zero k = []
+bytesFrom s (suc n) k = byteAt s k ∷ bytesFrom s n (suc k)
+
+pub spelled : (s : List ℕ) (n k : ℕ) → n + k ≤ length s → drop k s ≡ bytesFrom s n k ++ drop (n + k) s
+spelled s zero k h = rw zero-add
+spelled s (suc n) k h =
+    drop-cons s k 0 (omega arith) ∙
+    ap (λ (l : List ℕ). byteAt s k ∷ l) (spelled s n (suc k) (omega arith) ∙ rw (add-suc, suc-add))
+
+-- the part of a slice from k on, as the code takes it
+pub whole-tail : (s : List ℕ) (k : ℕ) → take (length s - k) (drop k s) ≡ drop k s
+whole-tail s k = take-all (length s - k) (drop k s) (omega (arith, length-drop k s))
+
+-- a mark that is there
+pub record Mark (s : List ℕ) (k a b : ℕ) : Type 0 where
+  pub first : byteAt s k ≡ a
+  pub second : byteAt s (k + 1) ≡ b
+
+pub mark : (s : List ℕ) (k a b : ℕ) → marked s k a b ≡ true → Mark s k a b
+mark s k a b e = let t = both-true e in record { first = eqb-true _ _ (t .left); second = eqb-true _ _ (t .right) }

@@ -1,0 +1,39 @@
+-- `river::flow::upstream_of` meets its contract: three calls at the reach after the first n.
+use borrow.Author.Needs.{needs}
+use native.Mathlib.Numerals.{add-one}
+use Rattle.river.proofs.flow.upstream_of.Statement.{statement}
+use Rattle.river.proofs.flow.upstream_of.Tie as tie
+
+add-reach : tie.Need-add-reach
+add-reach c = search needs
+
+cast-reach : tie.Need-cast-reach
+cast-reach c = search needs
+
+feeder-sum-requires : tie.Need-feeder-sum-requires
+feeder-sum-requires c κs = (search needs, rw add-one (c .before .before .before .pre .1))
+
+feeder-sum-requires-2 : tie.Need-feeder-sum-requires-2
+feeder-sum-requires-2 c κs =
+    (search needs, rw add-one (c .before .before .before .before .before .before .before .pre .2))
+
+feeder-depth-requires : tie.Need-feeder-depth-requires
+feeder-depth-requires c κs = search needs
+
+returns : tie.Need-returns
+returns c = (
+  rw add-one at (c .before .before .before .before .before .before .before .before .feeder-sum .ensures),
+  rw add-one at (c .before .before .before .before .feeder-sum2 .ensures),
+  rw add-one at (c .feeder-depth .ensures),
+)
+
+pub upstream-of-spec : {M : Type 1} → statement M
+upstream-of-spec =
+    tie.close
+    (tie.spec
+    add-reach
+    cast-reach
+    feeder-sum-requires
+    feeder-sum-requires-2
+    feeder-depth-requires
+    returns)

@@ -1,0 +1,29 @@
+-- `river::range::dam_in_range` meets its contract: each return follows from the dam's case and the comparisons before it.
+-- Assumes nothing.
+use mathlib.Core.Path.{sym, ap}
+use borrow.Author.Needs.{needs}
+use Rattle.river.specs.Card.{damInRange}
+use Rattle.river.proofs.Tests.{tests}
+use Rattle.river.proofs.range.dam_in_range.Statement.{statement}
+use Rattle.river.proofs.range.dam_in_range.Tie as tie
+
+enum-known-d : tie.Need-enum-known-d
+enum-known-d c = search needs
+
+enum-told : tie.Need-enum-told
+enum-told c = search needs
+
+returns : tie.Need-returns
+unfolding damInRange
+returns c = sym (ap damInRange (c .enum-told .given .1))
+
+returns-2 : tie.Need-returns-2
+unfolding damInRange
+returns-2 c = rw (c .before .before .d .given .1) (search tests)
+
+returns-3 : tie.Need-returns-3
+unfolding damInRange
+returns-3 c = rw (c .before .before .d .given .1) (search tests)
+
+pub dam-in-range-spec : {M : Type 1} → statement M
+dam-in-range-spec = tie.close (tie.spec enum-known-d enum-told returns returns-2 returns-3)

@@ -1,0 +1,21 @@
+-- `river::range::outlet_ok` meets its contract: each return follows from the comparisons before it.
+-- Assumes nothing.
+use Rattle.river.specs.Card.{outletOk}
+use Rattle.river.proofs.Tests.{tests}
+use Rattle.river.proofs.range.outlet_ok.Statement.{statement}
+use Rattle.river.proofs.range.outlet_ok.Tie as tie
+
+returns : tie.Need-returns
+unfolding outletOk
+returns c = search tests
+
+returns-2 : tie.Need-returns-2
+unfolding outletOk
+returns-2 c = search tests
+
+returns-3 : tie.Need-returns-3
+unfolding outletOk
+returns-3 c = search tests
+
+pub outlet-ok-spec : {M : Type 1} → statement M
+outlet-ok-spec = tie.close (tie.spec returns returns-2 returns-3)

@@ -1,0 +1,60 @@
+-- `river::read::read_header` meets its contract: each return follows from the tests before it, in the paper's order of refusals.
+-- Assumes nothing.
+use borrow.Author.Needs.{needs}
+use borrow.Author.Tests.{le-leb, lt-leb, not-true, not-false}
+use Rattle.river.proofs.Ranges.{true-countOk}
+use native.Mathlib.Omega.{arith}
+use mathlib.Core.Path.{sym, _∙_, ap}
+use Rattle.river.specs.Read.{readHeader}
+use Rattle.river.specs.Refusal.{need}
+use Rattle.river.proofs.read.read_header.Statement.{statement}
+use Rattle.river.proofs.read.read_header.Tie as tie
+
+returns : tie.Need-returns
+unfolding readHeader need
+returns c = rw (lt-leb _ _ (c .if1 .taken))
+
+marked-requires : tie.Need-marked-requires
+marked-requires c κs = search needs
+
+returns-2 : tie.Need-returns-2
+unfolding readHeader need
+returns-2 c = rw (le-leb _ _ (c .before .before .if1 .left), ← c .before .marked .ensures, not-true (c .before .marked .result) (c .if2 .taken))
+
+two-at-requires : tie.Need-two-at-requires
+two-at-requires c κs = search needs
+
+cast-count-ok : tie.Need-cast-count-ok
+cast-count-ok c = search needs
+
+count-ok-requires : tie.Need-count-ok-requires
+count-ok-requires c κs = search needs
+
+returns-3 : tie.Need-returns-3
+unfolding readHeader need
+returns-3 c =
+    let a = c .before .before .before in
+    rw (le-leb _ _ (a .before .before .if1 .left), ← a .before .marked .ensures, not-false (a .before .marked .result) (a .if2 .left), ← c .before .before .two-at .ensures, ← c .before .count-ok .ensures, not-true (c .before .count-ok .result) (c .if3 .taken))
+
+cast-t9 : tie.Need-cast-t9
+cast-t9 c = omega (arith, true-countOk (c .before .before .two-at .result) (sym (c .before .count-ok .ensures) ∙ not-false (c .before .count-ok .result) (c .if3 .left)))
+
+returns-4 : tie.Need-returns-4
+unfolding readHeader need
+returns-4 c =
+    let a = c .before .before .before in
+    rw (le-leb _ _ (a .before .before .if1 .left), ← a .before .marked .ensures, not-false (a .before .marked .result) (a .if2 .left), ← c .before .before .two-at .ensures, ← c .before .count-ok .ensures, not-false (c .before .count-ok .result) (c .if3 .left))
+
+pub read-header-spec : {M : Type 1} → statement M
+read-header-spec =
+    tie.close
+    (tie.spec
+    returns
+    marked-requires
+    returns-2
+    two-at-requires
+    cast-count-ok
+    count-ok-requires
+    returns-3
+    cast-t9
+    returns-4)

@@ -1,0 +1,34 @@
+-- Whole numbers as bytes, high byte first, and two-byte marks.
+use Prim.Native.Nat.{ℕ, _+_, _*_, _/_, _%_, _<_}
+use mathlib.Core.List.{List, [], _∷_, _++_}
+use mathlib.Core.Bool.{Bool, _&&_}
+use lib.ListN.{getD}
+use lib.Dec.{eqb}
+
+-- every element is a byte
+pub record AreBytes (s : List ℕ) : Type 0 where
+  pub below : (k : ℕ) → getD s k 0 < 256
+
+-- a number as two bytes
+abbrev pub twoBytes : ℕ → List ℕ
+twoBytes x = x / 256 ∷ x % 256 ∷ []
+
+-- a number as four bytes
+abbrev pub fourBytes : ℕ → List ℕ
+fourBytes x = twoBytes (x / 65536) ++ twoBytes (x % 65536)
+
+-- the byte at a place
+abbrev pub byteAt : List ℕ → ℕ → ℕ
+byteAt s k = getD s k 0
+
+-- the number in the two bytes from a place on
+abbrev pub twoAt : List ℕ → ℕ → ℕ
+twoAt s k = byteAt s k * 256 + byteAt s (k + 1)
+
+-- the number in the four bytes from a place on
+abbrev pub fourAt : List ℕ → ℕ → ℕ
+fourAt s k = twoAt s k * 65536 + twoAt s (k + 2)
+
+-- whether the two bytes from a place on are a mark
+abbrev pub marked : List ℕ → ℕ → ℕ → ℕ → Bool
+marked s k a b = eqb (byteAt s k) a && eqb (byteAt s (k + 1)) b

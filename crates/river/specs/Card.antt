@@ -1,0 +1,74 @@
+-- Cards: the ranges of their fields, outlets, and the lawful lists of cards, which are the rivers that have a file.
+use Prim.Native.Nat.{ℕ, suc, _+_, _≤_, _<_}
+use mathlib.Core.Path.{_≡_}
+use mathlib.Core.List.{List, [], _∷_}
+use mathlib.Core.Bool.{Bool, true, false, _&&_, cond}
+use lib.ListN.{length, take}
+use lib.Dec.{leb, ltb, eqb}
+use Rattle.river.specs.declared.card.Card.{Card}
+use Rattle.river.specs.declared.card.Cards.{Cards}
+use Rattle.river.specs.declared.card.Dam.{Dam}
+use Rattle.river.specs.declared.card.Dam.the-variants.{Absent, Aerating}
+
+-- the river of a `Cards` value: its first `count` cards; reach i is element i - 1
+abbrev pub river : Cards → List Card
+river cs = take (cs .count) (cs .at)
+
+-- the ranges of an `RE` record's fields
+pub record InRange (c : Card) : Type 0 where
+  pub temperature : c .temperature ≤ 35
+  pub k1 : c .k1 ≤ 20000
+  pub k2 : c .k2 ≤ 20000
+  pub volume : c .volume ≤ 1000000000
+  pub inflow : c .inflow ≤ 100000000
+  pub inflow-bod : c .«inflow_bod» ≤ 1000000
+  pub inflow-oxygen : c .«inflow_oxygen» ≤ 20000
+
+-- the ranges of a `DM` record's fields
+pub record DamInRange (s g : ℕ) : Type 0 where
+  pub share : s ≤ 1000
+  pub generating : g ≤ 100000000
+
+-- a dam is none, or has its numbers in range
+abbrev pub LawfulDam : Dam → Type 0
+LawfulDam Absent = Unit
+LawfulDam (Aerating s g) = DamInRange s g
+
+-- the outlet of reach i of n: a larger number, at most n; 0 for the last reach and for no other
+unfoldable pub outletOk : ℕ → ℕ → ℕ → Bool
+outletOk n i o = cond (eqb i n) (eqb o 0) (ltb i o && leb o n)
+
+-- a lawful card of reach i of n; any load that four bytes hold will do
+pub record LawfulCard (n i : ℕ) (c : Card) : Type 0 where
+  pub in-range : InRange c
+  pub load : c .load < 4294967296
+  pub outlet : outletOk n i (c .outlet) ≡ true
+  pub dam : LawfulDam (c .dam)
+
+-- lawful cards of the reaches from i on, of n
+abbrev pub LawfulFrom : ℕ → ℕ → List Card → Type 0
+LawfulFrom n i [] = Unit
+LawfulFrom n i (c ∷ cs) = LawfulCard n i c × LawfulFrom n (suc i) cs
+
+-- lawful cards: 1 to 128 of them, numbered from 1, each lawful
+pub record Lawful (cs : List Card) : Type 0 where
+  pub some : 1 ≤ length cs
+  pub few : length cs ≤ 128
+  pub each : LawfulFrom (length cs) 1 cs
+
+-- the tests of these ranges
+unfoldable pub inRange : Card → Bool
+inRange c =
+    leb (c .temperature) 35 &&
+    (leb (c .k1) 20000 &&
+    (leb (c .k2) 20000 &&
+    (leb (c .volume) 1000000000 &&
+    (leb (c .inflow) 100000000 && (leb (c .«inflow_bod») 1000000 && leb (c .«inflow_oxygen») 20000)))))
+
+unfoldable pub damInRange : Dam → Bool
+damInRange Absent = true
+damInRange (Aerating s g) = leb s 1000 && leb g 100000000
+
+-- the test of a reach count
+unfoldable pub countOk : ℕ → Bool
+countOk n = leb 1 n && leb n 128

@@ -1,0 +1,201 @@
+-- "Flows and depth" of document 01: what flows into a reach, its flow, undecayed BOD and depth, and the flow check.
+use mathlib.Core.Path.{_≡_}
+use mathlib.Core.Bool.{Bool, true, false, _&&_}
+use mathlib.Core.List.{List}
+use Prim.Native.Nat.{ℕ, zero, suc, _+_, _*_, _<_, _≤_, max}
+use lib.ListN.{length, getD}
+use lib.Dec.{leb, ltb, eqb}
+use Rattle.river.specs.declared.card.Dam.{Dam}
+use Rattle.river.specs.declared.card.Dam.the-variants.{Absent, Aerating}
+use Rattle.river.specs.declared.card.Card.{Card}
+use Rattle.river.specs.declared.read.Outcome.{Outcome}
+use Rattle.river.specs.declared.flow.FlowTable.{FlowTable}
+use Rattle.river.specs.declared.flow.Checked.{Checked}
+use Rattle.river.specs.Refusal.{Answer, accepted, refused, need, after}
+use Rattle.river.specs.Card.{Lawful}
+use Rattle.river.specs.Read.{readFile, outcomeOf}
+
+-- what flows into a reach: none, or a feeder's card, what flows into that feeder, and the other feeders
+pub data Feeders : Type 0 where
+  none : Feeders
+  more : (card : Card) (up : Feeders) (rest : Feeders) → Feeders
+
+-- the card that stands for a reach beyond the last one
+abbrev pub blank : Card
+blank =
+    record {
+      outlet = 0;
+      temperature = 0;
+      k1 = 0;
+      k2 = 0;
+      volume = 0;
+      inflow = 0;
+      «inflow_bod» = 0;
+      «inflow_oxygen» = 0;
+      load = 0;
+      dam = Absent;
+    }
+
+-- the card of reach i, numbered from 1
+abbrev pub cardOf : List Card → ℕ → Card
+cardOf cards zero = blank
+cardOf cards (suc n) = getD cards n blank
+
+-- one more feeder if the test holds
+unfoldable pub joined : Bool → Card → Feeders → Feeders → Feeders
+joined true card up rest = more card up rest
+joined false card up rest = rest
+
+-- the feeders of reach i among the first n reaches: those whose outlet it is
+unfoldable pub feedersAmong : List Card → ℕ → ℕ → Feeders
+feedersAmong cards zero i = none
+feedersAmong cards (suc n) i =
+    joined (eqb (getD cards n blank .outlet) i) (getD cards n blank) (feedersAmong cards n (suc n)) (feedersAmong cards n i)
+
+-- what flows into reach i
+abbrev pub above : List Card → ℕ → Feeders
+above cards zero = none
+above cards (suc n) = feedersAmong cards n (suc n)
+
+-- Qu, the sum of the feeders' flows
+unfoldable pub flowOf : Feeders → ℕ
+flowOf none = 0
+flowOf (more card up rest) = flowOf up + card .inflow + flowOf rest
+
+-- Q of a reach with this card, under what flows into it
+abbrev pub reachFlow : Card → Feeders → ℕ
+reachFlow card up = flowOf up + card .inflow
+
+-- the undecayed BOD that a reach itself takes in
+abbrev pub ownMass : Card → ℕ
+ownMass card = card .inflow * card .«inflow_bod» + 1000 * card .load
+
+-- the sum of the feeders' undecayed BOD
+unfoldable pub massOf : Feeders → ℕ
+massOf none = 0
+massOf (more card up rest) = massOf up + ownMass card + massOf rest
+
+-- M, the undecayed BOD of a reach
+abbrev pub reachMass : Card → Feeders → ℕ
+reachMass card up = massOf up + ownMass card
+
+-- the depth of the deepest feeder, 0 without feeders
+unfoldable pub deepest : Feeders → ℕ
+deepest none = 0
+deepest (more card up rest) = max (1 + deepest up) (deepest rest)
+
+-- depth: 1 without feeders, else one more than the deepest feeder's
+abbrev pub reachDepth : Feeders → ℕ
+reachDepth up = 1 + deepest up
+
+-- flow, undecayed BOD and depth of reach i of a river
+abbrev pub flowAt : List Card → ℕ → ℕ
+flowAt cards i = reachFlow (cardOf cards i) (above cards i)
+
+abbrev pub massAt : List Card → ℕ → ℕ
+massAt cards i = reachMass (cardOf cards i) (above cards i)
+
+abbrev pub depthAt : List Card → ℕ → ℕ
+depthAt cards i = reachDepth (above cards i)
+
+-- whether a reach has feeders
+unfoldable pub fed : Feeders → Bool
+fed none = false
+fed (more card up rest) = true
+
+-- a dam has feeders above it and a generating flow of at most Qu
+unfoldable pub damFits : Dam → Bool → ℕ → Bool
+damFits Absent fed Qu = true
+damFits (Aerating share generating) fed Qu = fed && leb generating Qu
+
+-- the checks of reach i in order, by its card, whether it has feeders, Qu, Q and M
+unfoldable pub checksOf : Card → (fed : Bool) (Qu Q M i : ℕ) → Answer (List Card) → Answer (List Card)
+checksOf card fed Qu Q M i later =
+    need (ltb 0 Q) 7 i
+    (need (leb Q 100000000) 8 i
+    (need (damFits (card .dam) fed Qu) 9 i
+    (need (leb M (1000000 * Q)) 10 i
+    (need (leb (card .k1 * card .volume) (345600 * Q)) 11 i
+    (need (leb (card .k2 * card .volume) (345600 * Q)) 11 i
+    later)))))
+
+-- the checks of reach i with this card, under what flows into it
+unfoldable pub reachChecks : Card → Feeders → ℕ → Answer (List Card) → Answer (List Card)
+reachChecks card up i later = checksOf card (fed up) (flowOf up) (reachFlow card up) (reachMass card up) i later
+
+-- the checks by reach number, of m reaches from i on
+unfoldable pub checksFrom : List Card → (i m : ℕ) → Answer (List Card)
+checksFrom cards i zero = accepted cards
+checksFrom cards i (suc m) = reachChecks (cardOf cards i) (above cards i) i (checksFrom cards (suc i) m)
+
+-- the flow check of a river: its cards, or the first refusal
+unfoldable pub flowCheck : List Card → Answer (List Card)
+flowCheck cards = checksFrom cards 1 (length cards)
+
+-- a river file that was read without refusal goes on to the flow check
+unfoldable pub acceptFile : List ℕ → Answer (List Card)
+acceptFile file = after (readFile file) flowCheck
+
+-- the rule of check 9 as a fact
+unfoldable pub DamRule : Dam → Feeders → Type 0
+DamRule Absent up = Unit
+DamRule (Aerating share generating) up = (fed up ≡ true) × (generating ≤ flowOf up)
+
+-- what checks 7 to 11 ask of a reach with this card, under what flows into it
+pub record Sound (card : Card) (up : Feeders) : Type 0 where
+  pub flowing : 0 < reachFlow card up
+  pub bounded : reachFlow card up ≤ 100000000
+  pub dam-rule : DamRule (card .dam) up
+  pub mass-rule : reachMass card up ≤ 1000000 * reachFlow card up
+  pub decay-rule : card .k1 * card .volume ≤ 345600 * reachFlow card up
+  pub aeration-rule : card .k2 * card .volume ≤ 345600 * reachFlow card up
+
+-- a river passes the flow rules: each of its reaches does
+pub record Flows (cards : List Card) : Type 0 where
+  pub each : (i : ℕ) → i < length cards → Sound (cardOf cards (suc i)) (above cards (suc i))
+
+-- a value where the test holds, else 0
+unfoldable pub onlyIf : Bool → ℕ → ℕ
+onlyIf true value = value
+onlyIf false value = 0
+
+-- the sum and the largest of a table over the feeders of reach i among the first n reaches, by a table of outlets
+unfoldable pub tableSum : (outlets values : List ℕ) (n i : ℕ) → ℕ
+tableSum outlets values zero i = 0
+tableSum outlets values (suc n) i = onlyIf (eqb (getD outlets n 0) i) (getD values n 0) + tableSum outlets values n i
+
+unfoldable pub tableMax : (outlets values : List ℕ) (n i : ℕ) → ℕ
+tableMax outlets values zero i = 0
+tableMax outlets values (suc n) i = max (onlyIf (eqb (getD outlets n 0) i) (getD values n 0)) (tableMax outlets values n i)
+
+-- tables of the first n reaches: outlet, flow, undecayed BOD and depth
+pub record Tabled (cards : List Card) (n : ℕ) (t : FlowTable) : Type 0 where
+  pub outlet : (j : ℕ) → j < n → getD (t .outlet) j 0 ≡ cardOf cards (suc j) .outlet
+  pub flow : (j : ℕ) → j < n → getD (t .flow) j 0 ≡ flowAt cards (suc j)
+  pub mass : (j : ℕ) → j < n → getD (t .mass) j 0 ≡ massAt cards (suc j)
+  pub depth : (j : ℕ) → j < n → getD (t .depth) j 0 ≡ depthAt cards (suc j)
+
+-- an outcome as an answer: what comes later where it is accepted
+unfoldable pub goOn : Outcome → Answer (List Card) → Answer (List Card)
+goOn Outcome.Accepted later = later
+goOn (Outcome.Refused r) later = refused r
+
+-- the first n reaches pass, and have their tables
+pub record PassedFirst (cards : List Card) (n : ℕ) (t : FlowTable) : Type 0 where
+  pub sound : (j : ℕ) → j < n → Sound (cardOf cards (suc j)) (above cards (suc j))
+  pub tabled : Tabled cards n t
+
+-- what the check of reach i + 1 needs, and what it yields
+pub record NextInput (cards : List Card) (t : FlowTable) (i : ℕ) : Type 0 where
+  pub lawful : Lawful cards
+  pub within : i < length cards
+  pub passed : PassedFirst cards i t
+
+pub record NextChecked (cards : List Card) (i : ℕ) (r : Checked) : Type 0 where
+  pub answer : (later : Answer (List Card)) → goOn (r .outcome) later ≡ reachChecks (cardOf cards (suc i)) (above cards (suc i)) (suc i) later
+  pub tabled : Tabled cards (suc i) (r .flows)
+
+-- what the flow check of a river yields: its answer, and the tables of every reach of an accepted river
+pub record FlowChecked (cards : List Card) (r : Checked) : Type 0 where
+  pub answer : outcomeOf (r .outcome) cards ≡ flowCheck cards
+  pub tabled : r .outcome ≡ Outcome.Accepted → Tabled cards (length cards) (r .flows)

@@ -1,0 +1,117 @@
+-- Reading: the cards of a river file, or the first refusal in file order.
+use Prim.Native.Nat.{ℕ, zero, suc, _+_}
+use mathlib.Core.Path.{_≡_}
+use mathlib.Core.List.{List, [], _∷_}
+use lib.ListN.{length, drop}
+use lib.Dec.{leb, eqb}
+use Rattle.river.specs.Bytes.{byteAt, twoAt, fourAt, marked}
+use Rattle.river.specs.Card.{river, countOk, inRange, outletOk, damInRange}
+use Rattle.river.specs.Refusal.{Answer, accepted, refused, refuse, need, choose, after}
+use Rattle.river.specs.declared.card.Card.{Card}
+use Rattle.river.specs.declared.card.Dam.{Dam}
+use Rattle.river.specs.declared.card.Dam.the-variants.{Absent, Aerating}
+use Rattle.river.specs.declared.refusal.Refusal.{Refusal}
+use Rattle.river.specs.declared.read.DamRead.{DamRead}
+use Rattle.river.specs.declared.read.Header.{Header}
+use Rattle.river.specs.declared.read.Outcome.{Outcome}
+use Rattle.river.specs.declared.read.Reach.{Reach}
+use Rattle.river.specs.declared.read.Reading.{Reading}
+
+-- the header of a file: 1, 2, 3, with reach 0, or the reach count
+unfoldable pub readHeader : List ℕ → Answer ℕ
+readHeader s =
+    need (leb 4 (length s)) 1 0
+    (need (marked s 0 82 86) 2 0 (need (countOk (twoAt s 2)) 3 0 (accepted (twoAt s 2))))
+
+-- the card in an `RE` record, with a dam
+unfoldable pub cardAt : List ℕ → Dam → Card
+cardAt s d =
+    record {
+      outlet = byteAt s 2;
+      temperature = byteAt s 3;
+      k1 = twoAt s 4;
+      k2 = twoAt s 6;
+      volume = fourAt s 8;
+      inflow = fourAt s 12;
+      «inflow_bod» = fourAt s 16;
+      «inflow_oxygen» = twoAt s 20;
+      load = fourAt s 22;
+      dam = d;
+    }
+
+-- the dam in a `DM` record that follows an `RE` record
+unfoldable pub damAt : List ℕ → Dam
+damAt s = Aerating (twoAt s 28) (fourAt s 30)
+
+-- the dam of reach i, whose `RE` record begins the bytes: if the next two bytes are `DM`, that record follows, with 1 then 4
+unfoldable pub readDam : ℕ → List ℕ → Answer Dam
+readDam i s =
+    choose (marked s 26 68 77)
+    (need (leb 34 (length s)) 1 i (need (damInRange (damAt s)) 4 i (accepted (damAt s))))
+    (accepted Absent)
+
+-- reach i of n at the start of the bytes: 1, 2, 4, 5, then its dam, or its card
+unfoldable pub readReach : ℕ → ℕ → List ℕ → Answer Card
+readReach n i s =
+    need (leb 26 (length s)) 1 i
+    (need (marked s 0 82 69) 2 i
+    (need (inRange (cardAt s Absent)) 4 i
+    (need (outletOk n i (byteAt s 2)) 5 i
+    (after (readDam i s) (λ d. accepted (cardAt s d))))))
+
+-- the length of a card's records
+abbrev pub sizeOfDam : Dam → ℕ
+sizeOfDam Absent = 26
+sizeOfDam (Aerating s g) = 34
+
+abbrev pub sizeOf : Card → ℕ
+sizeOf c = sizeOfDam (c .dam)
+
+-- the reaches from i on, of n, where m are due; 6, with reach 0, if bytes remain after the last record
+unfoldable pub readReaches : ℕ → ℕ → ℕ → List ℕ → Answer (List Card)
+readReaches n i zero s = need (eqb (length s) 0) 6 0 (accepted [])
+readReaches n i (suc m) s =
+    after (readReach n i s)
+    (λ c. after (readReaches n (suc i) m (drop (sizeOf c) s)) (λ cs. accepted (c ∷ cs)))
+
+-- a river file: the header, then card after card
+unfoldable pub readFile : List ℕ → Answer (List Card)
+readFile s = after (readHeader s) (λ n. readReaches n 1 n (drop 4 s))
+
+-- the answers of the program, case by case: the header's, a dam's, a reach's at a position, and the whole file's
+abbrev pub headerOf : Answer ℕ → Header
+headerOf (accepted n) = Header.Count n 4
+headerOf (refused r) = Header.Refused r
+
+abbrev pub damOf : Answer Dam → DamRead
+damOf (accepted d) = DamRead.Found d
+damOf (refused r) = DamRead.Refused r
+
+abbrev pub reachOf : ℕ → Answer Card → Reach
+reachOf at (accepted c) = Reach.Read c (at + sizeOf c)
+reachOf at (refused r) = Reach.Refused r
+
+abbrev pub outcomeOf : Outcome → List Card → Answer (List Card)
+outcomeOf Outcome.Accepted cs = accepted cs
+outcomeOf (Outcome.Refused r) cs = refused r
+
+abbrev pub answerOf : Reading → Answer (List Card)
+answerOf r = outcomeOf (r .outcome) (river (r .cards))
+
+-- the refusal in an answer; number 0 where there is none
+abbrev pub headerRefusal : Header → Refusal
+headerRefusal (Header.Count n next) = refuse 0 0
+headerRefusal (Header.Refused r) = r
+
+abbrev pub reachRefusal : Reach → Refusal
+reachRefusal (Reach.Read c next) = refuse 0 0
+reachRefusal (Reach.Refused r) = r
+
+-- a reading yields an answer: the cards, or a refusal and no card
+pub record Yields (a : Answer (List Card)) (r : Reading) : Type 0 where
+  pub answer : answerOf r ≡ a
+  pub none : {x : Refusal} → r .outcome ≡ Outcome.Refused x → r .cards .count ≡ 0
+
+-- the reading of a file
+abbrev pub Reads : List ℕ → Reading → Type 0
+Reads file r = Yields (readFile file) r

@@ -1,0 +1,72 @@
+-- Writing: the file of a river, and what writing leaves in a buffer.
+use Prim.Native.Nat.{ℕ, suc, _+_}
+use mathlib.Core.Path.{_≡_}
+use mathlib.Core.List.{List, [], _∷_, _++_}
+use lib.ListN.{length, drop}
+use lib.Dec.{leb}
+use Rattle.river.specs.Bytes.{twoBytes, fourBytes}
+use Rattle.river.specs.Card.{countOk, inRange, outletOk, damInRange}
+use Rattle.river.specs.Refusal.{Answer, accepted, refused, need, after}
+use Rattle.river.specs.declared.card.Card.{Card}
+use Rattle.river.specs.declared.card.Dam.{Dam}
+use Rattle.river.specs.declared.card.Dam.the-variants.{Absent, Aerating}
+use Rattle.river.specs.declared.write.Written.{Written}
+
+-- the `DM` record of a dam, if there is one
+abbrev pub encodeDam : Dam → List ℕ
+encodeDam Absent = []
+encodeDam (Aerating s g) = 68 ∷ 77 ∷ twoBytes s ++ fourBytes g
+
+-- the `RE` record of a card, and its dam's record directly after it
+abbrev pub encodeCard : Card → List ℕ
+encodeCard c =
+    82 ∷
+    69 ∷
+    c .outlet ∷
+    c .temperature ∷
+    twoBytes (c .k1) ++
+    twoBytes (c .k2) ++
+    fourBytes (c .volume) ++
+    fourBytes (c .inflow) ++
+    fourBytes (c .«inflow_bod») ++ twoBytes (c .«inflow_oxygen») ++ fourBytes (c .load) ++ encodeDam (c .dam)
+
+abbrev pub encodeCards : List Card → List ℕ
+encodeCards [] = []
+encodeCards (c ∷ cs) = encodeCard c ++ encodeCards cs
+
+-- the `RV` record of a reach count
+abbrev pub encodeHeader : ℕ → List ℕ
+encodeHeader n = 82 ∷ 86 ∷ twoBytes n
+
+-- the file of a river
+unfoldable pub encode : List Card → List ℕ
+encode cs = encodeHeader (length cs) ++ encodeCards cs
+
+-- the reaches from i on, of n: for each 4 and 5, then its dam's 4
+unfoldable pub checkFrom : ℕ → ℕ → List Card → Answer Unit
+checkFrom n i [] = accepted tt
+checkFrom n i (c ∷ cs) =
+    need (inRange c) 4 i
+    (need (outletOk n i (c .outlet)) 5 i (need (damInRange (c .dam)) 4 i (checkFrom n (suc i) cs)))
+
+-- 3 for a reach count n, then the reaches, then 12 for a buffer of a length, else the file's length
+unfoldable pub writeAnswer : ℕ → List Card → ℕ → Answer ℕ
+writeAnswer n cs room =
+    need (countOk n) 3 0
+    (after (checkFrom n 1 cs)
+    (λ _. need (leb (length (encode cs)) room) 12 0 (accepted (length (encode cs)))))
+
+-- the buffer that an answer leaves: the file at its start, and as it was after a refusal
+unfoldable pub bufferAfter : Answer ℕ → List Card → List ℕ → List ℕ
+bufferAfter (accepted l) cs before = encode cs ++ drop l before
+bufferAfter (refused r) cs before = before
+
+-- the answer of the program, case by case
+abbrev pub writtenOf : Written → Answer ℕ
+writtenOf (Written.Length l) = accepted l
+writtenOf (Written.Refused r) = refused r
+
+-- what a write of n reaches' cards is: its answer and the whole buffer
+pub record Writes (n : ℕ) (cs : List Card) (before : List ℕ) (w : Written) (left : List ℕ) : Type 0 where
+  pub answer : writtenOf w ≡ writeAnswer n cs (length before)
+  pub buffer : left ≡ bufferAfter (writtenOf w) cs before

@@ -1,0 +1,66 @@
+// The tests that reading and writing share: ranges, outlets and the reach count.
+ghost use mathlib.Core.Path.{_≡_};
+ghost use Rattle.river.specs.Card.{inRange, damInRange, outletOk, countOk};
+use crate::card::Card;
+use crate::card::Dam;
+
+// Whether the fields of a card's `RE` record are in range.
+pub fn in_range(c: Card) -> bool
+    ensures { λ r. ⌜ r ≡ inRange c ⌝ }
+{
+    if 35 < c.temperature {
+        return false;
+    }
+    if 20000 < c.k1 {
+        return false;
+    }
+    if 20000 < c.k2 {
+        return false;
+    }
+    if 1000000000 < c.volume {
+        return false;
+    }
+    if 100000000 < c.inflow {
+        return false;
+    }
+    if 1000000 < c.inflow_bod {
+        return false;
+    }
+    c.inflow_oxygen <= 20000
+}
+
+// Whether the fields of a dam's `DM` record are in range.
+pub fn dam_in_range(d: Dam) -> bool
+    ensures { λ r. ⌜ r ≡ damInRange d ⌝ }
+{
+    let Dam::Aerating { share, generating } = d else {
+        return true;
+    };
+    if 1000 < share {
+        return false;
+    }
+    generating <= 100000000
+}
+
+// Whether reach i of n may have an outlet.
+pub fn outlet_ok(n: u8, i: u8, outlet: u8) -> bool
+    ensures { λ r. ⌜ r ≡ outletOk n i outlet ⌝ }
+{
+    if i == n {
+        return outlet == 0;
+    }
+    if outlet <= i {
+        return false;
+    }
+    outlet <= n
+}
+
+// Whether a river may have so many reaches.
+pub fn count_ok(n: usize) -> bool
+    ensures { λ r. ⌜ r ≡ countOk n ⌝ }
+{
+    if n < 1 {
+        return false;
+    }
+    n <= 128
+}

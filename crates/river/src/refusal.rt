@@ -1,0 +1,16 @@
+// A refusal, and the number that stands for it in a result.
+ghost use mathlib.Core.Path.{_≡_};
+ghost use Rattle.river.specs.Refusal.{codeOf};
+
+// The paper's number, and the reach it is about: 0 where it is about no reach.
+pub struct Refusal {
+    pub number: u8,
+    pub reach: u8,
+}
+
+// The result code of a refusal.
+pub fn code(r: Refusal) -> u32
+    ensures { λ c. ⌜ c ≡ codeOf r ⌝ }
+{
+    r.number as u32 + 256 * (r.reach as u32)
+}
