@@ -4,6 +4,10 @@ use Prim.Native.Nat.{ℕ, zero, suc, _*_}
 use lib.Dec.{eqb}
 use Rattle.decay.specs.Fraction.{Fraction, ofℕ, _+ᶠ_, -ᶠ_, _-ᶠ_, _*ᶠ_, _÷_}
 
+-- the instants of a reach are those from 0, its head, to 1,024, its foot
+abbrev pub foot : ℕ
+foot = 1_024
+
 -- x1 or x2 at instant m: k × volume / (86,400 × Q), multiplied by m / 1024
 unfoldable pub exponent : (k volume Q m : ℕ) → Fraction
 exponent k volume Q m = ofℕ (k * volume * m) ÷ ofℕ (86_400 * 1_024 * Q)

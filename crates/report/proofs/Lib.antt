@@ -8,6 +8,15 @@ pub mod Bounds
 pub mod Lowest
 pub mod Forest
 pub mod Locality
+pub mod Offset
+pub mod Oxygen
+pub mod Walk
+pub mod Bytes
+pub mod Lines
+pub mod Feet
+pub mod Numbered
+pub mod Report
+pub mod Entry
 pub mod Ties
 pub mod Accuracy
 pub mod Demand3

@@ -5,6 +5,7 @@ use mathlib.Core.List.{List}
 use Prim.Native.Nat.{ℕ, zero, suc, _+_, _*_}
 use lib.IntN.{ℤ, pos, _+ℤ_, _-ℤ_, _*ℤ_}
 use lib.Signed.{ltZ}
+pub use Rattle.decay.specs.Exact.{foot}
 use Rattle.decay.specs.Fixed.{one, product}
 use Rattle.decay.specs.Step.{stepOf}
 use Rattle.decay.specs.Factors.{factorsAt}
@@ -33,10 +34,6 @@ bodAlong card Q L m = bodWith (factorsOf card Q m) L
 
 unfoldable pub oxygenAlong : Card → (Q L : ℕ) (C : ℤ) (m : ℕ) → ℤ
 oxygenAlong card Q L C m = oxygenWith (factorsOf card Q m) (saturation (card .temperature)) L C
-
--- the foot is instant 1,024
-abbrev pub foot : ℕ
-foot = 1_024
 
 -- the sum over the feeders of Q × foot BOD
 unfoldable pub bodSum : Feeders → ℕ

@@ -3,13 +3,12 @@
 use mathlib.Core.Bool.{Bool, true, false}
 use Prim.Native.Nat.{ℕ, _+_, _*_, _-_}
 use Rattle.decay.specs.Fraction.{Fraction, ofℕ, _+ᶠ_, _-ᶠ_, _*ᶠ_, _÷_}
-use Rattle.decay.specs.Exact.{exponent, S, F}
+use Rattle.decay.specs.Exact.{foot, exponent, S, F}
 use Rattle.river.specs.declared.card.Dam.{Dam}
 use Rattle.river.specs.declared.card.Dam.the-variants.{Absent, Aerating}
 use Rattle.river.specs.declared.card.Card.{Card}
 use Rattle.river.specs.Flow.{Feeders, none, more, fed, flowOf, reachFlow}
 use Rattle.river.specs.Saturation.{saturationThousandths}
-use Rattle.report.specs.Program.{foot}
 
 -- saturation, unrounded
 unfoldable pub exactSaturation : (temperature : ℕ) → Fraction

@@ -1,7 +1,7 @@
 -- Laws of answers: what passes a guard and a sequence, and what an accepted answer says about the guards before it.
 -- Assumes nothing.
 use Prim.Native.Nat.{ℕ}
-use mathlib.Core.Path.{_≡_, refl, ap, sym, _∙_}
+use mathlib.Core.Path.{_≡_, refl}
 use mathlib.Core.Bool.{Bool, true, false, _&&_}
 use native.Mathlib.Omega.{arith}
 use Rattle.river.specs.Refusal.{Answer, accepted, refused, refuse, need, choose, after}

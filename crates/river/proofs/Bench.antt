@@ -2,11 +2,11 @@
 use mathlib.Core.Path.{_≡_, refl}
 use mathlib.Core.List.{List, [], _∷_}
 use Prim.Native.Nat.{ℕ, _*_}
-use lib.IntN.{ℤ, pos}
+use lib.IntN.{pos}
 use Rattle.river.specs.declared.card.Dam.{Dam}
 use Rattle.river.specs.declared.card.Dam.the-variants.{Absent, Aerating}
 use Rattle.river.specs.declared.card.Card.{Card}
-use Rattle.river.specs.Refusal.{Answer, accepted, refused, refuse, need, after}
+use Rattle.river.specs.Refusal.{accepted, refused, refuse, need, after}
 use Rattle.river.specs.Read.{readFile, readHeader}
 use Rattle.river.specs.Flow.{fed, above, flowOf, massOf, deepest, feedersAmong, joined, flowAt, depthAt, damFits, flowCheck, checksFrom, reachChecks, checksOf, acceptFile}
 use Rattle.river.specs.Saturation.{saturation, saturationThousandths}

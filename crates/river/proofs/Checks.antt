@@ -1,8 +1,8 @@
 -- The check of one more reach: what the tables of the reaches that passed say of the next, and the tables after it.
-use mathlib.Core.Path.{_≡_, refl, sym, ap, _∙_}
+use mathlib.Core.Path.{_≡_, refl, ap, _∙_}
 use mathlib.Core.Logic.{⊎-elim}
 use mathlib.Core.List.{List, [], _∷_}
-use Prim.Native.Nat.{ℕ, zero, suc, _+_, _*_, _<_, _≤_}
+use Prim.Native.Nat.{ℕ, zero, suc, _+_, _<_, _≤_}
 use native.Mathlib.Nat.{add-zero, le-trans, mul-le-mul-left, not-suc-le-zero, eq-or-lt-of-le, le-of-suc-le-suc}
 use native.Mathlib.Numerals.{one-add}
 use native.Mathlib.Omega.{arith}
@@ -15,7 +15,7 @@ use Rattle.river.specs.declared.flow.FlowTable.{FlowTable}
 use Rattle.river.specs.declared.flow.Checked.{Checked}
 use Rattle.river.specs.Refusal.{Answer}
 use Rattle.river.specs.Card.{Lawful, LawfulCard, LawfulFrom}
-use Rattle.river.specs.Flow.{Feeders, none, more, blank, cardOf, above, feedersAmong, flowOf, massOf, deepest, fed, reachFlow, reachMass, reachDepth, ownMass, flowAt, massAt, depthAt, checksOf, reachChecks, goOn, tableSum, tableMax, Sound, Tabled, PassedFirst, NextInput, NextChecked}
+use Rattle.river.specs.Flow.{Feeders, blank, cardOf, above, flowOf, massOf, deepest, reachFlow, reachMass, reachDepth, ownMass, flowAt, massAt, depthAt, checksOf, reachChecks, goOn, tableSum, tableMax, Sound, Tabled, NextInput, NextChecked}
 use Rattle.river.proofs.Table.{Adds, TableOf, sum-of-feeders, sum-bounded, max-of-feeders, deepest-few, fed-deepest}
 
 -- the card of a reach of a lawful river is lawful

@@ -1,17 +1,17 @@
 -- Reading yields cards exactly for the files of lawful cards; so each river has one file.
 -- Assumes nothing.
-use Prim.Native.Nat.{ℕ, zero, suc, _+_, _≤_, _<_}
+use Prim.Native.Nat.{ℕ, zero, suc, _≤_}
 use mathlib.Core.Logic.{_↔_}
 use mathlib.Core.Path.{_≡_, refl, ap, sym, subst, _∙_}
 use mathlib.Core.List.{List, [], _∷_, _++_}
-use mathlib.Core.Bool.{Bool, true, false}
+use mathlib.Core.Bool.{false}
 use native.Mathlib.Nat.{div-add-mod'}
 use native.Mathlib.Omega.{arith}
 use lib.ListN.{length, drop}
 use borrow.Author.Tests.{le-leb, leb-true, eqb-true}
 use Rattle.river.specs.Bytes.{AreBytes, twoAt, marked}
-use Rattle.river.specs.Card.{Lawful, LawfulCard, LawfulFrom, LawfulDam, outletOk}
-use Rattle.river.specs.Read.{readHeader, readReach, readReaches, readFile, sizeOf}
+use Rattle.river.specs.Card.{Lawful, LawfulCard, LawfulFrom, LawfulDam}
+use Rattle.river.specs.Read.{readHeader, readReaches, readFile, sizeOf}
 use Rattle.river.specs.Refusal.{accepted}
 use Rattle.river.specs.Write.{encode, encodeDam, encodeCard, encodeCards, encodeHeader}
 use Rattle.river.specs.declared.card.Card.{Card}

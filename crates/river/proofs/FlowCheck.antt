@@ -1,14 +1,13 @@
 -- The flow check accepts exactly the rivers whose reaches pass the rules 7 to 11, and the laws of the loop over the reaches.
 use mathlib.Core.Path.{_≡_, refl, sym, ap, _∙_}
-use mathlib.Core.Logic.{⊎-elim, _↔_}
-use mathlib.Core.Bool.{Bool, true, false}
+use mathlib.Core.Logic.{⊎-elim}
+use mathlib.Core.Bool.{true}
 use mathlib.Core.List.{List}
 use Prim.Native.Nat.{ℕ, zero, suc, _+_, _*_, _-_, _<_, _≤_}
-use native.Mathlib.Nat.{le-refl, eq-or-lt-of-le, le-of-suc-le-suc, not-suc-le-zero, suc-sub-suc}
+use native.Mathlib.Nat.{le-refl, eq-or-lt-of-le, le-of-suc-le-suc, not-suc-le-zero}
 use native.Mathlib.Numerals.{add-one}
 use native.Mathlib.Omega.{arith}
-use lib.ListN.{length, getD}
-use lib.Dec.{leb, ltb}
+use lib.ListN.{length}
 use borrow.Author.Tests.{ltb-true, leb-true, lt-ltb, le-leb}
 use Rattle.river.specs.declared.card.Card.{Card}
 use Rattle.river.specs.declared.card.Dam.{Dam}
@@ -17,10 +16,9 @@ use Rattle.river.specs.declared.read.Outcome.{Outcome}
 use Rattle.river.specs.declared.refusal.Refusal.{Refusal}
 use Rattle.river.specs.declared.flow.FlowTable.{FlowTable}
 use Rattle.river.specs.declared.flow.Checked.{Checked}
-use Rattle.river.specs.Refusal.{Answer, accepted, refused, need}
-use Rattle.river.specs.Read.{outcomeOf}
+use Rattle.river.specs.Refusal.{Answer, accepted, refused}
 use Rattle.river.specs.Card.{Lawful}
-use Rattle.river.specs.Flow.{Feeders, cardOf, above, fed, flowOf, reachFlow, reachMass, damFits, DamRule, Sound, Flows, checksOf, reachChecks, checksFrom, flowCheck, goOn, Tabled, PassedFirst, NextInput, NextChecked, FlowChecked}
+use Rattle.river.specs.Flow.{Feeders, cardOf, above, fed, flowOf, reachFlow, reachMass, damFits, DamRule, Sound, Flows, checksOf, reachChecks, checksFrom, flowCheck, goOn, PassedFirst, NextInput, NextChecked, FlowChecked}
 use Rattle.river.proofs.Answers.{need-true, passed, both-true, both}
 use Rattle.river.proofs.Steps.{no-refusal}
 

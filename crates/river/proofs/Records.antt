@@ -1,15 +1,15 @@
 -- A reach is read from its card's records, and whatever is read as a reach is a lawful card's records.
 -- Assumes nothing.
-use Prim.Native.Nat.{ℕ, zero, suc, _+_, _≤_, _<_}
+use Prim.Native.Nat.{ℕ, _≤_}
 use mathlib.Core.Path.{_≡_, refl, ap, sym, subst, _∙_}
-use mathlib.Core.List.{List, [], _∷_, _++_, append-assoc}
+use mathlib.Core.List.{List, _∷_, _++_, append-assoc}
 use mathlib.Core.Bool.{Bool, true, false}
 use native.Mathlib.Nat.{div-add-mod'}
 use native.Mathlib.Omega.{arith}
-use lib.ListN.{length, drop, length-append}
+use lib.ListN.{length, drop}
 use lib.Seq.{drop-at}
 use borrow.Author.Tests.{le-leb, leb-true}
-use Rattle.river.specs.Bytes.{AreBytes, byteAt, twoAt, fourAt, twoBytes, fourBytes, marked}
+use Rattle.river.specs.Bytes.{AreBytes, byteAt, marked}
 use Rattle.river.specs.Card.{LawfulCard, LawfulDam, inRange, outletOk, damInRange}
 use Rattle.river.specs.Read.{cardAt, damAt, readDam, readReach, sizeOf, sizeOfDam}
 use Rattle.river.specs.Refusal.{accepted}

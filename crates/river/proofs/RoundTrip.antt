@@ -1,18 +1,18 @@
 -- Writing accepts exactly lawful cards; writing what was read gives the same bytes, and reading what was written the same cards.
 -- Assumes nothing.
-use Prim.Native.Nat.{ℕ, suc, _+_, _≤_, _<_}
+use Prim.Native.Nat.{ℕ, suc, _≤_, _<_}
 use mathlib.Core.Logic.{_↔_}
-use mathlib.Core.Path.{_≡_, refl, ap, sym, subst, _∙_}
+use mathlib.Core.Path.{_≡_, refl, ap, sym, _∙_}
 use mathlib.Core.List.{List, [], _∷_, _++_}
 use native.Mathlib.Omega.{arith}
 use lib.ListN.{length, take, drop}
 use lib.Seq.{take-at}
 use borrow.Author.Tests.{le-leb, leb-true}
 use Rattle.river.specs.Bytes.{AreBytes}
-use Rattle.river.specs.Card.{Lawful, LawfulFrom, river}
+use Rattle.river.specs.Card.{Lawful, LawfulCard, LawfulFrom, river}
 use Rattle.river.specs.Read.{readFile, answerOf, Reads}
 use Rattle.river.specs.Refusal.{accepted}
-use Rattle.river.specs.Write.{encode, checkFrom, writeAnswer, bufferAfter, writtenOf, Writes}
+use Rattle.river.specs.Write.{encode, checkCard, checkFrom, writeAnswer, bufferAfter, writtenOf, Writes}
 use Rattle.river.specs.declared.card.Card.{Card}
 use Rattle.river.specs.declared.read.Outcome.{Outcome}
 use Rattle.river.specs.declared.read.Reading.{Reading}
@@ -26,30 +26,38 @@ abbrev pub LoadsFit : List Card → Type 0
 LoadsFit [] = Unit
 LoadsFit (c ∷ cs) = (c .load < 4294967296) × LoadsFit cs
 
+checkCard-lawful : (n i : ℕ) (c : Card) → LawfulCard n i c → checkCard n i c ≡ accepted tt
+unfolding checkCard
+checkCard-lawful n i c h =
+    need-true _ _ _ _ (inRange-true c (h .in-range)) ∙
+    need-true _ _ _ _ (h .outlet) ∙
+    need-true _ _ _ _ (damInRange-true (c .dam) (h .dam))
+
 checkFrom-lawful : (n i : ℕ) (cs : List Card) → LawfulFrom n i cs → checkFrom n i cs ≡ accepted tt
 unfolding checkFrom
 checkFrom-lawful n i [] h = refl
 checkFrom-lawful n i (c ∷ cs) h =
-    need-true _ _ _ _ (inRange-true c (h .0 .in-range)) ∙
-    need-true _ _ _ _ (h .0 .outlet) ∙
-    need-true _ _ _ _ (damInRange-true (c .dam) (h .0 .dam)) ∙
-    checkFrom-lawful n (suc i) cs (h .1)
+    after-accepted _ _ (checkCard-lawful n i c (h .0)) ∙ checkFrom-lawful n (suc i) cs (h .1)
+
+checkCard-is : (n i : ℕ) (c : Card) {u : Unit} → c .load < 4294967296 → checkCard n i c ≡ accepted u → LawfulCard n i c
+unfolding checkCard
+checkCard-is n i c l e =
+    let p = passed _ _ _ _ e in
+    let q = passed _ _ _ _ (p .rest) in
+    let r = passed _ _ _ _ (q .rest) in
+    record {
+      in-range = true-inRange c (p .test);
+      load = l;
+      outlet = q .test;
+      dam = true-damInRange (c .dam) (r .test);
+    }
 
 checkFrom-is : (n i : ℕ) (cs : List Card) {u : Unit} → LoadsFit cs → checkFrom n i cs ≡ accepted u → LawfulFrom n i cs
 unfolding checkFrom
 checkFrom-is n i [] l e = tt
 checkFrom-is n i (c ∷ cs) l e =
-    let p = passed _ _ _ _ e in
-    let q = passed _ _ _ _ (p .rest) in
-    let r = passed _ _ _ _ (q .rest) in (
-      record {
-        in-range = true-inRange c (p .test);
-        load = l .0;
-        outlet = q .test;
-        dam = true-damInRange (c .dam) (r .test);
-      },
-      checkFrom-is n (suc i) cs (l .1) (r .rest),
-    )
+    let p = went _ _ e in
+    (checkCard-is n i c (l .0) (p .first), checkFrom-is n (suc i) cs (l .1) (p .then))
 
 -- what writing accepts: lawful cards whose file has room
 pub record HasRoom (cs : List Card) (room l : ℕ) : Type 0 where

@@ -1,7 +1,7 @@
 -- The answers of the functions that read, case by case: what each says about the definition that it answers for.
 -- Assumes nothing.
 use Prim.Native.Nat.{ℕ, _+_, _≤_}
-use mathlib.Core.Path.{_≡_, refl, ap, sym, _∙_}
+use mathlib.Core.Path.{_≡_, ap, sym, _∙_}
 use mathlib.Core.List.{List}
 use native.Mathlib.Omega.{arith}
 use lib.ListN.{drop}
@@ -20,7 +20,7 @@ use Rattle.river.proofs.Answers.{after-accepted, after-refused, passed}
 use Rattle.river.proofs.Ranges.{true-countOk}
 
 -- two constructors are not equal
-clash : {P : Type 0} → _≡_ {A = ℕ} 0 1 → P
+pub clash : {P : Type 0} → _≡_ {A = ℕ} 0 1 → P
 clash z = absurd (let h : ⊥ = omega arith in h)
 
 found : (x : Answer Dam) {d : Dam} → damOf x ≡ DamRead.Found d → x ≡ accepted d
@@ -79,6 +79,10 @@ file-refused s e = after-refused _ _ e
 pub size-small : (d : Dam) → sizeOfDam d ≤ 34
 size-small Absent = omega arith
 size-small (Aerating s g) = omega arith
+
+pub size-big : (d : Dam) → 26 ≤ sizeOfDam d
+size-big Absent = omega arith
+size-big (Aerating s g) = omega arith
 
 -- the card of a reach whose `RE` record has passed
 module _ (at i : ℕ) (s : List ℕ) where

@@ -1,11 +1,11 @@
 -- Sums and largest values of a table over the feeders of a reach: one step of the loop that makes them, their bounds,
 -- and that over the tables of a river they are the three-clause functions on the feeders.
-use mathlib.Core.Path.{_≡_, refl, sym, ap, _∙_}
+use mathlib.Core.Path.{_≡_, refl, sym, ap}
 use mathlib.Core.Bool.{Bool, true, false}
 use mathlib.Core.List.{List}
 use Prim.Native.Nat.{ℕ, zero, suc, _+_, _*_, _<_, _≤_, max, zero-le}
 use mathlib.Core.Logic.{⊎-elim}
-use native.Mathlib.Nat.{le-trans, le-refl, le-suc, le-suc-iff, le-add-left, not-suc-le-zero}
+use native.Mathlib.Nat.{le-trans, le-refl, le-suc-iff, le-add-left, not-suc-le-zero}
 use native.Mathlib.Numerals.{add-one}
 use native.Mathlib.Omega.{arith}
 use lib.ListN.{getD}

@@ -1,8 +1,10 @@
 -- Whole numbers as bytes, high byte first, and two-byte marks.
 use Prim.Native.Nat.{ℕ, _+_, _*_, _/_, _%_, _<_}
+use mathlib.Core.Path.{_≡_}
 use mathlib.Core.List.{List, [], _∷_, _++_}
 use mathlib.Core.Bool.{Bool, _&&_}
-use lib.ListN.{getD}
+use lib.ListN.{getD, length}
+use lib.Seq.{sets}
 use lib.Dec.{eqb}
 
 -- every element is a byte
@@ -32,3 +34,8 @@ fourAt s k = twoAt s k * 65536 + twoAt s (k + 2)
 -- whether the two bytes from a place on are a mark
 abbrev pub marked : List ℕ → ℕ → ℕ → ℕ → Bool
 marked s k a b = eqb (byteAt s k) a && eqb (byteAt s (k + 1)) b
+
+-- bytes are put at a place of a buffer, and the rest of it is kept; the next place is behind them
+pub record Put (before : List ℕ) (at : ℕ) (bytes left : List ℕ) (next : ℕ) : Type 0 where
+  pub buffer : left ≡ sets before at bytes
+  pub place : next ≡ at + length bytes

@@ -12,7 +12,7 @@ use Rattle.river.specs.declared.card.Card.{Card}
 use Rattle.river.specs.declared.flow.FlowTable.{FlowTable}
 use Rattle.river.specs.declared.head.FootTable.{FootTable}
 use Rattle.river.specs.declared.head.Head.{Head}
-use Rattle.river.specs.Card.{Lawful}
+use Rattle.river.specs.Card.{InRange, Lawful}
 use Rattle.river.specs.Flow.{Flows, Tabled, tableSum, cardOf, above, fed, flowOf, flowAt, massAt}
 use Rattle.river.specs.Saturation.{saturation}
 
@@ -61,6 +61,19 @@ headOxygen card fed Qu sum = mixedOxygen card Qu (belowDam card fed Qu (upstream
 -- the oxygen that a stored number stands for: the program stores it with 2^31 added
 unfoldable pub oxygenOf : ℕ → ℤ
 oxygenOf stored = subℕ stored 2147483648
+
+-- the numbers of a dam are in range, and its generating flow is at most Qu
+abbrev pub DamWithin : Dam → (Qu : ℕ) → Type 0
+DamWithin Absent Qu = Unit
+DamWithin (Aerating share generating) Qu = (share ≤ 1000) × (generating ≤ Qu)
+
+-- what an accepted river ensures at the head of a reach of its card, whether it has feeders, and Qu
+pub record HeadReady (card : Card) (fed : Bool) (Qu : ℕ) : Type 0 where
+  pub fields : InRange card
+  pub dam : DamWithin (card .dam) Qu
+  pub flowing : 0 < Qu + card .inflow
+  pub bounded : Qu + card .inflow ≤ 100000000
+  pub feeders-flow : fed ≡ true → 0 < Qu
 
 -- tables of flow × foot BOD and flow × stored foot oxygen of the first n reaches, in the bounds that feet have
 pub record Carried (cards : List Card) (feet : FootTable) (n : ℕ) : Type 0 where

@@ -1,15 +1,17 @@
 -- Writing: the file of a river, and what writing leaves in a buffer.
-use Prim.Native.Nat.{ℕ, suc, _+_}
+use Prim.Native.Nat.{ℕ, suc}
 use mathlib.Core.Path.{_≡_}
 use mathlib.Core.List.{List, [], _∷_, _++_}
 use lib.ListN.{length, drop}
 use lib.Dec.{leb}
 use Rattle.river.specs.Bytes.{twoBytes, fourBytes}
 use Rattle.river.specs.Card.{countOk, inRange, outletOk, damInRange}
-use Rattle.river.specs.Refusal.{Answer, accepted, refused, need, after}
+use Rattle.river.specs.Refusal.{Answer, accepted, refused, refuse, need, after}
 use Rattle.river.specs.declared.card.Card.{Card}
 use Rattle.river.specs.declared.card.Dam.{Dam}
 use Rattle.river.specs.declared.card.Dam.the-variants.{Absent, Aerating}
+use Rattle.river.specs.declared.refusal.Refusal.{Refusal}
+use Rattle.river.specs.declared.write.Check.{Check}
 use Rattle.river.specs.declared.write.Written.{Written}
 
 -- the `DM` record of a dam, if there is one
@@ -42,12 +44,16 @@ encodeHeader n = 82 ∷ 86 ∷ twoBytes n
 unfoldable pub encode : List Card → List ℕ
 encode cs = encodeHeader (length cs) ++ encodeCards cs
 
--- the reaches from i on, of n: for each 4 and 5, then its dam's 4
+-- the card of reach i of n: 4 and 5, then its dam's 4
+unfoldable pub checkCard : ℕ → ℕ → Card → Answer Unit
+checkCard n i c =
+    need (inRange c) 4 i
+    (need (outletOk n i (c .outlet)) 5 i (need (damInRange (c .dam)) 4 i (accepted tt)))
+
+-- the cards of the reaches from i on, of n
 unfoldable pub checkFrom : ℕ → ℕ → List Card → Answer Unit
 checkFrom n i [] = accepted tt
-checkFrom n i (c ∷ cs) =
-    need (inRange c) 4 i
-    (need (outletOk n i (c .outlet)) 5 i (need (damInRange (c .dam)) 4 i (checkFrom n (suc i) cs)))
+checkFrom n i (c ∷ cs) = after (checkCard n i c) (λ _. checkFrom n (suc i) cs)
 
 -- 3 for a reach count n, then the reaches, then 12 for a buffer of a length, else the file's length
 unfoldable pub writeAnswer : ℕ → List Card → ℕ → Answer ℕ
@@ -61,7 +67,15 @@ unfoldable pub bufferAfter : Answer ℕ → List Card → List ℕ → List ℕ
 bufferAfter (accepted l) cs before = encode cs ++ drop l before
 bufferAfter (refused r) cs before = before
 
--- the answer of the program, case by case
+-- the answers of the program, case by case: a check's, and that of writing
+abbrev pub checkOf : Answer Unit → Check
+checkOf (accepted u) = Check.Passed
+checkOf (refused r) = Check.Refused r
+
+abbrev pub checkRefusal : Check → Refusal
+checkRefusal Check.Passed = refuse 0 0
+checkRefusal (Check.Refused r) = r
+
 abbrev pub writtenOf : Written → Answer ℕ
 writtenOf (Written.Length l) = accepted l
 writtenOf (Written.Refused r) = refused r

@@ -1,7 +1,6 @@
 // Whole numbers as bytes, high byte first, and two-byte marks.
 ghost use mathlib.Core.Path.{_≡_};
-ghost use Prim.Native.Nat.{_+_, _≤_, _<_};
-ghost use lib.ListN.{length};
+ghost use Prim.Native.Nat.{_+_, _<_};
 ghost use Rattle.river.specs.Bytes.{byteAt, twoAt, fourAt, marked};
 
 // The byte at a place, 0 past the end.

@@ -1,4 +1,18 @@
 // Head of a reach: saturation, upstream means, the dam and mixing.
+ghost use mathlib.Core.Path.{_≡_};
+ghost use mathlib.Core.Bool.{true};
+ghost use Prim.Native.Nat.{_+_, _*_, _/_, _<_, _≤_};
+ghost use lib.ListN.{set};
+ghost use lib.IntN.{pos, subℕ, _+ℤ_, _-ℤ_, _*ℤ_};
+ghost use Rattle.river.specs.Flow.{ownMass};
+ghost use Rattle.river.specs.Saturation as Sat;
+ghost use Rattle.river.specs.Head.{floor, upstreamBod, upstreamOxygen, belowDam, headBod, headOxygen, oxygenOf, HeadReady, HeadInput, HeadOf};
+ghost use Rattle.river.specs.Card.{river};
+use crate::card::Card;
+use crate::card::Cards;
+use crate::card::Dam;
+use crate::flow::FlowTable;
+use crate::flow::feeder_sum;
 
 // Tables of the reaches above: flow times foot BOD, and flow times stored foot oxygen. Oxygen is stored as its units plus 2^31.
 pub struct FootTable {
@@ -10,4 +24,133 @@ pub struct FootTable {
 pub struct Head {
     pub bod: u32,
     pub oxygen: u32,
+}
+
+// Saturation in units at a temperature in degrees C.
+pub fn saturation(temperature: u8) -> u32
+    requires { ⌜ temperature ≤ 35 ⌝ }
+    ensures { λ r. ⌜ r ≡ Sat.saturation temperature ⌝ }
+{
+    let t = temperature as u64;
+    let square = t * t;
+    ((14652000000 + 7991000 * square - (410220000 * t + 77774 * (square * t))) / 1000) as u32
+}
+
+// The floor of a * b / d by long division in two chunks of 16 bits of a.
+fn share_of(a: u32, b: u64, d: u64) -> u64
+    requires { ⌜ (0 < d) × (b ≤ d) × (d ≤ 100000000000) ⌝ }
+    ensures { λ r. ⌜ r ≡ a * b / d ⌝ }
+{
+    let high = (a / 65536) as u64;
+    let low = (a % 65536) as u64;
+    let first = high * b;
+    let rest = first % d * 65536 + low * b;
+    first / d * 65536 + rest / d
+}
+
+// Stored oxygen after the weight out of the whole of the water has come to saturation.
+fn aerate(oxygen: u32, saturated: u32, weight: u64, whole: u64) -> u32
+    requires { ⌜ (0 < whole) × (weight ≤ whole) × (whole ≤ 100000000000) ⌝ }
+    ensures { λ r. ⌜ oxygenOf r ≡ oxygenOf oxygen +ℤ floor ((oxygenOf saturated -ℤ oxygenOf oxygen) *ℤ pos weight) whole ⌝ }
+{
+    if oxygen <= saturated {
+        oxygen + share_of(saturated - oxygen, weight, whole) as u32
+    } else {
+        saturated + share_of(oxygen - saturated, whole - weight, whole) as u32
+    }
+}
+
+// Stored oxygen below the dam of a reach that has feeders.
+fn below_dam(card: Card, qu: u64, oxygen: u32) -> u32
+    requires { ⌜ HeadReady card true qu ⌝ }
+    ensures { λ r. ⌜ oxygenOf r ≡ belowDam card true qu (oxygenOf oxygen) ⌝ }
+{
+    let dam = card.dam;
+    match dam {
+        Dam::Absent => oxygen,
+        Dam::Aerating { share, generating } => aerate(
+            oxygen,
+            2147483648 + saturation(card.temperature),
+            (share as u64) * (qu - generating as u64),
+            1000 * qu,
+        ),
+    }
+}
+
+// Stored upstream oxygen below the dam, from the sum of flow times stored foot oxygen.
+fn upstream_oxygen(card: Card, fed: bool, qu: u64, sum: u64) -> u32
+    requires { ⌜ HeadReady card fed qu × (sum ≤ 4294967295 * qu) ⌝ }
+    ensures { λ r. ⌜ oxygenOf r ≡ belowDam card fed qu (upstreamOxygen fed qu (subℕ sum (2147483648 * qu))) ⌝ }
+{
+    if fed {
+        below_dam(card, qu, (sum / qu) as u32)
+    } else {
+        2147483648
+    }
+}
+
+// Upstream BOD from the sum of flow times foot BOD.
+fn upstream_bod(fed: bool, qu: u64, sum: u64) -> u64
+    requires { ⌜ (fed ≡ true → 0 < qu) ⌝ }
+    ensures { λ r. ⌜ r ≡ upstreamBod fed qu sum ⌝ }
+{
+    if fed { sum / qu } else { 0 }
+}
+
+// Head BOD.
+fn head_bod(card: Card, fed: bool, qu: u64, sum: u64) -> u32
+    requires { ⌜ HeadReady card fed qu × (sum + 1000 * ownMass card ≤ 1000000000 * (qu + card .inflow)) ⌝ }
+    ensures { λ r. ⌜ r ≡ headBod card fed qu sum ⌝ }
+{
+    let upstream = upstream_bod(fed, qu, sum);
+    let inflow = card.inflow as u64;
+    ((qu * upstream + 1000 * inflow * (card.inflow_bod as u64) + 1000000 * (card.load as u64))
+        / (qu + inflow)) as u32
+}
+
+// Stored head oxygen.
+fn head_oxygen(card: Card, fed: bool, qu: u64, sum: u64) -> u32
+    requires { ⌜ HeadReady card fed qu × (sum ≤ 4294967295 * qu) ⌝ }
+    ensures { λ r. ⌜ oxygenOf r ≡ headOxygen card fed qu (subℕ sum (2147483648 * qu)) ⌝ }
+{
+    let upstream = upstream_oxygen(card, fed, qu, sum) as u64;
+    let inflow = card.inflow as u64;
+    ((qu * upstream + inflow * (2147483648 + 1000 * (card.inflow_oxygen as u64)))
+        / (qu + inflow)) as u32
+}
+
+// The tables of no feet.
+pub fn no_feet() -> FootTable {
+    FootTable {
+        bod: [0u64; 128],
+        oxygen: [0u64; 128],
+    }
+}
+
+// The tables with the foot of reach i + 1.
+pub fn put_foot(feet: FootTable, i: usize, flow: u64, bod: u32, oxygen: u32) -> FootTable
+    requires { ⌜ (i < 128) × (flow ≤ 100000000) ⌝ }
+    ensures { λ r. ⌜ (r .bod ≡ set (feet .bod) i (flow * bod)) × (r .oxygen ≡ set (feet .oxygen) i (flow * oxygen)) ⌝ }
+{
+    let mut next = feet;
+    next.bod[i] = flow * (bod as u64);
+    next.oxygen[i] = flow * (oxygen as u64);
+    next
+}
+
+// The head of reach i + 1 of an accepted river, from its flows and the feet of the reaches before it.
+pub fn head_of(cards: Cards, flows: FlowTable, feet: FootTable, i: usize) -> Head
+    requires { ⌜ HeadInput (river cards) flows feet i ⌝ }
+    ensures { λ r. ⌜ HeadOf (river cards) flows feet i r ⌝ }
+{
+    let card = cards.at[i];
+    let reach = (i + 1) as u8;
+    let bod_sum = feeder_sum(&flows.outlet, &feet.bod, i, reach);
+    let oxygen_sum = feeder_sum(&flows.outlet, &feet.oxygen, i, reach);
+    let fed = 1 < flows.depth[i];
+    let qu = flows.flow[i] - card.inflow as u64;
+    Head {
+        bod: head_bod(card, fed, qu, bod_sum),
+        oxygen: head_oxygen(card, fed, qu, oxygen_sum),
+    }
 }

@@ -3,6 +3,7 @@ pub mod bytes;
 pub mod card;
 pub mod flow;
 pub mod head;
+pub mod put;
 pub mod range;
 pub mod read;
 pub mod refusal;

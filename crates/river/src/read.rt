@@ -1,7 +1,7 @@
 // Reading of a river file: the header, then card after card.
 ghost use mathlib.Core.Path.{_≡_};
 ghost use Prim.Native.Nat.{_+_, _≤_, _<_};
-ghost use lib.ListN.{length, drop};
+ghost use lib.ListN.{drop};
 ghost use Rattle.river.specs.Refusal.{Answer, accepted, after};
 ghost use Rattle.river.specs.Read.{readHeader, headerOf, headerRefusal, cardAt, readDam, damOf, sizeOfDam, readReach, reachOf, reachRefusal, readReaches, Yields, Reads};
 use crate::bytes::byte_at;

@@ -1,13 +1,10 @@
 -- `river::flow::check_next` meets its contract: the laws of proofs/Checks over what its calls yield.
 use borrow.Author.Needs.{needs}
-use mathlib.Core.Path.{_≡_, refl}
-use Prim.Native.Nat.{_<_, _≤_}
 use native.Mathlib.Nat.{lt-of-le-of-lt}
 use native.Mathlib.Numerals.{add-one}
 use native.Mathlib.Omega.{arith}
 use lib.Dec.{lit<}
 use lib.ListN.{length-map}
-use Rattle.river.specs.Card.{InRange}
 use Rattle.river.proofs.Count.{card-of-river, card-in-range, own-mass-few}
 use Rattle.river.proofs.Checks.{index-few, flow-fits, mass-fits, small-flow, small-mass, small-depth, next-checked}
 use Rattle.river.proofs.flow.check_next.Statement.{statement}

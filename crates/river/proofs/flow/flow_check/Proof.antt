@@ -3,7 +3,7 @@ use Prim.Native.Nat.{_-_}
 use native.Mathlib.Omega.{arith}
 use borrow.Author.Needs.{needs}
 use lib.ListN.{length}
-use mathlib.Core.Path.{_≡_, sym, _∙_}
+use mathlib.Core.Path.{_≡_}
 use Rattle.river.specs.Card.{river}
 use Rattle.river.proofs.FlowCheck.{Underway, at-start, next-input, at-refusal, at-next, at-end, refused-checked}
 use Rattle.river.proofs.flow.flow_check.Statement.{statement}

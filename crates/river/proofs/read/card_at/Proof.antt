@@ -1,9 +1,6 @@
 -- `river::read::card_at` meets its contract: each field is what its call reads.
 -- Assumes nothing.
 use borrow.Author.Needs.{needs}
-use borrow.Author.Tests.{le-leb, lt-leb}
-use native.Mathlib.Omega.{arith}
-use mathlib.Core.Path.{sym, _∙_, ap}
 use Rattle.river.specs.Read.{cardAt}
 use Rattle.river.proofs.read.card_at.Statement.{statement}
 use Rattle.river.proofs.read.card_at.Tie as tie

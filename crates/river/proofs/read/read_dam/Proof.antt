@@ -2,8 +2,6 @@
 -- Assumes nothing.
 use borrow.Author.Needs.{needs}
 use borrow.Author.Tests.{le-leb, lt-leb, not-true, not-false}
-use native.Mathlib.Omega.{arith}
-use mathlib.Core.Path.{sym, _∙_, ap}
 use Rattle.river.specs.Read.{readDam, damAt}
 use Rattle.river.specs.Refusal.{need, choose}
 use Rattle.river.proofs.read.read_dam.Statement.{statement}

@@ -4,7 +4,7 @@ use borrow.Author.Needs.{needs}
 use borrow.Author.Tests.{le-leb, lt-leb, not-true, not-false}
 use Rattle.river.proofs.Ranges.{true-countOk}
 use native.Mathlib.Omega.{arith}
-use mathlib.Core.Path.{sym, _∙_, ap}
+use mathlib.Core.Path.{sym, _∙_}
 use Rattle.river.specs.Read.{readHeader}
 use Rattle.river.specs.Refusal.{need}
 use Rattle.river.proofs.read.read_header.Statement.{statement}

@@ -1,0 +1,21 @@
+-- `report::profile::begin` meets its contract: the factors of the head are shares, and its oxygen is the lowest so far.
+-- Assumes nothing.
+use borrow.Author.Needs.{needs}
+use Rattle.decay.proofs.Instants.{start-range}
+use Rattle.report.proofs.Walk.{walk-begins}
+use Rattle.report.proofs.profile.begin.Statement.{statement}
+use Rattle.report.proofs.profile.begin.Tie as tie
+
+start-requires : tie.Need-start-requires
+start-requires c κs = search needs
+
+oxygen-with-requires : tie.Need-oxygen-with-requires
+oxygen-with-requires c κs = (rw (c .start .ensures) start-range, c .before .pre)
+
+returns : tie.Need-returns
+returns c =
+    walk-begins (c .before .before .args .step) (c .before .before .args .start) _ _ (c .before .start .ensures)
+    (c .oxygen-with .ensures)
+
+pub begin-spec : {M : Type 1} → statement M
+begin-spec = tie.close (tie.spec start-requires oxygen-with-requires returns)

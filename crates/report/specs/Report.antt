@@ -1,0 +1,80 @@
+-- "Reporting" of document 01: what a call of the entry returns and leaves in the report buffer.
+use mathlib.Core.Path.{_≡_}
+use mathlib.Core.List.{List, [], _++_}
+use Prim.Native.Nat.{ℕ, zero, suc, _*_, _≤_, _<_}
+use lib.Dec.{leb}
+use lib.ListN.{length, drop}
+use Rattle.river.specs.declared.card.Card.{Card}
+use Rattle.river.specs.Refusal.{Answer, accepted, refused, need, after, codeOf}
+use Rattle.river.specs.Flow.{cardOf, above, depthAt, flowCheck, acceptFile}
+use Rattle.report.specs.Program.{figuresAt}
+use Rattle.report.specs.Distance.{WithinAllowance}
+use Rattle.report.specs.Record.{encodeRecord, readRecord}
+
+-- the records of the first n reaches of a river
+unfoldable pub recordsOf : List Card → ℕ → List ℕ
+recordsOf cards zero = []
+recordsOf cards (suc n) = recordsOf cards n ++ encodeRecord (figuresAt cards (suc n))
+
+-- the report of a river
+abbrev pub reportOf : List Card → List ℕ
+reportOf cards = recordsOf cards (length cards)
+
+-- 12 with reach 0 for a buffer of fewer than 29 × n bytes
+unfoldable pub roomAnswer : (room : ℕ) → List Card → Answer (List Card)
+roomAnswer room cards = need (leb (29 * length cards) room) 12 0 (accepted cards)
+
+-- reporting refuses as reading, then as the flow check, then for want of room
+unfoldable pub reportAnswer : (file : List ℕ) (room : ℕ) → Answer (List Card)
+reportAnswer file room = after (acceptFile file) (roomAnswer room)
+
+-- the same of a river that was read
+unfoldable pub riverAnswer : (cards : List Card) (room : ℕ) → Answer (List Card)
+riverAnswer cards room = after (flowCheck cards) (roomAnswer room)
+
+-- the result: 0 for a river that is reported, and number + 256 × reach for a refusal
+unfoldable pub resultOf : Answer (List Card) → ℕ
+resultOf (accepted cards) = 0
+resultOf (refused r) = codeOf r
+
+-- the buffer afterwards: the report and then what stood there, and as it was after a refusal
+unfoldable pub bufferAfter : Answer (List Card) → List ℕ → List ℕ
+bufferAfter (accepted cards) before = reportOf cards ++ drop (29 * length cards) before
+bufferAfter (refused r) before = before
+
+-- a call with this answer, the report buffer before and after, and the result
+pub record Leaves (answer : Answer (List Card)) (before after : List ℕ) (result : ℕ) : Type 0 where
+  pub result-is : result ≡ resultOf answer
+  pub buffer-is : after ≡ bufferAfter answer before
+
+-- the file's river is accepted, and a buffer of so many bytes can hold its report
+pub record Accepted (file : List ℕ) (room : ℕ) : Type 0 where
+  pub cards : List Card
+  pub passes : acceptFile file ≡ accepted cards
+  pub holds : 29 * length cards ≤ room
+
+-- what stands in the buffer at reach i + 1
+abbrev pub recordAt : List ℕ → ℕ → List ℕ
+recordAt buffer i = drop (29 * i) buffer
+
+-- a call on a file, with the report buffer before and after, that returns the result
+pub record Reports (file before after : List ℕ) (result : ℕ) : Type 0 where
+  -- the result, by the order of refusals
+  pub answer : result ≡ resultOf (reportAnswer file (length before))
+  -- it is 0 exactly for an accepted river whose report the buffer can hold
+  pub accepts : result ≡ 0 → Accepted file (length before)
+  pub zero : Accepted file (length before) → result ≡ 0
+  -- the whole buffer: untouched by a refusal, else each reach's record, and past 29 × n what stood there
+  pub buffer : after ≡ bufferAfter (reportAnswer file (length before)) before
+  -- the depth in the bytes is the reach's
+  pub depth :
+      (river : Accepted file (length before)) (i : ℕ) →
+      i < length (river .cards) →
+      readRecord (recordAt after i) .depth ≡ depthAt (river .cards) (suc i)
+  -- demand 3, at every reach and every series length from 40 on, of the figures in the bytes
+  pub within :
+      (river : Accepted file (length before)) (i : ℕ) →
+      i < length (river .cards) →
+      (N : ℕ) →
+      40 ≤ N →
+      WithinAllowance N (cardOf (river .cards) (suc i)) (above (river .cards) (suc i)) (readRecord (recordAt after i))

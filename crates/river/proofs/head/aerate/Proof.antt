@@ -1,0 +1,83 @@
+-- `river::head::aerate` meets its contract, from below saturation and from above.
+use borrow.Author.Needs.{needs}
+use Prim.Native.Nat.{_-_}
+use native.Mathlib.Omega.{arith}
+use Rattle.river.proofs.HeadBounds.{share-small}
+use Rattle.river.proofs.Stored.{rise-stored, fall-stored}
+use Rattle.river.proofs.head.aerate.Statement.{statement}
+use Rattle.river.proofs.head.aerate.Tie as tie
+
+share-of-requires : tie.Need-share-of-requires
+share-of-requires c κs = search needs
+
+cast-result : tie.Need-cast-result
+cast-result c =
+    let o = c .before .before .args .oxygen in
+    let s = c .before .before .args .saturated in
+    let w = c .before .before .args .weight in
+    let d = c .before .before .args .whole in
+    omega (arith, share-small (s - o) w d (c .before .before .pre .1))
+
+add-result : tie.Need-add-result
+add-result c =
+    let o = c .before .before .args .oxygen in
+    let s = c .before .before .args .saturated in
+    let w = c .before .before .args .weight in
+    let d = c .before .before .args .whole in
+    omega (arith, share-small (s - o) w d (c .before .before .pre .1))
+
+sub-share-of : tie.Need-sub-share-of
+sub-share-of c = search needs
+
+sub-share-of-2 : tie.Need-sub-share-of-2
+sub-share-of-2 c = search needs
+
+share-of-requires-2 : tie.Need-share-of-requires-2
+share-of-requires-2 c κs = search needs
+
+cast-result-2 : tie.Need-cast-result-2
+cast-result-2 c =
+    let o = c .before .before .args .oxygen in
+    let s = c .before .before .args .saturated in
+    let w = c .before .before .args .weight in
+    let d = c .before .before .args .whole in
+    omega (arith, share-small (o - s) (d - w) d (omega arith))
+
+add-result-2 : tie.Need-add-result-2
+add-result-2 c =
+    let o = c .before .before .args .oxygen in
+    let s = c .before .before .args .saturated in
+    let w = c .before .before .args .weight in
+    let d = c .before .before .args .whole in
+    omega (arith, share-small (o - s) (d - w) d (omega arith))
+
+returns : tie.Need-returns
+returns c =
+    let o = c .before .before .args .oxygen in
+    let s = c .before .before .args .saturated in
+    let w = c .before .before .args .weight in
+    let d = c .before .before .args .whole in
+    rw (c .share-of .ensures) (rise-stored o s w d (c .before .if1 .taken))
+
+returns-2 : tie.Need-returns-2
+returns-2 c =
+    let o = c .before .before .args .oxygen in
+    let s = c .before .before .args .saturated in
+    let w = c .before .before .args .weight in
+    let d = c .before .before .args .whole in
+    rw (c .share-of2 .ensures) (fall-stored o s w d (c .before .before .pre .0) (c .before .before .pre .1) (omega arith))
+
+pub aerate-spec : {M : Type 1} → statement M
+aerate-spec =
+    tie.close
+    (tie.spec
+    share-of-requires
+    cast-result
+    add-result
+    sub-share-of
+    sub-share-of-2
+    share-of-requires-2
+    cast-result-2
+    add-result-2
+    returns
+    returns-2)

@@ -1,0 +1,76 @@
+-- `river::head::below_dam` meets its contract, by the cases of the dam.
+use borrow.Author.Needs.{needs}
+use mathlib.Core.Path.{refl, _∙_}
+use native.Mathlib.Nat.{mul-le-mul}
+use native.Mathlib.Omega.{arith}
+use Rattle.river.specs.Head.{belowDam, aerated}
+use Rattle.river.proofs.HeadBounds.{saturation-small, dam-numbers, weight-fits}
+use Rattle.river.proofs.Stored.{saturated-stored}
+use Rattle.river.proofs.head.below_dam.Statement.{statement}
+use Rattle.river.proofs.head.below_dam.Tie as tie
+
+enum-told : tie.Need-enum-told
+enum-told c = search needs
+
+enum-known-dam : tie.Need-enum-known-dam
+enum-known-dam c = search needs
+
+saturation-requires : tie.Need-saturation-requires
+saturation-requires c κs = search needs
+
+add-aerate : tie.Need-add-aerate
+add-aerate c =
+    let start = c .before .before .before .before in
+    omega (arith, saturation-small (start .args .card .temperature) (start .pre .fields .temperature))
+
+cast-aerate : tie.Need-cast-aerate
+cast-aerate c = search needs
+
+cast-aerate-2 : tie.Need-cast-aerate-2
+cast-aerate-2 c = search needs
+
+sub-aerate : tie.Need-sub-aerate
+sub-aerate c =
+    let start = c .before .before .before .before in
+    omega (arith, dam-numbers (c .before .before .dam .given .1) (start .pre .dam))
+
+mul-aerate : tie.Need-mul-aerate
+mul-aerate c =
+    let start = c .before .before .before .before in
+    let w = dam-numbers (c .before .before .dam .given .1) (start .pre .dam) in
+    record { fits = weight-fits (w .0) (omega (arith, start .pre .bounded)) }
+
+mul-aerate-2 : tie.Need-mul-aerate-2
+mul-aerate-2 c = search needs
+
+aerate-requires : tie.Need-aerate-requires
+aerate-requires c κs =
+    let start = c .before .before .before .before in
+    let w = dam-numbers (c .before .before .dam .given .1) (start .pre .dam) in
+    (omega (arith, start .pre .feeders-flow refl), mul-le-mul (w .0) (omega arith), omega (arith, start .pre .bounded))
+
+returns : tie.Need-returns
+unfolding belowDam aerated
+returns c = rw (c .enum-told .given .1)
+
+returns-2 : tie.Need-returns-2
+unfolding belowDam aerated
+returns-2 c =
+    c .aerate .ensures ∙ rw (saturated-stored, c .before .saturation .ensures, c .before .before .before .dam .given .1)
+
+pub below-dam-spec : {M : Type 1} → statement M
+below-dam-spec =
+    tie.close
+    (tie.spec
+    enum-told
+    enum-known-dam
+    saturation-requires
+    add-aerate
+    cast-aerate
+    cast-aerate-2
+    sub-aerate
+    mul-aerate
+    mul-aerate-2
+    aerate-requires
+    returns
+    returns-2)

@@ -1,0 +1,91 @@
+-- `river::head::share_of` meets its contract: long division in two chunks.
+use borrow.Author.Needs.{needs}
+use Prim.Native.Nat.{_≤_, _/_, _%_, _*_}
+use native.Mathlib.Nat.{mul-le-mul, mod-lt}
+use native.Mathlib.Omega.{arith}
+use Rattle.river.proofs.HeadBounds.{share-small, long-division}
+use Rattle.river.proofs.head.share_of.Statement.{statement}
+use Rattle.river.proofs.head.share_of.Tie as tie
+
+cast-high : tie.Need-cast-high
+cast-high c = search needs
+
+cast-low : tie.Need-cast-low
+cast-low c = search needs
+
+mul-first : tie.Need-mul-first
+mul-first c =
+    let a = c .args .a in
+    let b = c .args .b in
+    let h : a / 65536 ≤ 65535 = omega arith in
+    let k : b ≤ 100000000000 = omega arith in
+    omega (arith, mul-le-mul h k)
+
+rem-rest : tie.Need-rem-rest
+rem-rest c = search needs
+
+mul-rest : tie.Need-mul-rest
+mul-rest c =
+    let a = c .args .a in
+    let b = c .args .b in
+    omega (arith, mod-lt (a / 65536 * b) (c .pre .0))
+
+mul-rest-2 : tie.Need-mul-rest-2
+mul-rest-2 c =
+    let a = c .args .a in
+    let b = c .args .b in
+    let h : a % 65536 ≤ 65535 = omega arith in
+    let k : b ≤ 100000000000 = omega arith in
+    omega (arith, mul-le-mul h k)
+
+add-rest : tie.Need-add-rest
+add-rest c =
+    let a = c .args .a in
+    let b = c .args .b in
+    let h : a % 65536 ≤ 65535 = omega arith in
+    let k : b ≤ 100000000000 = omega arith in
+    omega (arith, mod-lt (a / 65536 * b) (c .pre .0), mul-le-mul h k)
+
+div-result : tie.Need-div-result
+div-result c = search needs
+
+mul-result : tie.Need-mul-result
+mul-result c =
+    let a = c .args .a in
+    let b = c .args .b in
+    let d = c .args .d in
+    omega (arith, share-small (a / 65536) b d (c .pre .1))
+
+div-result-2 : tie.Need-div-result-2
+div-result-2 c = search needs
+
+add-result : tie.Need-add-result
+add-result c =
+    let a = c .args .a in
+    let b = c .args .b in
+    let d = c .args .d in
+    omega (arith, long-division a b d (c .pre .0), share-small a b d (c .pre .1))
+
+returns : tie.Need-returns
+returns c =
+    let a = c .args .a in
+    let b = c .args .b in
+    let d = c .args .d in
+    long-division a b d (c .pre .0)
+
+pub share-of-spec : {M : Type 1} → statement M
+share-of-spec =
+    tie.close
+    (tie.spec
+    cast-high
+    cast-low
+    mul-first
+    rem-rest
+    mul-rest
+    mul-rest-2
+    add-rest
+    div-result
+    mul-result
+    div-result-2
+    add-result
+    returns)

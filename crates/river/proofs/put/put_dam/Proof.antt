@@ -1,0 +1,48 @@
+-- `river::put::put_dam` meets its contract: by the dam's cases; runs of bytes, one behind the other.
+-- Assumes nothing.
+use borrow.Author.Needs.{needs}
+use native.Mathlib.Omega.{arith}
+use Rattle.river.proofs.Puts.{chain, put-none}
+use Rattle.river.proofs.put.put_dam.Statement.{statement}
+use Rattle.river.proofs.put.put_dam.Tie as tie
+
+enum-known-dam : tie.Need-enum-known-dam
+enum-known-dam c = search needs
+
+enum-told : tie.Need-enum-told
+enum-told c = search needs
+
+returns : tie.Need-returns
+returns c = put-none _ _ _ (c .enum-told .given .1)
+
+put-pair-requires : tie.Need-put-pair-requires
+put-pair-requires c κs = let h = rw (c .before .before .dam .given .1) at (c .before .before .before .before .before .pre) in omega (arith, h)
+
+put-two-requires : tie.Need-put-two-requires
+put-two-requires c κs = let a = c .before .before .before .before .before in let h = rw (a .before .dam .given .1) at (a .before .before .before .before .pre) in omega (arith, h)
+
+put-four-requires : tie.Need-put-four-requires
+put-four-requires c κs = let a = c .before .before .before .before .before .before .before .before .before in let h = rw (a .before .dam .given .1) at (a .before .before .before .before .pre) in omega (arith, h)
+
+same-length : tie.Need-same-length
+same-length c = search needs
+
+returns-2 : tie.Need-returns-2
+returns-2 c =
+    let d = c .before .before in
+    let b = d .before .before .before .before in
+    let a = b .before .before .before .before in
+    rw (a .before .before .before .dam .given .1) (chain (chain (a .put-pair .ensures) (b .put-two .ensures)) (d .put-four .ensures))
+
+pub put-dam-spec : {M : Type 1} → statement M
+put-dam-spec =
+    tie.close
+    (tie.spec
+    enum-known-dam
+    enum-told
+    returns
+    put-pair-requires
+    put-two-requires
+    put-four-requires
+    same-length
+    returns-2)

@@ -1,0 +1,23 @@
+-- `river::put::put_header` meets its contract: two runs of bytes, one behind the other.
+-- Assumes nothing.
+use borrow.Author.Needs.{needs}
+use Rattle.river.proofs.Puts.{chain}
+use Rattle.river.proofs.put.put_header.Statement.{statement}
+use Rattle.river.proofs.put.put_header.Tie as tie
+
+put-pair-requires : tie.Need-put-pair-requires
+put-pair-requires c κs = search needs
+
+put-two-requires : tie.Need-put-two-requires
+put-two-requires c κs = search needs
+
+same-length : tie.Need-same-length
+same-length c = search needs
+
+returns : tie.Need-returns
+returns c =
+    let b = c .before .before in
+    chain (b .before .before .before .before .put-pair .ensures) (b .put-two .ensures)
+
+pub put-header-spec : {M : Type 1} → statement M
+put-header-spec = tie.close (tie.spec put-pair-requires put-two-requires same-length returns)

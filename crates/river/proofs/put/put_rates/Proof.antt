@@ -1,0 +1,40 @@
+-- `river::put::put_rates` meets its contract: runs of bytes, one behind the other.
+-- Assumes nothing.
+use borrow.Author.Needs.{needs}
+use Rattle.river.proofs.Puts.{chain}
+use Rattle.river.proofs.put.put_rates.Statement.{statement}
+use Rattle.river.proofs.put.put_rates.Tie as tie
+
+put-pair-requires : tie.Need-put-pair-requires
+put-pair-requires c κs = search needs
+
+put-pair-requires-2 : tie.Need-put-pair-requires-2
+put-pair-requires-2 c κs = search needs
+
+put-two-requires : tie.Need-put-two-requires
+put-two-requires c κs = search needs
+
+put-two-requires-2 : tie.Need-put-two-requires-2
+put-two-requires-2 c κs = search needs
+
+same-length : tie.Need-same-length
+same-length c = search needs
+
+returns : tie.Need-returns
+returns c =
+    let e = c .before .before in
+    let d = e .before .before .before .before in
+    let b = d .before .before .before .before in
+    let a = b .before .before .before .before in
+    chain (chain (chain (a .put-pair .ensures) (b .put-pair2 .ensures)) (d .put-two .ensures)) (e .put-two2 .ensures)
+
+pub put-rates-spec : {M : Type 1} → statement M
+put-rates-spec =
+    tie.close
+    (tie.spec
+    put-pair-requires
+    put-pair-requires-2
+    put-two-requires
+    put-two-requires-2
+    same-length
+    returns)

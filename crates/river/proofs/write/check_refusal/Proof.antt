@@ -1,0 +1,20 @@
+-- `river::write::check_refusal` meets its contract: by the answer's cases.
+-- Assumes nothing.
+use borrow.Author.Needs.{needs}
+use Rattle.river.proofs.write.check_refusal.Statement.{statement}
+use Rattle.river.proofs.write.check_refusal.Tie as tie
+
+enum-known-answer : tie.Need-enum-known-answer
+enum-known-answer c = search needs
+
+enum-told : tie.Need-enum-told
+enum-told c = search needs
+
+returns : tie.Need-returns
+returns c = search needs
+
+returns-2 : tie.Need-returns-2
+returns-2 c = rw (c .enum-told .given .1)
+
+pub check-refusal-spec : {M : Type 1} → statement M
+check-refusal-spec = tie.close (tie.spec enum-known-answer enum-told returns returns-2)

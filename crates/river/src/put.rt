@@ -1,0 +1,100 @@
+// Records put into a buffer.
+ghost use Prim.Native.Nat.{_+_, _≤_};
+ghost use mathlib.Core.List.{[], _∷_, _++_};
+ghost use lib.ListN.{length};
+ghost use Rattle.river.specs.Bytes.{Put, twoBytes, fourBytes};
+ghost use Rattle.river.specs.Read.{sizeOf, sizeOfDam};
+ghost use Rattle.river.specs.Write.{encodeCard, encodeDam, encodeHeader};
+use crate::card::Card;
+use crate::card::Dam;
+
+// Two bytes at a place, and the next place.
+fn put_pair(out: &mut [u8], at: usize, a: u8, b: u8) -> usize
+    requires { ⌜ at + 2 ≤ length (now out) ⌝ }
+    ensures { λ r. ⌜ Put (now (out .entry)) at (a ∷ b ∷ []) (now (out .exit)) r ⌝ }
+{
+    out[at] = a;
+    out[at + 1] = b;
+    at + 2
+}
+
+// A number as two bytes.
+fn put_two(out: &mut [u8], at: usize, x: u16) -> usize
+    requires { ⌜ at + 2 ≤ length (now out) ⌝ }
+    ensures { λ r. ⌜ Put (now (out .entry)) at (twoBytes x) (now (out .exit)) r ⌝ }
+{
+    put_pair(out, at, (x / 256) as u8, (x % 256) as u8)
+}
+
+// A number as four bytes.
+fn put_four(out: &mut [u8], at: usize, x: u32) -> usize
+    requires { ⌜ at + 4 ≤ length (now out) ⌝ }
+    ensures { λ r. ⌜ Put (now (out .entry)) at (fourBytes x) (now (out .exit)) r ⌝ }
+{
+    let next = put_two(out, at, (x / 65536) as u16);
+    put_two(out, next, (x % 65536) as u16)
+}
+
+// The `RV` record of a reach count.
+pub fn put_header(out: &mut [u8], count: u16) -> usize
+    requires { ⌜ 4 ≤ length (now out) ⌝ }
+    ensures { λ r. ⌜ Put (now (out .entry)) 0 (encodeHeader count) (now (out .exit)) r ⌝ }
+{
+    let next = put_pair(out, 0, 82, 86);
+    put_two(out, next, count)
+}
+
+// The start of a card's `RE` record: its mark, outlet, temperature and rates.
+fn put_rates(out: &mut [u8], at: usize, c: Card) -> usize
+    requires { ⌜ at + 8 ≤ length (now out) ⌝ }
+    ensures { λ r. ⌜ Put (now (out .entry)) at (82 ∷ 69 ∷ c .outlet ∷ c .temperature ∷ twoBytes (c .k1) ++ twoBytes (c .k2)) (now (out .exit)) r ⌝ }
+{
+    let next = put_pair(out, at, 82, 69);
+    let next = put_pair(out, next, c.outlet, c.temperature);
+    let next = put_two(out, next, c.k1);
+    put_two(out, next, c.k2)
+}
+
+// The middle of a card's `RE` record: its volume, inflow and inflow BOD.
+fn put_inflow(out: &mut [u8], at: usize, c: Card) -> usize
+    requires { ⌜ at + 12 ≤ length (now out) ⌝ }
+    ensures { λ r. ⌜ Put (now (out .entry)) at (fourBytes (c .volume) ++ fourBytes (c .inflow) ++ fourBytes (c .«inflow_bod»)) (now (out .exit)) r ⌝ }
+{
+    let next = put_four(out, at, c.volume);
+    let next = put_four(out, next, c.inflow);
+    put_four(out, next, c.inflow_bod)
+}
+
+// The end of a card's `RE` record: its inflow oxygen and load.
+fn put_load(out: &mut [u8], at: usize, c: Card) -> usize
+    requires { ⌜ at + 6 ≤ length (now out) ⌝ }
+    ensures { λ r. ⌜ Put (now (out .entry)) at (twoBytes (c .«inflow_oxygen») ++ fourBytes (c .load)) (now (out .exit)) r ⌝ }
+{
+    let next = put_two(out, at, c.inflow_oxygen);
+    put_four(out, next, c.load)
+}
+
+// The `DM` record of a dam, if there is one.
+fn put_dam(out: &mut [u8], at: usize, dam: Dam) -> usize
+    requires { ⌜ at + sizeOfDam dam ≤ length (now out) + 26 ⌝ }
+    ensures { λ r. ⌜ Put (now (out .entry)) at (encodeDam dam) (now (out .exit)) r ⌝ }
+{
+    let Dam::Aerating { share, generating } = dam else {
+        return at;
+    };
+    let next = put_pair(out, at, 68, 77);
+    let next = put_two(out, next, share);
+    put_four(out, next, generating)
+}
+
+// The records of a card.
+pub fn put_card(out: &mut [u8], at: usize, c: Card) -> usize
+    requires { ⌜ at + sizeOf c ≤ length (now out) ⌝ }
+    ensures { λ r. ⌜ Put (now (out .entry)) at (encodeCard c) (now (out .exit)) r ⌝ }
+{
+    let next = put_rates(out, at, c);
+    let next = put_inflow(out, next, c);
+    let next = put_load(out, next, c);
+    let dam = c.dam;
+    put_dam(out, next, dam)
+}
