@@ -8,11 +8,13 @@ use native.Mathlib.Nat.{
   mul-add-div-right,
   mul-add-mod-self-right,
   div-lt-iff-lt-mul,
+  div-le-of-le-mul,
   div-eq-of-lt,
   mod-eq-of-lt,
   mod-lt,
   mul-le-mul,
   mul-le-mul-left,
+  mul-le-mul-right,
   mul-one,
   mul-lt-mul-of-pos-right,
   mul-comm,
@@ -37,6 +39,14 @@ product-halves a b =
     ap (λ (n : ℕ). n / 67108864)
     (sym (halves a (b / 262144) (b % 262144) 262144 (lit< tt)) ∙ ap (λ (n : ℕ). a * n / 262144) (div-add-mod' b 262144))
     ∙ div-div-eq-div-mul (a * b) 262144 67108864
+
+pub one-pos : 0 < one
+one-pos = lit< tt
+
+-- a share of a number is at most the number
+pub share-below : (a b : ℕ) → a ≤ one → product a b ≤ b
+unfolding product
+share-below a b h = div-le-of-le-mul one (mul-le-mul-right b h)
 
 -- a product is at most its first factor, 1/256 of it where the second is small
 pub product-small : (a b : ℕ) → b ≤ small → 256 * product a b ≤ a

@@ -43,8 +43,9 @@ pub record Falling (t1 t2 t3 t4 : ℕ) : Type 0 where
 unfoldable pub alternatingSum : ℕ → ℕ → ℕ → ℕ → ℕ
 alternatingSum t1 t2 t3 t4 = t1 - t2 + t3 - t4
 
--- The series of a step, four terms each; the fifth would be 0 in the carried digits. lost is 1 - S(y), the alternating sum of the t_j. F is
--- that of the t_j + w_j, and the w_j begin at j = 2 with a minus sign, so F is lost less back, the deficit filled again within the step.
+-- The series of a step, four terms each; the fifth would be 0 in the carried digits. lost stands for 1 - S(y), the alternating sum of the
+-- t_j. F is that of the t_j + w_j, and the w_j begin at j = 2 with a minus sign, so F is lost less back, the deficit filled again within
+-- the step.
 unfoldable pub seriesOf : ℕ → ℕ → Terms
 seriesOf y z =
     record {
@@ -52,7 +53,7 @@ seriesOf y z =
       back = alternatingSum ((termsAt y z 1) .back) ((termsAt y z 2) .back) ((termsAt y z 3) .back) 0;
     }
 
--- the shares of one step: lost is 1 - S(x1), used is F, filled is 1 - S(x2)
+-- the shares of one step: lost stands for 1 - S(x1), used for F, filled for 1 - S(x2)
 unfoldable pub stepOf : ℕ → ℕ → ℕ → ℕ → Step
 stepOf k1 k2 volume flow =
     let y = exponentOf k1 volume flow in

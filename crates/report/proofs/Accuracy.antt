@@ -17,14 +17,15 @@ use Rattle.river.specs.declared.card.Card.{Card}
 use Rattle.river.specs.Flow.{Feeders, more, fed, flowOf, reachFlow, deepest, reachDepth}
 use Rattle.river.specs.Saturation.{saturation}
 use Rattle.river.specs.Head.{upstreamBod, upstreamOxygen, belowDam, headBod, headOxygen}
+use Rattle.river.proofs.HeadBounds.{saturation-small}
 use Rattle.report.specs.Program.{bodSum, oxygenSum, bodAtHead, oxygenAtHead, bodAt, oxygenAt, bodAlong, oxygenAlong, bodWith, factorsOf, foot}
 use Rattle.report.specs.Recurrence.{exactSaturation, exactMean, exactBelowDam, exactHeadBod, exactHeadOxygen, exactBodSum, exactOxygenSum, exactBodAtHead, exactOxygenAtHead, exactBodAlong, exactOxygenAlong, exactBodAt, exactOxygenAt}
-use Rattle.report.proofs.Forest.{Accepted, AllAccepted, no-more, one-more, passed}
+use Rattle.report.proofs.Forest.{AcceptedReach, AllAccepted, no-more, one-more, passed}
 use Rattle.report.proofs.Ties.{factors-range}
 use Rattle.report.proofs.HeadFacts.{damPart, bod-mean, oxygen-mean, below-dam, bod-mixed, oxygen-mixed}
 use Rattle.report.proofs.InstantFacts.{product-floored, shares-in-range, keptDeficit, kept-floored, oxygen-parts}
 use Rattle.report.proofs.ExactFacts.{saturation-low, saturation-high, exact-bod-mean, exact-oxygen-mean, exact-below-dam, exact-bod-mixed, exact-oxygen-mixed}
-use Rattle.report.proofs.Bounds.{saturation-small, head-ranged}
+use Rattle.report.proofs.Bounds.{head-ranged}
 use Rattle.report.proofs.Errors.{Near, HeadSteps, head-near, InstantSteps, instant-near, reach-adds}
 
 -- the distance promised of the factors
@@ -93,7 +94,7 @@ module _ (N : ℕ) (long : 40 ≤ N) where
   abbrev pub InstantNear : Card → Feeders → ℕ → Type 0
   InstantNear card up m = Near (ofℕ (bodAt card up m)) (exactBodAt N card up m) (ofℤ (oxygenAt card up m)) (exactOxygenAt N card up m) (ofℕ (18 * deepest up) +ᶠ ofℕ 18)
 
-  pub head-is-near : {card : Card} {up : Feeders} → Accepted card up → AllAccepted up → FeetNear up → HeadNear card up
+  pub head-is-near : {card : Card} {up : Feeders} → AcceptedReach card up → AllAccepted up → FeetNear up → HeadNear card up
   unfolding bodAtHead oxygenAtHead headBod headOxygen exactBodAtHead exactOxygenAtHead exactHeadBod exactHeadOxygen
   head-is-near {card} {up} own above n =
       let Qu = flowOf up in
@@ -125,7 +126,7 @@ module _ (N : ℕ) (long : 40 ≤ N) where
       }
       in head-near (ofℕ (18 * deepest up)) (number (18 * deepest up)) steps n
 
-  pub instant-is-near : {card : Card} {up : Feeders} → Accepted card up → AllAccepted up → reachDepth up ≤ 128 → HeadNear card up → (m : ℕ) → m ≤ 1024 → InstantNear card up m
+  pub instant-is-near : {card : Card} {up : Feeders} → AcceptedReach card up → AllAccepted up → reachDepth up ≤ 128 → HeadNear card up → (m : ℕ) → m ≤ 1024 → InstantNear card up m
   unfolding bodAt oxygenAt bodAlong oxygenAlong bodWith factorsOf exactBodAt exactOxygenAt exactBodAlong exactOxygenAlong
   instant-is-near {card} {up} own above shallow n m l =
       let Q = reachFlow card up in

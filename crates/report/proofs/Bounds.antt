@@ -13,11 +13,12 @@ use Rattle.decay.specs.Promise.{share}
 use Rattle.decay.proofs.Algebra.{Nonneg, quote, slack, number, _⊞_, _⊠_, multiple, certify, ≈-refl, ≈-sym, ≈-trans, ≼-trans, ≼-of-≈, ≼-by, ≼-refl, +ᶠ-cong, *ᶠ-cong, ofℤ-+, ofℤ-*, Positive, positive-whole, positive-nonneg, certify-over, none as no-equations, ofℕ-reflect, ofℤ-reflect, ofℕ-mono, ofℕ-+, ofℕ-*}
 use Rattle.river.specs.declared.card.Card.{Card}
 use Rattle.river.specs.Flow.{Feeders, more, fed, flowOf, reachFlow, massOf, reachMass, deepest, reachDepth}
-use Rattle.river.specs.Saturation.{saturation, saturationThousandths}
+use Rattle.river.specs.Saturation.{saturation}
 use Rattle.river.specs.Head.{upstreamBod, upstreamOxygen, belowDam, headBod, headOxygen}
+use Rattle.river.proofs.HeadBounds.{saturation-small}
 use Rattle.report.specs.Program.{bodSum, oxygenSum, bodAtHead, oxygenAtHead, bodAt, oxygenAt, bodAlong, oxygenAlong, bodWith, factorsOf, foot}
 use Rattle.report.proofs.Floor.{Rounded}
-use Rattle.report.proofs.Forest.{Accepted, AllAccepted, no-more, one-more}
+use Rattle.report.proofs.Forest.{AcceptedReach, AllAccepted, no-more, one-more}
 use Rattle.report.proofs.Ties.{factors-range}
 use Rattle.report.proofs.InstantFacts.{Floored, product-floored, Shares, shares-in-range, keptDeficit, kept-floored, oxygen-parts}
 use Rattle.report.proofs.HeadFacts.{ofℕ-+₃, ofℕ-+₄, Dammed, bod-mean, oxygen-mean, damPart, below-dam, bod-mixed, oxygen-mixed}
@@ -94,15 +95,10 @@ bounded-by {bod} {oxygen} {Q} {mass} {deep} {k} {mass′} {deep′} {k′} hm hd
       oxygen-above = certify (oxygen ∷ Q ∷ k ∷ k′ ∷ []) (slack (b .oxygen-above) ⊞ pQ ⊠ slack hk) (search quote depth 40 fits 9999) tt;
     }
 
--- saturation at 0 to 35 degrees is at most 14,652,000
-pub saturation-small : (T : ℕ) → T ≤ 35 → saturation T ≤ 14652000
-unfolding saturation saturationThousandths
-saturation-small T h = omega (arith, mul-le-mul-right T h)
-
 saturation-below : (T d : ℕ) → T ≤ 35 → ofℕ (saturation T) ≼ ofℕ (20000000 + d)
 saturation-below T d h = ofℕ-mono (omega (arith, saturation-small T h))
 
-head-in-bounds : {card : Card} {up : Feeders} → Accepted card up → AllAccepted up → FeetBounded up → HeadBounded card up
+head-in-bounds : {card : Card} {up : Feeders} → AcceptedReach card up → AllAccepted up → FeetBounded up → HeadBounded card up
 unfolding bodAtHead oxygenAtHead headBod headOxygen
 head-in-bounds {card} {up} own above b =
     let Qu = flowOf up in
@@ -141,7 +137,7 @@ bounded-at {bod} {oxygen} {oxygen′} {Q} {mass} {deep} {k} e b =
       oxygen-above = ≼-trans (≼-of-≈ (≈-sym e)) (b .oxygen-above);
     }
 
-instant-in-bounds : {card : Card} {up : Feeders} → Accepted card up → HeadBounded card up → (m : ℕ) → InstantBounded card up m
+instant-in-bounds : {card : Card} {up : Feeders} → AcceptedReach card up → HeadBounded card up → (m : ℕ) → InstantBounded card up m
 unfolding bodAt oxygenAt bodAlong oxygenAlong bodWith
 instant-in-bounds {card} {up} own b m =
     let Q = reachFlow card up in
@@ -211,7 +207,7 @@ bounded-ranged Q bod oxygen mass deep k pQ pb hm hd b =
       oxygen-high = certify-over Q pQ (Q ∷ oxygen ∷ k ∷ []) no-equations (slack (b .oxygen-above)) (search quote depth 40 fits 9999) tt;
     }
 
-module _ {card : Card} {up : Feeders} (own : Accepted card up) (above : AllAccepted up) (shallow : reachDepth up ≤ 128) where
+module _ {card : Card} {up : Feeders} (own : AcceptedReach card up) (above : AllAccepted up) (shallow : reachDepth up ≤ 128) where
   mass-small : ofℕ (1000 * reachMass card up) ≼ ofℕ 1000000000 *ᶠ ofℕ (reachFlow card up)
   mass-small = ≼-trans (ofℕ-mono (omega (arith, own .flows .mass-rule))) (≼-of-≈ (ofℕ-* 1000000000 (reachFlow card up)))
 
@@ -242,7 +238,7 @@ whole-range bod oxygen d h r =
       oxygen-high = ofℤ-reflect oxygen (pos 20000128) (≼-trans (r .oxygen-high) (ofℕ-mono (omega arith)));
     }
 
-module _ {card : Card} {up : Feeders} (own : Accepted card up) (above : AllAccepted up) (shallow : reachDepth up ≤ 128) where
+module _ {card : Card} {up : Feeders} (own : AcceptedReach card up) (above : AllAccepted up) (shallow : reachDepth up ≤ 128) where
   pub head-range : Range (bodAtHead card up) (oxygenAtHead card up)
   head-range = whole-range (bodAtHead card up) (oxygenAtHead card up) (deepest up) (omega arith) (head-ranged own above shallow)
 

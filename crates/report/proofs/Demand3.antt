@@ -11,11 +11,11 @@ use Rattle.decay.proofs.Algebra.{quote, certify, slack, _⊞_, ≈-sym, ≼-tra
 use Rattle.river.specs.declared.card.Card.{Card}
 use Rattle.river.specs.Card.{Lawful}
 use Rattle.river.specs.Flow.{Feeders, cardOf, above, deepest, reachDepth, Flows}
-use Rattle.report.specs.Program.{criticalOf, figuresOf, figuresAt, foot}
+use Rattle.report.specs.Program.{lowest, bodAt, oxygenAt, figuresOf, figuresAt, foot}
 use Rattle.report.specs.Recurrence.{exactOxygenAt}
 use Rattle.report.specs.Distance.{allowance, WithinAllowance}
-use Rattle.report.proofs.Lowest.{critical-first}
-use Rattle.report.proofs.Forest.{Accepted, AllAccepted, reach-accepted, above-accepted, reach-shallow}
+use Rattle.report.proofs.Lowest.{lowest-first}
+use Rattle.report.proofs.Forest.{AcceptedReach, AllAccepted, reach-accepted, above-accepted, reach-shallow}
 use Rattle.report.proofs.Errors.{Near}
 use Rattle.report.proofs.Accuracy.{head-is-near, instant-is-near, feet-are-near}
 
@@ -39,19 +39,20 @@ room d k h = ≼-by (≈-sym (ofℕ-+ (18 * d) k)) (ofℕ-mono (omega arith)) (�
 
 module _ (N : ℕ) (long : 40 ≤ N) where
   -- a reach over an accepted forest
-  pub within-allowance : {card : Card} {up : Feeders} → Accepted card up → AllAccepted up → reachDepth up ≤ 128 → WithinAllowance N card up (figuresOf card up)
-  unfolding figuresOf
+  pub within-allowance : {card : Card} {up : Feeders} → AcceptedReach card up → AllAccepted up → reachDepth up ≤ 128 → WithinAllowance N card up (figuresOf card up)
+  unfolding figuresOf bodAt oxygenAt
   within-allowance {card} {up} own above shallow =
       let head = head-is-near N long own above (feet-are-near N long above (omega arith)) in
       let at = instant-is-near N long own above shallow head in
-      let c = critical-first card up in
+      let c = lowest-first (oxygenAt card up) foot in
       let enough = room (deepest up) 18 (omega arith) in
       record {
         at-head = ≼-trans (both head) (room (deepest up) 5 (omega arith));
         at-foot = ≼-trans (both (at foot (le-refl foot))) enough;
         in-reach = c .within;
-        at-critical = subst (λ (o : ℤ). distance (ofℤ o) (exactOxygenAt N card up (criticalOf card up .instant)) ≼ allowance up) (sym (c .value)) (≼-trans (oxygen-alone (at (criticalOf card up .instant) (c .within))) enough);
-        nowhere-lower = λ m l. not-lower (ofℤ (criticalOf card up .oxygen)) (allowance up) (ofℤ-mono (c .least m l)) enough (at m l);
+        at-critical =
+            subst (λ (o : ℤ). distance (ofℤ o) (exactOxygenAt N card up (lowest (oxygenAt card up) foot .instant)) ≼ allowance up) (sym (c .value)) (≼-trans (oxygen-alone (at (lowest (oxygenAt card up) foot .instant) (c .within))) enough);
+        nowhere-lower = λ m l. not-lower (ofℤ (lowest (oxygenAt card up) foot .oxygen)) (allowance up) (ofℤ-mono (c .least m l)) enough (at m l);
       }
 
   -- every reach of an accepted river

@@ -2,32 +2,29 @@
 -- back from the bytes are those of the definitions, for which demand 3 holds. Assumes nothing.
 use mathlib.Core.Path.{_≡_, refl, sym, ap, _∙_, subst}
 use mathlib.Core.List.{List, _++_}
-use Prim.Native.Nat.{ℕ, zero, suc, _+_, _-_, _*_, _≤_, _<_}
+use Prim.Native.Nat.{ℕ, zero, suc, _-_, _*_, _≤_, _<_}
 use native.Mathlib.Omega.{arith}
 use borrow.Author.Tests.{lt-ltb, le-ltb, le-leb, lt-leb, leb-true}
-use lib.Dec.{leb, leb→le}
+use lib.Dec.{leb→le}
 use lib.IntN.{ℤ, pos, negsuc}
-use lib.Signed.{_≤ℤ_}
 use lib.ListN.{length, drop}
 use Rattle.river.specs.declared.card.Card.{Card}
 use Rattle.river.specs.declared.refusal.Refusal.{Refusal}
 use Rattle.river.specs.declared.read.Outcome.{Outcome}
-use Rattle.river.specs.declared.read.Reading.{Reading}
-use Rattle.river.specs.declared.flow.Checked.{Checked}
+use Rattle.river.specs.declared.accept.Acceptance.{Acceptance}
 use Rattle.river.specs.Bytes.{AreBytes}
-use Rattle.river.specs.Card.{river, Lawful}
-use Rattle.river.specs.Read.{readFile, outcomeOf, Reads}
-use Rattle.river.specs.Refusal.{Answer, accepted, refused, refuse, need, after, codeOf}
-use Rattle.river.specs.Flow.{cardOf, above, depthAt, flowCheck, acceptFile, FlowChecked}
+use Rattle.river.specs.Card.{river}
+use Rattle.river.specs.Read.{outcomeOf}
+use Rattle.river.specs.Refusal.{Answer, accepted, refused, refuse, after, codeOf}
+use Rattle.river.specs.Flow.{cardOf, above, acceptFile}
+use Rattle.river.specs.Accept.{Accepts}
 use Rattle.river.proofs.Answers.{passed, went, need-true, need-false, after-accepted, after-refused}
-use Rattle.river.proofs.Files.{reads-only-lawful}
-use Rattle.river.proofs.FlowCheck.{flows-of-accepted}
-use Rattle.report.specs.Program.{Figures, figuresOf, figuresAt, foot}
+use Rattle.report.specs.Program.{Figures, oxygenAt, figuresOf, figuresAt, foot}
 use Rattle.report.specs.Distance.{WithinAllowance}
 use Rattle.report.specs.Record.{complement, fromComplement, readRecord}
-use Rattle.report.specs.Report.{recordsOf, reportOf, roomAnswer, reportAnswer, riverAnswer, resultOf, bufferAfter, recordAt, Accepted, Leaves, Reports}
+use Rattle.report.specs.Report.{reportOf, roomAnswer, reportAnswer, resultOf, bufferAfter, recordAt, Accepted, Reports}
 use Rattle.report.specs.Lines.{Ready}
-use Rattle.report.proofs.Lowest.{critical-first}
+use Rattle.report.proofs.Lowest.{lowest-first}
 use Rattle.report.proofs.Bounds.{Range}
 use Rattle.report.proofs.River.{IsRiver, river-of-file, head-in-range, instant-in-range, reach-within-allowance}
 use Rattle.report.proofs.Bytes.{Writable}
@@ -45,9 +42,9 @@ complement-back (negsuc n) r =
     rw (le-ltb (4294967295 - n) 2147483648 (omega arith)) (ap negsuc (omega arith))
 
 writable : {cards : List Card} → IsRiver cards → (i : ℕ) → i < length cards → Writable (figuresAt cards (suc i))
-unfolding figuresOf
+unfolding figuresOf oxygenAt
 writable {cards} river i l =
-    let c = critical-first (cardOf cards (suc i)) (above cards (suc i)) in
+    let c = lowest-first (oxygenAt (cardOf cards (suc i)) (above cards (suc i))) foot in
     record {
       head = complement-back _ (head-in-range river i l);
       critical =
@@ -55,14 +52,14 @@ writable {cards} river i l =
       foot = complement-back _ (instant-in-range river i l foot);
     }
 
-module _ (file before : List ℕ) where
-  -- an accepted river whose report the buffer can hold is what reporting answers
-  answers : (river : Accepted file (length before)) → reportAnswer file (length before) ≡ accepted (river .cards)
-  unfolding reportAnswer roomAnswer
-  answers river =
-      after-accepted (acceptFile file) _ (river .passes)
-      ∙ need-true _ 12 0 _ (le-leb (29 * length (river .cards)) (length before) (river .holds))
+-- an accepted river whose report the buffer can hold is what reporting answers
+pub answers : (file : List ℕ) {room : ℕ} (river : Accepted file room) → reportAnswer file room ≡ accepted (river .cards)
+unfolding reportAnswer roomAnswer
+answers file {room} river =
+    after-accepted (acceptFile file) _ (river .passes)
+    ∙ need-true _ 12 0 _ (le-leb (29 * length (river .cards)) room (river .holds))
 
+module _ (file before : List ℕ) where
   answered : (x : Answer (List Card)) → reportAnswer file (length before) ≡ x → Numbered x → resultOf x ≡ 0 → Accepted file (length before)
   unfolding reportAnswer roomAnswer resultOf
   answered (accepted cards) e n z =
@@ -79,8 +76,14 @@ module _ (file before : List ℕ) where
     figures-read : readRecord (recordAt after i) ≡ figuresAt (river .cards) (suc i)
     unfolding bufferAfter
     figures-read =
-        ap (λ (b : List ℕ). readRecord (recordAt b i)) (buffer ∙ ap (λ (a : Answer (List Card)). bufferAfter a before) (answers river))
+        ap (λ (b : List ℕ). readRecord (recordAt b i)) (buffer ∙ ap (λ (a : Answer (List Card)). bufferAfter a before) (answers file river))
         ∙ read-at (river .cards) (length (river .cards)) i (drop (29 * length (river .cards)) before) l (writable is-river i l)
+
+-- a refusal leaves the buffer as it was
+left-alone : (x : Answer (List Card)) (before : List ℕ) → (resultOf x ≡ 0 → ⊥) → bufferAfter x before ≡ before
+unfolding resultOf bufferAfter
+left-alone (accepted cards) before h = absurd (h refl)
+left-alone (refused r) before h = refl
 
 -- THEOREM: what the entry returns and leaves behind is all that document 01 says of reporting, demand 3 included
 pub reports-of :
@@ -94,80 +97,59 @@ reports-of file before after result bytes answer buffer =
     record {
       answer = answer;
       accepts = λ z. answered file before (reportAnswer file (length before)) refl (report-numbered file (length before)) (sym answer ∙ z);
-      zero = λ river. answer ∙ ap resultOf (answers file before river);
+      zero = λ river. answer ∙ ap resultOf (answers file river);
       buffer = buffer;
+      untouched = λ h. buffer ∙ left-alone (reportAnswer file (length before)) before (λ z. h (answer ∙ z));
+      figures = figures-read file before bytes buffer;
       depth = λ river i l. ap (λ (f : Figures). f .depth) (figures-read file before bytes buffer river i l);
+      flow = λ river i l. ap (λ (f : Figures). f .flow) (figures-read file before bytes buffer river i l);
       within =
           λ river i l N long.
           subst (WithinAllowance N (cardOf (river .cards) (suc i)) (above (river .cards) (suc i))) (sym (figures-read file before bytes buffer river i l))
           (reach-within-allowance (is-river file before bytes buffer river i l) i l N long);
     }
 
--- what a refusal leaves, and what a report leaves
-pub leaves-refused :
-    {answer : Answer (List Card)} (before : List ℕ) {result : ℕ} {r : Refusal} →
-    answer ≡ refused r →
-    result ≡ codeOf r →
-    Leaves answer before before result
-unfolding resultOf bufferAfter
-leaves-refused before e c = record { result-is = c ∙ sym (ap resultOf e); buffer-is = sym (ap (λ (a : Answer (List Card)). bufferAfter a before) e) }
+-- the entry's contract for a refusal, and for a report
+module _ {file before : List ℕ} (bytes : AreBytes file) where
+  pub reports-refusal : {result : ℕ} {r : Refusal} → reportAnswer file (length before) ≡ refused r → result ≡ codeOf r → Reports file before before result
+  unfolding resultOf bufferAfter
+  reports-refusal {result} e c =
+      reports-of file before before result bytes (c ∙ sym (ap resultOf e)) (sym (ap (λ (a : Answer (List Card)). bufferAfter a before) e))
 
-pub leaves-report :
-    {answer : Answer (List Card)} (before : List ℕ) {after cards : _} →
-    answer ≡ accepted cards →
-    after ≡ reportOf cards ++ drop (29 * length cards) before →
-    Leaves answer before after 0
-unfolding resultOf bufferAfter
-leaves-report before e b = record { result-is = sym (ap resultOf e); buffer-is = b ∙ sym (ap (λ (a : Answer (List Card)). bufferAfter a before) e) }
+  pub reports-river :
+      {after : List ℕ} {cards : List Card} →
+      reportAnswer file (length before) ≡ accepted cards →
+      after ≡ reportOf cards ++ drop (29 * length cards) before →
+      Reports file before after 0
+  unfolding resultOf bufferAfter
+  reports-river {after} e b =
+      reports-of file before after 0 bytes (sym (ap resultOf e)) (b ∙ sym (ap (λ (a : Answer (List Card)). bufferAfter a before) e))
 
--- the answer for a river that was read, by the outcome of the flow check
-module _ {cards : List Card} {checked : Checked} (room : ℕ) (h : FlowChecked cards checked) where
-  pub river-refused : {r : Refusal} → checked .outcome ≡ Outcome.Refused r → riverAnswer cards room ≡ refused r
-  unfolding riverAnswer
-  river-refused e = after-refused (flowCheck cards) _ (sym (h .answer) ∙ ap (λ (o : Outcome). outcomeOf o cards) e)
-
-  checked-accepted : checked .outcome ≡ Outcome.Accepted → flowCheck cards ≡ accepted cards
-  checked-accepted e = sym (h .answer) ∙ ap (λ (o : Outcome). outcomeOf o cards) e
-
-  pub river-short : checked .outcome ≡ Outcome.Accepted → room < 29 * length cards → riverAnswer cards room ≡ refused (refuse 12 0)
-  unfolding riverAnswer roomAnswer
-  river-short e l =
-      after-accepted (flowCheck cards) _ (checked-accepted e) ∙ need-false _ 12 0 _ (lt-leb (29 * length cards) room l)
-
-  pub river-held : checked .outcome ≡ Outcome.Accepted → 29 * length cards ≤ room → riverAnswer cards room ≡ accepted cards
-  unfolding riverAnswer roomAnswer
-  river-held e l =
-      after-accepted (flowCheck cards) _ (checked-accepted e) ∙ need-true _ 12 0 _ (le-leb (29 * length cards) room l)
-
-  pub river-ready : Lawful cards → checked .outcome ≡ Outcome.Accepted → Ready cards (checked .flows)
-  river-ready lawful e =
-      record { lawful = lawful; sound = flows-of-accepted (checked-accepted e); tabled = h .tabled e }
-
--- the answer for a file, by the outcome of reading it
-module _ (file : List ℕ) {reading : Reading} (h : Reads file reading) where
-  pub file-refused : (room : ℕ) {r : Refusal} → reading .outcome ≡ Outcome.Refused r → reportAnswer file room ≡ refused r
-  unfolding reportAnswer acceptFile
+-- the answer for a file, by the outcome of reading and flow check and by the room
+module _ {file : List ℕ} {r : Acceptance} (h : Accepts file r) where
+  pub file-refused : (room : ℕ) {refusal : Refusal} → r .outcome ≡ Outcome.Refused refusal → reportAnswer file room ≡ refused refusal
+  unfolding reportAnswer
   file-refused room e =
-      after-refused _ _ (after-refused (readFile file) flowCheck (sym (h .answer) ∙ ap (λ (o : Outcome). outcomeOf o (river (reading .cards))) e))
+      after-refused (acceptFile file) _ (sym (h .answer) ∙ ap (λ (o : Outcome). outcomeOf o (river (r .cards))) e)
 
-  file-read : reading .outcome ≡ Outcome.Accepted → readFile file ≡ accepted (river (reading .cards))
-  file-read e = sym (h .answer) ∙ ap (λ (o : Outcome). outcomeOf o (river (reading .cards))) e
+  file-accepted : r .outcome ≡ Outcome.Accepted → acceptFile file ≡ accepted (river (r .cards))
+  file-accepted e = sym (h .answer) ∙ ap (λ (o : Outcome). outcomeOf o (river (r .cards))) e
 
-  pub file-lawful : AreBytes file → reading .outcome ≡ Outcome.Accepted → Lawful (river (reading .cards))
-  file-lawful bytes e = reads-only-lawful file (river (reading .cards)) bytes (file-read e) .lawful
+  pub file-short :
+      (room : ℕ) →
+      r .outcome ≡ Outcome.Accepted →
+      room < 29 * length (river (r .cards)) →
+      reportAnswer file room ≡ refused (refuse 12 0)
+  unfolding reportAnswer roomAnswer
+  file-short room e l =
+      after-accepted (acceptFile file) _ (file-accepted e) ∙ need-false _ 12 0 _ (lt-leb (29 * length (river (r .cards))) room l)
 
-  pub file-river : (room : ℕ) → reading .outcome ≡ Outcome.Accepted → reportAnswer file room ≡ riverAnswer (river (reading .cards)) room
-  unfolding reportAnswer riverAnswer acceptFile
-  file-river room e =
-      ap (λ (a : Answer (List Card)). after a (roomAnswer room)) (after-accepted (readFile file) flowCheck (file-read e))
+  pub file-held :
+      (room : ℕ) →
+      r .outcome ≡ Outcome.Accepted →
+      29 * length (river (r .cards)) ≤ room →
+      reportAnswer file room ≡ accepted (river (r .cards))
+  file-held room e l = answers file (record { cards = river (r .cards); passes = file-accepted e; holds = l })
 
--- the entry's contract from what its answer leaves
-pub reports-by :
-    {file before after : List ℕ} {result : ℕ} {answer : Answer (List Card)} →
-    AreBytes file →
-    reportAnswer file (length before) ≡ answer →
-    Leaves answer before after result →
-    Reports file before after result
-reports-by {file} {before} {after} {result} bytes e l =
-    reports-of file before after result bytes (l .result-is ∙ sym (ap resultOf e))
-    (l .buffer-is ∙ sym (ap (λ (a : Answer (List Card)). bufferAfter a before) e))
+  pub file-ready : r .outcome ≡ Outcome.Accepted → Ready (river (r .cards)) (r .flows)
+  file-ready e = record { lawful = h .lawful e; sound = h .sound e; tabled = h .tabled e }

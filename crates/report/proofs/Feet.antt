@@ -2,33 +2,31 @@
 -- Assumes nothing.
 use mathlib.Core.Path.{_≡_, refl, sym, ap, ap₂, _∙_, subst}
 use mathlib.Core.List.{List}
-use Prim.Native.Nat.{ℕ, zero, suc, _+_, _-_, _*_, _≤_, _<_}
+use Prim.Native.Nat.{ℕ, suc, _+_, _-_, _*_, _≤_, _<_}
 use native.Mathlib.Nat.{le-trans, not-suc-le-zero, mul-le-mul-left}
 use native.Mathlib.Numerals.{add-one}
 use native.Mathlib.Omega.{arith}
 use native.Mathlib.Decide.{decLe}
 use lib.Dec.{leb→le}
-use lib.IntN.{ℤ, pos, negsuc, subℕ, _+ℤ_, _*ℤ_}
+use lib.IntN.{ℤ, pos, negsuc}
 use lib.Signed.{_≤ℤ_}
-use lib.ListN.{length, getD, set, length-take}
-use lib.Seq.{getD-take, getD-set-same, getD-set-other}
+use lib.ListN.{length, getD, set}
 use Rattle.decay.specs.Step.{Passed}
 use Rattle.river.specs.declared.card.Card.{Card}
 use Rattle.river.specs.declared.flow.FlowTable.{FlowTable}
 use Rattle.river.specs.declared.head.FootTable.{FootTable}
 use Rattle.river.specs.declared.head.Head.{Head}
-use Rattle.river.specs.declared.card.Cards.{Cards}
-use Rattle.river.specs.Card.{Lawful, river}
-use Rattle.river.specs.Flow.{Feeders, none, more, feedersAmong, blank, fed, flowOf, reachFlow, reachDepth, cardOf, above, flowAt, massAt, depthAt, Flows, Tabled, tableSum}
-use Rattle.river.specs.Head.{oxygenOf, headBod, headOxygen, HeadInput, HeadOf, Carried}
-use Rattle.river.proofs.Table.{Adds, TableOf, sum-of-feeders}
+use Rattle.river.specs.Card.{Lawful}
+use Rattle.river.specs.Flow.{feedersAmong, blank, fed, flowOf, reachFlow, flowAt, massAt, depthAt, Flows}
+use Rattle.river.specs.Head.{headBod, headOxygen}
+use Rattle.river.specs.Tables.{oxygenOf, HeadInput, HeadOf}
+use Rattle.river.proofs.Offset.{sub-pos, sub-neg}
+use Rattle.river.proofs.Table.{entered, Adds, TableOf, sum-of-feeders}
 use Rattle.river.proofs.Feet.{AddsFlowTimes, StoredTable, oxygen-of-feeders, carried-none, carried-next}
-use Rattle.report.specs.Program.{bodSum, oxygenSum, bodAtHead, oxygenAtHead, bodAt, oxygenAt, criticalOf, Figures, figuresOf, figuresAt, foot}
-use Rattle.report.specs.Profile.{figuresBelow}
+use Rattle.report.specs.Program.{bodSum, oxygenSum, bodAtHead, oxygenAtHead, bodAt, oxygenAt, Figures, figuresBelow, figuresOf, figuresAt, foot}
 use Rattle.report.specs.Record.{figuresIn}
 use Rattle.report.specs.declared.record.Line.{Line}
 use Rattle.report.specs.Lines.{Ready, FeetOf, LineOf, storedOf}
-use Rattle.report.proofs.Offset.{sub-pos, sub-neg}
 use Rattle.report.proofs.Forest.{passed, reach-accepted}
 use Rattle.report.proofs.River.{IsRiver, head-in-range, instant-in-range, foot-bod-at-most-head}
 
@@ -62,10 +60,6 @@ stored-low n h = by-sign (decLe 2147483648 n)
     by-sign (yes l) = omega arith
     by-sign (no l) = below (omega arith)
 
--- the card of reach i + 1 in the table of cards
-pub card-at : (cards : Cards) (i : ℕ) → i < length (river cards) → getD (cards .at) i blank ≡ getD (river cards) i blank
-card-at cards i l = sym (getD-take (cards .count) (cards .at) i blank (omega (arith, length-take (cards .count) (cards .at))))
-
 -- the river of flows that are ready
 is-river : {cards : List Card} {flows : FlowTable} → Ready cards flows → IsRiver cards
 is-river ready = record { lawful = ready .lawful; flows = ready .sound }
@@ -91,11 +85,11 @@ module _ {cards : List Card} {flows : FlowTable} {feet : FootTable} {i : ℕ} (r
       }
 
   bod-table : TableOf cards (λ card up. reachFlow card up * bodAt card up foot) (flows .outlet) (feet .bod) i
-  unfolding figuresOf
+  unfolding figuresOf bodAt
   bod-table = record { outlet = λ j k. ready .tabled .outlet j (omega arith); value = f .bod }
 
   oxygen-table : StoredTable cards (λ card up. oxygenAt card up foot) (λ j. storedOf (figuresAt cards (suc j) .foot-oxygen)) (flows .outlet) (feet .oxygen) i
-  unfolding figuresOf
+  unfolding figuresOf oxygenAt
   oxygen-table =
       record {
         outlet = λ j k. ready .tabled .outlet j (omega arith);
@@ -134,7 +128,7 @@ module _ {cards : List Card} {flows : FlowTable} {feet : FootTable} {i : ℕ} (r
         flow ≡ flowAt cards (suc i) →
         figuresIn line ≡ figuresBelow card depth flow (h .bod) (oxygenOf (h .oxygen)) →
         LineOf cards i line
-    unfolding figuresOf criticalOf bodAt oxygenAt
+    unfolding figuresOf
     line-of-reach line ec ed ef e =
         record {
           figures = e ∙ rw (ec, ed, ef, head-bod-is, head-oxygen-is);
@@ -150,22 +144,6 @@ module _ {cards : List Card} {flows : FlowTable} {feet : FootTable} {i : ℕ} (r
 
   pub reach-flow-small : flowAt cards (suc i) ≤ 100000000
   reach-flow-small = reach-accepted cards (ready .lawful) (ready .sound) i l .flows .bounded
-
--- one more entry of a table
-entered :
-    (t : List ℕ) (i v : ℕ) (P : ℕ → ℕ → Type 0) →
-    i < length t →
-    ((j : ℕ) → j < i → P j (getD t j 0)) →
-    P i v →
-    (j : ℕ) → j < i + 1 → P j (getD (set t i v) j 0)
-entered t i v P l before here j k = by-place (decLe i j)
-  where
-    by-place : Dec (i ≤ j) → P j (getD (set t i v) j 0)
-    by-place (yes h) =
-        let e : j ≡ i = omega arith in
-        subst (λ (n : ℕ). P n (getD (set t i v) n 0)) (sym e) (subst (P i) (sym (getD-set-same t i v 0 l)) here)
-    by-place (no h) =
-        subst (P j) (sym (getD-set-other t i j v 0 (λ e. h (omega arith)))) (before j (omega arith))
 
 -- what a line says of its reach
 module _ {cards : List Card} {i : ℕ} {line : Line} (of : LineOf cards i line) where
@@ -201,13 +179,13 @@ pub feet-next :
 feet-next {cards} {flows} {feet} {i} line next ready f l of fits lb lo eb eo =
     record {
       bod =
-          rw eb
-          (entered (feet .bod) i (line .flow * line .«foot_bod») (λ j x. x ≡ flowAt cards (suc j) * figuresAt cards (suc j) .foot-bod) lb (f .bod)
-          (ap₂ _*_ (line-flow of) (line-foot-bod of)));
+          rw (eb, add-one)
+          (entered (feet .bod) i (line .flow * line .«foot_bod») (λ j x. x ≡ flowAt cards (suc j) * figuresAt cards (suc j) .foot-bod) lb
+          (ap₂ _*_ (line-flow of) (line-foot-bod of)) (f .bod));
       oxygen =
-          rw eo
-          (entered (feet .oxygen) i (line .flow * line .«foot_oxygen») (λ j x. x ≡ flowAt cards (suc j) * storedOf (figuresAt cards (suc j) .foot-oxygen)) lo (f .oxygen)
-          (ap₂ _*_ (line-flow of) (line-foot-oxygen of)));
+          rw (eo, add-one)
+          (entered (feet .oxygen) i (line .flow * line .«foot_oxygen») (λ j x. x ≡ flowAt cards (suc j) * storedOf (figuresAt cards (suc j) .foot-oxygen)) lo
+          (ap₂ _*_ (line-flow of) (line-foot-oxygen of)) (f .oxygen));
       carried =
           rw add-one
           (carried-next (line .«foot_bod») (f .carried) lb lo (eb, eo) (line-flow of)

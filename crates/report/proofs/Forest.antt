@@ -13,13 +13,13 @@ use Rattle.river.proofs.Table.{deepest-few}
 use Rattle.river.specs.Flow.{Feeders, none, more, blank, joined, feedersAmong, reachFlow, reachDepth, Sound, Flows}
 
 -- an accepted reach: its fields lie in range, and it passes the flow check
-pub record Accepted (card : Card) (up : Feeders) : Type 0 where
+pub record AcceptedReach (card : Card) (up : Feeders) : Type 0 where
   pub fields : InRange card
   pub dam : LawfulDam (card .dam)
   pub flows : Sound card up
 
 -- and so the factors' promise holds for it
-pub passed : {card : Card} {up : Feeders} → Accepted card up → Passed (card .k1) (card .k2) (card .volume) (reachFlow card up)
+pub passed : {card : Card} {up : Feeders} → AcceptedReach card up → Passed (card .k1) (card .k2) (card .volume) (reachFlow card up)
 passed a =
     record {
       k1-range = a .fields .k1;
@@ -34,9 +34,9 @@ passed a =
 -- every reach of a forest is accepted
 pub data AllAccepted : Feeders → Type 0 where
   no-more : AllAccepted none
-  one-more : {card : Card} {up rest : Feeders} → Accepted card up → AllAccepted up → AllAccepted rest → AllAccepted (more card up rest)
+  one-more : {card : Card} {up rest : Feeders} → AcceptedReach card up → AllAccepted up → AllAccepted rest → AllAccepted (more card up rest)
 
-joined-accepted : (t : Bool) (card : Card) (up rest : Feeders) → Accepted card up → AllAccepted up → AllAccepted rest → AllAccepted (joined t card up rest)
+joined-accepted : (t : Bool) (card : Card) (up rest : Feeders) → AcceptedReach card up → AllAccepted up → AllAccepted rest → AllAccepted (joined t card up rest)
 unfolding joined
 joined-accepted true card up rest own water others = one-more own water others
 joined-accepted false card up rest own water others = others
@@ -44,7 +44,7 @@ joined-accepted false card up rest own water others = others
 -- a river: lawful cards whose flows pass
 module _ (cards : List Card) (lawful : Lawful cards) (flows : Flows cards) where
   -- every reach of a river is accepted
-  pub reach-accepted : (n : ℕ) → n < length cards → Accepted (getD cards n blank) (feedersAmong cards n (suc n))
+  pub reach-accepted : (n : ℕ) → n < length cards → AcceptedReach (getD cards n blank) (feedersAmong cards n (suc n))
   reach-accepted n l =
       let own = lawful-at lawful n l in
       record {

@@ -2,13 +2,13 @@
 use mathlib.Core.List.{[], _∷_}
 use Prim.Native.Nat.{ℕ, _+_, _≤_, _<_}
 use native.Mathlib.Omega.{arith}
-use lib.Dec.{lit<}
 use lib.IntN.{ℤ, pos, _-ℤ_, _*ℤ_}
 use Rattle.decay.specs.Fraction.{Fraction, _≈_, _≼_, ofℕ, ofℤ, _+ᶠ_, -ᶠ_, _-ᶠ_, _*ᶠ_, _÷_}
 use Rattle.decay.specs.Fixed.{one, product}
 use Rattle.decay.specs.Promise.{share}
 use Rattle.decay.specs.Factors.{InRange}
 use Rattle.decay.specs.declared.factors.Factors.{Factors}
+use Rattle.decay.proofs.Digits.{one-pos}
 use Rattle.decay.proofs.Algebra.{Nonneg, quote, slack, _⊞_, multiple, ≈-refl, ≈-sym, ≈-trans, ≼-trans, ≼-of-≈, ofℤ-*, +ᶠ-cong, *ᶠ-cong, positive-whole, certify-over, ÷-cancel-pos, none as no-equations, ofℕ-mono, ofℕ-+}
 use Rattle.river.specs.Head.{floor}
 use Rattle.report.specs.Program.{oxygenWith}
@@ -32,9 +32,6 @@ part-floored n d z p =
       low = certify-over (ofℕ d) (positive-whole p) vs no-equations (slack (rounded .low) ⊞ multiple (ofℕ 1) ez ⊞ multiple (ofℤ z) (≈-sym es)) (search quote depth 40 fits 9999) tt;
       high = certify-over (ofℕ d) (positive-whole p) vs no-equations (slack (rounded .high) ⊞ multiple (ofℕ 1) (≈-sym ez) ⊞ multiple (ofℤ z) es) (search quote depth 40 fits 9999) tt;
     }
-
-one-pos : 0 < one
-one-pos = lit< tt
 
 -- a fixed-point share of a whole number, rounded down
 pub share-floored : (n : ℕ) (z : ℤ) → Floored (ofℤ (floor (pos n *ℤ z) one)) (share n *ᶠ ofℤ z)

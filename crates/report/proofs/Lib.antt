@@ -22,3 +22,4 @@ pub mod Accuracy
 pub mod Demand3
 pub mod Bench
 pub mod River
+pub mod Reported

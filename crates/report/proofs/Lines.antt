@@ -1,32 +1,24 @@
 -- The figures of a reach from its profile, and the ranges that let them be held in four bytes.
 -- Assumes nothing.
-use mathlib.Core.Path.{_≡_, refl, sym, ap, ap₂, _∙_, subst}
-use mathlib.Core.List.{List}
-use Prim.Native.Nat.{ℕ, suc, _+_, _-_, _*_, _≤_, _<_}
-use native.Mathlib.Nat.{mul-le-mul-right}
+use mathlib.Core.Path.{_≡_}
+use Prim.Native.Nat.{ℕ, _≤_, _<_}
 use native.Mathlib.Omega.{arith}
-use lib.IntN.{ℤ}
 use Rattle.decay.specs.Step.{Passed, stepOf}
 use Rattle.decay.specs.Factors.{Sound, factorsAt}
 use Rattle.decay.specs.declared.step.Step.{Step}
+use Rattle.decay.proofs.Digits.{share-below}
 use Rattle.decay.proofs.Instants.{range}
 use Rattle.decay.proofs.Shares.{step-sound}
 use Rattle.river.specs.declared.card.Card.{Card}
-use Rattle.river.specs.Saturation.{saturation, saturationThousandths}
-use Rattle.river.specs.Head.{oxygenOf}
-use Rattle.report.specs.Program.{factorsOf, bodAlong, oxygenAlong, lowest, foot}
-use Rattle.report.specs.Profile.{InRange, Stores, Profiled, oxygenAfter, figuresBelow}
+use Rattle.river.specs.Saturation.{saturation}
+use Rattle.river.specs.Tables.{oxygenOf}
+use Rattle.river.proofs.HeadBounds.{saturation-small}
+use Rattle.report.specs.Program.{bodWith, factorsOf, bodAlong, oxygenAlong, foot, figuresBelow}
+use Rattle.report.specs.Profile.{InRange, Profiled, oxygenAfter}
 use Rattle.report.specs.Record.{figuresIn}
 use Rattle.report.specs.declared.profile.Start.{Start}
 use Rattle.report.specs.declared.profile.Profile.{Profile}
-use Rattle.report.specs.declared.record.Line.{Line}
 use Rattle.report.proofs.Lowest.{lowest-first}
-use Rattle.report.proofs.Ties.{bod-falls}
-
--- saturation at 0 to 35 degrees is far below the largest BOD
-pub saturation-small : (T : ℕ) → T ≤ 35 → saturation T ≤ 1000000000
-unfolding saturation saturationThousandths
-saturation-small T h = omega (arith, mul-le-mul-right T h)
 
 -- the ranges of a start, and the shares of its step
 pub start-range :
@@ -38,7 +30,7 @@ pub start-range :
     saturated ≡ saturation T →
     InRange (record { bod = bod; oxygen = oxygen; saturation = saturated })
 start-range T b l h t e =
-    record { bod = b; low = l; high = h; saturation = rw e (saturation-small T t) }
+    record { bod = b; low = l; high = h; saturation = rw e (omega (arith, saturation-small T t)) }
 
 pub start-sound : {step : Step} {k1 k2 volume flow : ℕ} → step ≡ stepOf k1 k2 volume flow → Passed k1 k2 volume flow → Sound step
 start-sound e p = rw e (step-sound _ _ _ _ p)
@@ -46,9 +38,10 @@ start-sound e p = rw e (step-sound _ _ _ _ p)
 module _ {step : Step} {start : Start} {p : Profile} (sound : Sound step) (r : InRange start) (profiled : Profiled step start p) where
   -- foot BOD is at most head BOD
   pub foot-below : p .«foot_bod» ≤ start .bod
+  unfolding bodWith
   foot-below =
       rw (profiled .foot-bod)
-      (bod-falls (factorsAt step foot) (start .bod) (omega (arith, range sound foot .bod)))
+      (share-below (factorsAt step foot .left) (start .bod) (omega (arith, range sound foot .bod)))
 
 -- the critical instant is one of the 1,025
 pub critical-within : {step : Step} {start : Start} {p : Profile} → Profiled step start p → p .«critical_instant» ≤ 1024

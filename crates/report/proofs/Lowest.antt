@@ -8,9 +8,7 @@ use native.Mathlib.Omega.{arith}
 use lib.Dec.{T, leb, leb→le, nleb→lt, ltb→lt, le→leb}
 use lib.IntN.{ℤ, pos, negsuc}
 use lib.Signed.{ltZ, _≤ℤ_, _<ℤ_, ltZ-yes, ltZ-no, ≤ℤ-refl, <ℤ-irrefl, <ℤ-≤ℤ-trans}
-use Rattle.river.specs.declared.card.Card.{Card}
-use Rattle.river.specs.Flow.{Feeders}
-use Rattle.report.specs.Program.{Critical, lower, lowest, oxygenAt, criticalOf, foot}
+use Rattle.report.specs.Program.{Critical, lower, lowest}
 
 -- c is the first lowest of the values at instants 0 to n
 pub record FirstLowest (at : ℕ → ℤ) (n : ℕ) (c : Critical) : Type 0 where
@@ -99,8 +97,3 @@ unfolding lowest lower
 lowest-constant at v zero h = rw (h 0 (le-refl 0))
 lowest-constant at v (suc m) h =
     rw (lowest-constant at v m (λ k l. h k (omega arith)), h (suc m) (le-refl (suc m)), not-below v)
-
--- critical oxygen is the lowest of a reach's 1,025 values, at the first instant that has it
-pub critical-first : (card : Card) (up : Feeders) → FirstLowest (oxygenAt card up) foot (criticalOf card up)
-unfolding criticalOf
-critical-first card up = lowest-first (oxygenAt card up) foot

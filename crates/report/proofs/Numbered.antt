@@ -1,17 +1,15 @@
 -- Every refusal of reading, of the flow check and of reporting has a number above 0, so that 0 is no refusal's result.
 -- Assumes nothing.
-use mathlib.Core.Path.{_≡_, subst}
 use mathlib.Core.Bool.{Bool, true, false}
 use mathlib.Core.List.{List}
-use Prim.Native.Nat.{ℕ, zero, suc, _*_, _+_, _<_}
-use native.Mathlib.Omega.{arith}
-use lib.Dec.{leb, lit<}
+use Prim.Native.Nat.{ℕ, zero, suc, _<_}
+use lib.Dec.{lit<}
 use lib.ListN.{length, drop}
 use Rattle.river.specs.declared.card.Card.{Card}
-use Rattle.river.specs.Refusal.{Answer, accepted, refused, need, choose, after, codeOf}
+use Rattle.river.specs.Refusal.{Answer, accepted, refused, need, choose, after}
 use Rattle.river.specs.Read.{readHeader, readDam, readReach, readReaches, readFile, sizeOf}
-use Rattle.river.specs.Flow.{checksOf, reachChecks, checksFrom, flowCheck, acceptFile, cardOf, above, fed, flowOf, reachFlow, reachMass}
-use Rattle.report.specs.Report.{roomAnswer, reportAnswer, resultOf}
+use Rattle.river.specs.Flow.{checksOf, reachChecks, checksFrom, flowCheck, acceptFile}
+use Rattle.report.specs.Report.{roomAnswer, reportAnswer}
 
 -- a refusal's number is above 0
 abbrev pub Numbered : {A : Type 0} → Answer A → Type 0

@@ -1,35 +1,15 @@
--- Signed numbers as differences of natural ones: sums, order and rounding down of numbers that are held with an offset.
+-- Numbers that are held with an offset: differences less a number, their order, and rounding down.
 -- Assumes nothing.
-use mathlib.Core.Path.{_≡_, refl, sym, ap, _∙_}
-use mathlib.Core.Bool.{Bool, true, false}
+use mathlib.Core.Path.{_≡_, sym, ap, _∙_}
 use Prim.Native.Nat.{ℕ, zero, suc, _+_, _-_, _*_, _/_, _≤_, _<_}
 use native.Mathlib.Decide.{decLe}
 use native.Mathlib.Omega.{arith}
 use borrow.Author.Tests.{lt-ltb, le-ltb}
 use lib.Dec.{ltb}
-use lib.IntN.{ℤ, pos, negsuc, negℤ, subℕ, _+ℤ_, _-ℤ_}
+use lib.IntN.{ℤ, pos, negsuc, negℤ, subℕ, _-ℤ_}
 use lib.Signed.{ltZ}
 use Rattle.river.specs.Head.{floor}
-
--- a difference by the order of its two numbers
-pub sub-pos : (a b : ℕ) → b ≤ a → subℕ a b ≡ pos (a - b)
-sub-pos a b h = rw (le-ltb a b h)
-
-pub sub-neg : (a b : ℕ) → a < b → subℕ a b ≡ negsuc (b - suc a)
-sub-neg a b h = rw (lt-ltb a b h)
-
--- two differences are equal where the cross sums are
-pub sub-eq : (a b c d : ℕ) → a + d ≡ c + b → subℕ a b ≡ subℕ c d
-sub-eq a b c d e = by-order (decLe b a)
-  where
-    by-order : Dec (b ≤ a) → subℕ a b ≡ subℕ c d
-    by-order (yes h) = sub-pos a b h ∙ ap pos (omega arith) ∙ sym (sub-pos c d (omega arith))
-    by-order (no n) = sub-neg a b (omega arith) ∙ ap negsuc (omega arith) ∙ sym (sub-neg c d (omega arith))
-
--- a whole number less another is their difference
-pub minus : (a b : ℕ) → pos a -ℤ pos b ≡ subℕ a b
-minus a zero = ap pos (omega arith) ∙ sym (sub-pos a 0 (omega arith))
-minus a (suc b) = refl
+use Rattle.river.proofs.Offset.{sub-pos, sub-neg, sub-eq, minus}
 
 neg-less : (n c : ℕ) → negsuc n -ℤ pos c ≡ negsuc (n + c)
 neg-less n zero = sub-neg 0 (suc n) (omega arith) ∙ ap negsuc (omega arith)
@@ -47,16 +27,6 @@ sub-less a b c = by-order (decLe b a)
         ∙ neg-less (b - suc a) c
         ∙ ap negsuc (omega arith)
         ∙ sym (sub-neg a (b + c) (omega arith))
-
--- a difference and a whole number
-pub sub-plus : (a b c : ℕ) → subℕ a b +ℤ pos c ≡ subℕ (a + c) b
-sub-plus a b c = by-order (decLe b a)
-  where
-    by-order : Dec (b ≤ a) → subℕ a b +ℤ pos c ≡ subℕ (a + c) b
-    by-order (yes h) =
-        ap (λ (z : ℤ). z +ℤ pos c) (sub-pos a b h) ∙ ap pos (omega arith) ∙ sym (sub-pos (a + c) b (omega arith))
-    by-order (no n) =
-        ap (λ (z : ℤ). z +ℤ pos c) (sub-neg a b (omega arith)) ∙ sub-eq c (suc (b - suc a)) (a + c) b (omega arith)
 
 -- a whole number less a difference
 pub less-sub : (a b c : ℕ) → pos a -ℤ subℕ b c ≡ subℕ (a + c) b

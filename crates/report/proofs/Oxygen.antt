@@ -1,23 +1,21 @@
 -- Oxygen along a reach, stored with the offset 2^31: what the program computes in natural numbers is the signed definition.
 -- Assumes nothing.
-use mathlib.Core.Path.{_≡_, refl, sym, ap, _∙_}
-use Prim.Native.Nat.{ℕ, suc, _+_, _-_, _*_, _/_, _≤_, _<_}
-use native.Mathlib.Nat.{add-mul, div-le-of-le-mul, mul-le-mul-right}
+use mathlib.Core.Path.{_≡_, sym, ap, _∙_}
+use Prim.Native.Nat.{ℕ, suc, _+_, _-_, _*_, _≤_, _<_}
+use native.Mathlib.Nat.{add-mul}
 use native.Mathlib.Omega.{arith}
 use lib.IntN.{ℤ, pos, negℤ, negℤ-negℤ, _-ℤ_, _*ℤ_}
-use Rattle.river.specs.Head.{floor, oxygenOf}
+use Rattle.river.specs.Head.{floor}
+use Rattle.river.specs.Tables.{oxygenOf}
+use Rattle.river.proofs.Offset.{sub-pos, sub-neg, sub-eq, minus, sub-plus}
 use Rattle.decay.specs.Fixed.{one, product}
 use Rattle.decay.specs.Factors.{InRange as Shares}
 use Rattle.decay.specs.declared.factors.Factors.{Factors}
+use Rattle.decay.proofs.Digits.{share-below}
 use Rattle.report.specs.Program.{oxygenWith}
 use Rattle.report.specs.Profile.{Stores, InRange}
 use Rattle.report.specs.declared.profile.Start.{Start}
-use Rattle.report.proofs.Offset.{sub-pos, sub-neg, sub-eq, minus, sub-less, sub-plus, less-sub, floor-surplus}
-
--- a share of a number is at most the number
-pub share-below : (a b : ℕ) → a ≤ one → product a b ≤ b
-unfolding product
-share-below a b h = div-le-of-le-mul one (mul-le-mul-right b h)
+use Rattle.report.proofs.Offset.{sub-less, less-sub, floor-surplus}
 
 -- what is left of a deficit, and of a surplus, rounded down
 floor-deficit : (k Cs c : ℕ) → c ≤ Cs + 2147483648 → floor (pos k *ℤ (pos Cs -ℤ oxygenOf c)) one ≡ pos (product k (Cs + 2147483648 - c))

@@ -1,17 +1,22 @@
 -- The report as a list: its length, one more record put in its place, and the figures read back at each reach.
 -- Assumes nothing.
-use mathlib.Core.Path.{_≡_, refl, sym, ap, ap₂, _∙_, subst}
-use mathlib.Core.List.{List, [], _∷_, _++_, append-assoc, append-nil}
-use Prim.Native.Nat.{ℕ, zero, suc, _+_, _*_, _≤_, _<_}
+use mathlib.Core.Path.{_≡_, refl, sym, ap, ap₂, _∙_}
+use mathlib.Core.List.{List, [], _++_, append-assoc, append-nil}
+use Prim.Native.Nat.{ℕ, zero, suc, _+_, _*_, _<_}
 use native.Mathlib.Decide.{decLe}
 use native.Mathlib.Omega.{arith}
 use lib.ListN.{length, take, drop, length-append}
 use lib.Seq.{paste, take-at, drop-at, drop-append-add, drop-drop}
 use Rattle.river.specs.declared.card.Card.{Card}
-use Rattle.report.specs.Program.{Figures, figuresAt}
+use Rattle.report.specs.Program.{figuresAt}
 use Rattle.report.specs.Record.{encodeRecord, readRecord}
 use Rattle.report.specs.Report.{recordsOf, recordAt}
 use Rattle.report.proofs.Bytes.{Writable, record-length, read-back}
+
+-- a list begins with another
+record Begins (front whole : List ℕ) : Type 0 where
+  rest : List ℕ
+  is : whole ≡ front ++ rest
 
 module _ (cards : List Card) where
   pub records-length : (n : ℕ) → length (recordsOf cards n) ≡ 29 * n
@@ -22,27 +27,30 @@ module _ (cards : List Card) where
       ∙ ap₂ _+_ (records-length n) (record-length (figuresAt cards (suc n)))
       ∙ omega arith
 
-  -- the figures of a reach are read back from its place in the report
-  read-last :
-      (n i : ℕ) (post : List ℕ) →
-      i ≡ n →
-      Writable (figuresAt cards (suc i)) →
-      readRecord (recordAt (recordsOf cards n ++ (encodeRecord (figuresAt cards (suc n)) ++ post)) i) ≡ figuresAt cards (suc i)
-  read-last n i post e w =
-      rw e
-      (ap readRecord (drop-at (recordsOf cards n) (encodeRecord (figuresAt cards (suc n)) ++ post) (29 * n) (records-length n))
-      ∙ read-back (figuresAt cards (suc n)) post (rw e at w))
+  -- the record of a reach stands at its place in the report
+  stands-last : (n i : ℕ) (post : List ℕ) → i ≡ n → Begins (encodeRecord (figuresAt cards (suc i))) (recordAt (recordsOf cards n ++ (encodeRecord (figuresAt cards (suc n)) ++ post)) i)
+  stands-last n i post e =
+      rw e (record { rest = post; is = drop-at (recordsOf cards n) (encodeRecord (figuresAt cards (suc n)) ++ post) (29 * n) (records-length n) })
 
-  pub read-at :
-      (n i : ℕ) (post : List ℕ) →
-      i < n →
-      Writable (figuresAt cards (suc i)) →
-      readRecord (recordAt (recordsOf cards n ++ post) i) ≡ figuresAt cards (suc i)
+  stands : (n i : ℕ) (post : List ℕ) → i < n → Begins (encodeRecord (figuresAt cards (suc i))) (recordAt (recordsOf cards n ++ post) i)
   unfolding recordsOf
-  read-at zero i post l w = absurd (let h : ⊥ = omega arith in h)
-  read-at (suc n) i post l w =
-      ap (λ (s : List ℕ). readRecord (recordAt s i)) (append-assoc (recordsOf cards n) (encodeRecord (figuresAt cards (suc n))) post)
-      ∙ elim (decLe n i) [ yes h ↦ read-last n i post (omega arith) w | no h ↦ read-at n i (encodeRecord (figuresAt cards (suc n)) ++ post) (omega arith) w ]
+  stands zero i post l = absurd (let h : ⊥ = omega arith in h)
+  stands (suc n) i post l =
+      rw (append-assoc (recordsOf cards n) (encodeRecord (figuresAt cards (suc n))) post)
+      (elim (decLe n i) [ yes h ↦ stands-last n i post (omega arith) | no h ↦ stands n i (encodeRecord (figuresAt cards (suc n)) ++ post) (omega arith) ])
+
+  module _ (n i : ℕ) (post : List ℕ) (l : i < n) where
+    -- its 29 bytes
+    pub bytes-at : take 29 (recordAt (recordsOf cards n ++ post) i) ≡ encodeRecord (figuresAt cards (suc i))
+    bytes-at =
+        let s = stands n i post l in
+        ap (take 29) (s .is) ∙ take-at (encodeRecord (figuresAt cards (suc i))) (s .rest) 29 (record-length (figuresAt cards (suc i)))
+
+    -- the figures read back from them
+    pub read-at : Writable (figuresAt cards (suc i)) → readRecord (recordAt (recordsOf cards n ++ post) i) ≡ figuresAt cards (suc i)
+    read-at w =
+        let s = stands n i post l in
+        ap readRecord (s .is) ∙ read-back (figuresAt cards (suc i)) (s .rest) w
 
 -- a buffer that holds the records of the first n reaches of a river and then what stood there before
 pub record Filled (cards : List Card) (before : List ℕ) (n : ℕ) (buffer : List ℕ) : Type 0 where

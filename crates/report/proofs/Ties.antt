@@ -1,30 +1,22 @@
 -- The ties along a reach: BOD lies from 0 to head BOD, and where nothing decays or is aerated the figures stay to the unit.
 use mathlib.Core.Path.{_≡_, sym, _∙_, ap}
-use Prim.Native.Nat.{ℕ, _*_, _≤_, _<_}
-use native.Mathlib.Nat.{mul-le-mul-right, div-le-of-le-mul, mul-div-cancel-left, zero-mul, add-zero}
+use Prim.Native.Nat.{ℕ, _*_, _≤_}
+use native.Mathlib.Nat.{mul-div-cancel-left, zero-mul, add-zero}
 use native.Mathlib.Omega.{arith}
-use lib.Dec.{lit<}
 use lib.IntN.{ℤ, pos, negℤ, _+ℤ_, _-ℤ_, +ℤ-assoc, +ℤ-idl, +ℤ-invr, negℤ-negℤ, negℤ-+ℤ}
 use Rattle.decay.specs.Fixed.{one, product}
 use Rattle.decay.specs.Factors.{InRange}
+use Rattle.decay.proofs.Digits.{one-pos, share-below}
 use Rattle.decay.proofs.Shares.{step-sound}
 use Rattle.decay.proofs.Instants.{range, bod-tie, deficit-tie}
 use Rattle.decay.specs.declared.factors.Factors.{Factors}
 use Rattle.river.specs.declared.card.Card.{Card}
 use Rattle.river.specs.Flow.{Feeders, reachFlow, reachDepth}
 use Rattle.river.specs.Saturation.{saturation}
-use Rattle.report.specs.Program.{bodWith, oxygenWith, factorsOf, bodAlong, oxygenAlong, bodAt, oxygenAt, bodAtHead, oxygenAtHead, criticalOf, figuresOf, foot}
+use Rattle.report.specs.Program.{bodWith, oxygenWith, factorsOf, bodAlong, oxygenAlong, bodAt, oxygenAt, bodAtHead, oxygenAtHead, figuresOf, foot}
 use Rattle.report.proofs.Lowest.{lowest-constant}
-use Rattle.report.proofs.Forest.{Accepted, passed}
+use Rattle.report.proofs.Forest.{AcceptedReach, passed}
 use Rattle.report.proofs.Floor.{floor-multiple}
-
-one-pos : 0 < one
-one-pos = lit< tt
-
--- no more BOD than at the head
-pub bod-falls : (f : Factors) (L : ℕ) → f .left ≤ one → bodWith f L ≤ L
-unfolding bodWith product
-bod-falls f L h = div-le-of-le-mul one (mul-le-mul-right L h)
 
 -- where all BOD is left, BOD is that of the head
 pub bod-stays : (f : Factors) (L : ℕ) → f .left ≡ one → bodWith f L ≡ L
@@ -41,17 +33,15 @@ unfolding oxygenWith product
 oxygen-stays f Cs L C h k = rw (h, k, zero-mul, floor-multiple (pos Cs -ℤ C) one one-pos, add-zero) (back-again (pos Cs) C)
 
 -- the factors of an accepted reach are shares of one
-pub factors-range : {card : Card} {up : Feeders} → Accepted card up → (m : ℕ) → InRange (factorsOf card (reachFlow card up) m)
+pub factors-range : {card : Card} {up : Feeders} → AcceptedReach card up → (m : ℕ) → InRange (factorsOf card (reachFlow card up) m)
 unfolding factorsOf
 factors-range {card} {up} a m = range (step-sound (card .k1) (card .k2) (card .volume) (reachFlow card up) (passed a)) m
 
-module _ {card : Card} {up : Feeders} (a : Accepted card up) where
+module _ {card : Card} {up : Feeders} (a : AcceptedReach card up) where
   -- BOD lies from 0 to head BOD, at the foot too
   pub bod-at-most-head : (m : ℕ) → bodAt card up m ≤ bodAtHead card up
-  unfolding bodAt bodAlong
-  bod-at-most-head m =
-      let f = factorsOf card (reachFlow card up) m in
-      bod-falls f (bodAtHead card up) (omega (arith, factors-range a m .bod))
+  unfolding bodAt bodAlong bodWith
+  bod-at-most-head m = share-below _ (bodAtHead card up) (omega (arith, factors-range a m .bod))
 
   -- k1 = 0 or volume 0 keeps BOD
   pub bod-kept : card .k1 * card .volume ≡ 0 → (m : ℕ) → bodAt card up m ≡ bodAtHead card up
@@ -80,9 +70,12 @@ module _ {card : Card} {up : Feeders} (a : Accepted card up) where
         critical-oxygen = oxygenAtHead card up;
         foot-oxygen = oxygenAtHead card up;
       }
-  unfolding figuresOf criticalOf
+  unfolding figuresOf bodAt oxygenAt
   still-figures h k =
-      let bod = bod-kept h foot in
-      let oxygen = oxygen-kept h k foot in
-      let critical = lowest-constant (oxygenAt card up) (oxygenAtHead card up) foot (λ m l. oxygen-kept h k m) in
+      let Q = reachFlow card up in
+      let L = bodAtHead card up in
+      let C = oxygenAtHead card up in
+      let bod : bodAlong card Q L foot ≡ L = bod-kept h foot in
+      let oxygen : oxygenAlong card Q L C foot ≡ C = oxygen-kept h k foot in
+      let critical = lowest-constant (oxygenAlong card Q L C) C foot (λ m l. oxygen-kept h k m) in
       cc

@@ -1,13 +1,12 @@
 -- The walk down a reach: its start, and one step that finds lower oxygen or none.
 -- Assumes nothing.
 use mathlib.Core.Path.{_≡_, refl, sym, ap, ap₂, _∙_, subst}
-use mathlib.Core.Bool.{true, false}
 use Prim.Native.Nat.{ℕ, suc, _+_, _≤_, _<_}
 use native.Mathlib.Numerals.{add-one}
 use lib.IntN.{ℤ}
 use lib.Signed.{ltZ}
 use borrow.Author.Tests.{lt-ltb, le-ltb}
-use Rattle.river.specs.Head.{oxygenOf}
+use Rattle.river.specs.Tables.{oxygenOf}
 use Rattle.decay.specs.Fixed.{product}
 use Rattle.decay.specs.Factors.{Sound, InRange as Shares, startOf, nextOf, factorsAt}
 use Rattle.decay.specs.declared.step.Step.{Step}
@@ -17,7 +16,6 @@ use Rattle.report.specs.Program.{Critical, lower, lowest, bodWith, oxyge
 use Rattle.report.specs.Profile.{Stores, WalkedTo, Profiled, oxygenAfter}
 use Rattle.report.specs.declared.profile.Start.{Start}
 use Rattle.report.specs.declared.profile.Walk.{Walk}
-use Rattle.report.specs.declared.profile.Profile.{Profile}
 use Rattle.report.proofs.Offset.{sub-order}
 
 module _ (at : ℕ → ℤ) (m o w : ℕ) (here : Stores o (at (suc m))) (so-far : Stores w (lowest at m .oxygen)) where

@@ -1,9 +1,10 @@
 -- Demand 3 for a reach: how far its reported figures may stray from the exact recurrence at the series length N.
 use Prim.Native.Nat.{ℕ, _*_, _≤_}
 use Rattle.decay.specs.Fraction.{Fraction, ofℕ, ofℤ, _≼_, _+ᶠ_, _-ᶠ_, distance}
+use Rattle.decay.specs.Exact.{foot}
 use Rattle.river.specs.declared.card.Card.{Card}
 use Rattle.river.specs.Flow.{Feeders, reachDepth}
-use Rattle.report.specs.Program.{Figures, foot}
+use Rattle.report.specs.Program.{Figures}
 use Rattle.report.specs.Recurrence.{exactBodAtHead, exactOxygenAtHead, exactBodAt, exactOxygenAt}
 
 -- the distance allowed: 0.0001 mg/L, which is 100 units, times the depth of the reach

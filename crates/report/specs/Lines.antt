@@ -8,8 +8,8 @@ use Rattle.river.specs.declared.card.Card.{Card}
 use Rattle.river.specs.declared.flow.FlowTable.{FlowTable}
 use Rattle.river.specs.declared.head.FootTable.{FootTable}
 use Rattle.river.specs.Card.{Lawful}
-use Rattle.river.specs.Flow.{Flows, Tabled, flowAt, massAt}
-use Rattle.river.specs.Head.{Carried}
+use Rattle.river.specs.Flow.{Flows, flowAt, massAt}
+use Rattle.river.specs.Tables.{Tabled, Carried}
 use Rattle.report.specs.Program.{figuresAt}
 use Rattle.report.specs.Record.{figuresIn}
 use Rattle.report.specs.declared.record.Line.{Line}

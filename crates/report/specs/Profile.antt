@@ -4,9 +4,8 @@ use Prim.Native.Nat.{ℕ, _≤_, _<_}
 use lib.IntN.{ℤ}
 use Rattle.decay.specs.Factors.{factorsAt}
 use Rattle.decay.specs.declared.step.Step.{Step}
-use Rattle.river.specs.declared.card.Card.{Card}
-use Rattle.river.specs.Head.{oxygenOf}
-use Rattle.report.specs.Program.{Figures, bodWith, oxygenWith, bodAlong, oxygenAlong, foot, lowest}
+use Rattle.river.specs.Tables.{oxygenOf}
+use Rattle.report.specs.Program.{bodWith, oxygenWith, foot, lowest}
 use Rattle.report.specs.declared.profile.Start.{Start}
 use Rattle.report.specs.declared.profile.Walk.{Walk}
 use Rattle.report.specs.declared.profile.Profile.{Profile}
@@ -40,17 +39,3 @@ pub record Profiled (step : Step) (start : Start) (profile : Profile) : Type 0 w
   pub foot-oxygen : Stores (profile .«foot_oxygen») (oxygenAfter step start foot)
   pub critical-instant : profile .«critical_instant» ≡ lowest (oxygenAfter step start) foot .instant
   pub critical-oxygen : Stores (profile .«critical_oxygen») (lowest (oxygenAfter step start) foot .oxygen)
-
--- the figures of a reach with this card, depth, flow, head BOD and head oxygen
-abbrev pub figuresBelow : Card → (depth Q L : ℕ) (C : ℤ) → Figures
-figuresBelow card depth Q L C =
-    record {
-      depth = depth;
-      flow = Q;
-      head-bod = L;
-      foot-bod = bodAlong card Q L foot;
-      head-oxygen = C;
-      critical-instant = lowest (oxygenAlong card Q L C) foot .instant;
-      critical-oxygen = lowest (oxygenAlong card Q L C) foot .oxygen;
-      foot-oxygen = oxygenAlong card Q L C foot;
-    }

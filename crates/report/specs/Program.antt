@@ -1,5 +1,5 @@
 -- What the program computes for a reach: BOD and oxygen along it, its critical point, and the figures of its record.
--- A reach is a card over what flows into it, the forest of its feeders. Concentrations are in units; oxygen is signed.
+-- A reach is a card with what flows into it, the forest of its feeders. Concentrations are in units; oxygen is signed.
 use mathlib.Core.Bool.{cond}
 use mathlib.Core.List.{List}
 use Prim.Native.Nat.{ℕ, zero, suc, _+_, _*_}
@@ -7,8 +7,7 @@ use lib.IntN.{ℤ, pos, _+ℤ_, _-ℤ_, _*ℤ_}
 use lib.Signed.{ltZ}
 pub use Rattle.decay.specs.Exact.{foot}
 use Rattle.decay.specs.Fixed.{one, product}
-use Rattle.decay.specs.Step.{stepOf}
-use Rattle.decay.specs.Factors.{factorsAt}
+use Rattle.decay.specs.Promise.{factorsOf as decayFactors}
 use Rattle.decay.specs.declared.factors.Factors.{Factors}
 use Rattle.river.specs.declared.card.Card.{Card}
 use Rattle.river.specs.Flow.{Feeders, none, more, fed, flowOf, reachFlow, reachDepth, cardOf, above}
@@ -26,7 +25,7 @@ oxygenWith f Cs L C = pos Cs -ℤ pos (product (f .turned) L) -ℤ floor (pos (f
 
 -- the factors of a reach with flow Q at instant m
 unfoldable pub factorsOf : Card → (Q m : ℕ) → Factors
-factorsOf card Q m = factorsAt (stepOf (card .k1) (card .k2) (card .volume) Q) m
+factorsOf card Q m = decayFactors (card .k1) (card .k2) (card .volume) Q m
 
 -- BOD and oxygen at instant m of a reach with flow Q, head BOD L and head oxygen C
 unfoldable pub bodAlong : Card → (Q L m : ℕ) → ℕ
@@ -80,10 +79,6 @@ unfoldable pub lowest : (ℕ → ℤ) → ℕ → Critical
 lowest at zero = record { instant = 0; oxygen = at 0 }
 lowest at (suc m) = lower (lowest at m) (suc m) (at (suc m))
 
--- the critical point of a reach
-unfoldable pub criticalOf : Card → Feeders → Critical
-criticalOf card up = lowest (oxygenAt card up) foot
-
 -- the figures of a record, in file order
 pub record Figures : Type 0 where
   pub depth : ℕ
@@ -95,19 +90,23 @@ pub record Figures : Type 0 where
   pub critical-oxygen : ℤ
   pub foot-oxygen : ℤ
 
+-- the figures of a reach with this depth, flow Q, head BOD L and head oxygen C
+abbrev pub figuresBelow : Card → (depth Q L : ℕ) (C : ℤ) → Figures
+figuresBelow card depth Q L C =
+    record {
+      depth = depth;
+      flow = Q;
+      head-bod = L;
+      foot-bod = bodAlong card Q L foot;
+      head-oxygen = C;
+      critical-instant = lowest (oxygenAlong card Q L C) foot .instant;
+      critical-oxygen = lowest (oxygenAlong card Q L C) foot .oxygen;
+      foot-oxygen = oxygenAlong card Q L C foot;
+    }
+
 -- the figures of a reach
 unfoldable pub figuresOf : Card → Feeders → Figures
-figuresOf card up =
-    record {
-      depth = reachDepth up;
-      flow = reachFlow card up;
-      head-bod = bodAtHead card up;
-      foot-bod = bodAt card up foot;
-      head-oxygen = oxygenAtHead card up;
-      critical-instant = criticalOf card up .instant;
-      critical-oxygen = criticalOf card up .oxygen;
-      foot-oxygen = oxygenAt card up foot;
-    }
+figuresOf card up = figuresBelow card (reachDepth up) (reachFlow card up) (bodAtHead card up) (oxygenAtHead card up)
 
 -- the figures of reach i of a river
 abbrev pub figuresAt : List Card → ℕ → Figures

@@ -6,7 +6,7 @@ use lib.Dec.{leb}
 use lib.ListN.{length, drop}
 use Rattle.river.specs.declared.card.Card.{Card}
 use Rattle.river.specs.Refusal.{Answer, accepted, refused, need, after, codeOf}
-use Rattle.river.specs.Flow.{cardOf, above, depthAt, flowCheck, acceptFile}
+use Rattle.river.specs.Flow.{cardOf, above, depthAt, flowAt, acceptFile}
 use Rattle.report.specs.Program.{figuresAt}
 use Rattle.report.specs.Distance.{WithinAllowance}
 use Rattle.report.specs.Record.{encodeRecord, readRecord}
@@ -28,10 +28,6 @@ roomAnswer room cards = need (leb (29 * length cards) room) 12 0 (accepted cards
 unfoldable pub reportAnswer : (file : List ℕ) (room : ℕ) → Answer (List Card)
 reportAnswer file room = after (acceptFile file) (roomAnswer room)
 
--- the same of a river that was read
-unfoldable pub riverAnswer : (cards : List Card) (room : ℕ) → Answer (List Card)
-riverAnswer cards room = after (flowCheck cards) (roomAnswer room)
-
 -- the result: 0 for a river that is reported, and number + 256 × reach for a refusal
 unfoldable pub resultOf : Answer (List Card) → ℕ
 resultOf (accepted cards) = 0
@@ -41,11 +37,6 @@ resultOf (refused r) = codeOf r
 unfoldable pub bufferAfter : Answer (List Card) → List ℕ → List ℕ
 bufferAfter (accepted cards) before = reportOf cards ++ drop (29 * length cards) before
 bufferAfter (refused r) before = before
-
--- a call with this answer, the report buffer before and after, and the result
-pub record Leaves (answer : Answer (List Card)) (before after : List ℕ) (result : ℕ) : Type 0 where
-  pub result-is : result ≡ resultOf answer
-  pub buffer-is : after ≡ bufferAfter answer before
 
 -- the file's river is accepted, and a buffer of so many bytes can hold its report
 pub record Accepted (file : List ℕ) (room : ℕ) : Type 0 where
@@ -66,12 +57,23 @@ pub record Reports (file before after : List ℕ) (result : ℕ) : Type 0 where
   pub zero : Accepted file (length before) → result ≡ 0
   -- the whole buffer: untouched by a refusal, else each reach's record, and past 29 × n what stood there
   pub buffer : after ≡ bufferAfter (reportAnswer file (length before)) before
-  -- the depth in the bytes is the reach's
+  -- in short: a refused call writes no byte
+  pub untouched : (result ≡ 0 → ⊥) → after ≡ before
+  -- the record of each reach, read back from its bytes: the head by "Head of a reach", foot and critical point by the program's own factors
+  pub figures :
+      (river : Accepted file (length before)) (i : ℕ) →
+      i < length (river .cards) →
+      readRecord (recordAt after i) ≡ figuresAt (river .cards) (suc i)
+  -- the named counts: depth and flow in the bytes are those of "Flows and depth"
   pub depth :
       (river : Accepted file (length before)) (i : ℕ) →
       i < length (river .cards) →
       readRecord (recordAt after i) .depth ≡ depthAt (river .cards) (suc i)
-  -- demand 3, at every reach and every series length from 40 on, of the figures in the bytes
+  pub flow :
+      (river : Accepted file (length before)) (i : ℕ) →
+      i < length (river .cards) →
+      readRecord (recordAt after i) .flow ≡ flowAt (river .cards) (suc i)
+  -- demand 3: at every reach, and for every series length from 40 on, the concentrations in the bytes are near the exact ones
   pub within :
       (river : Accepted file (length before)) (i : ℕ) →
       i < length (river .cards) →

@@ -4,7 +4,7 @@ use decay::factors::Factors;
 use decay::fixed;
 use decay::step::Step;
 ghost use Prim.Native.Nat.{_+_, _<_};
-ghost use Rattle.river.specs.Head.{oxygenOf};
+ghost use Rattle.river.specs.Tables.{oxygenOf};
 ghost use Rattle.decay.specs.Factors.{Sound, InRange as Shares};
 ghost use Rattle.report.specs.Program.{foot, oxygenWith};
 ghost use Rattle.report.specs.Profile.{Stores, InRange, WalkedTo, Profiled};
@@ -38,12 +38,12 @@ pub fn oxygen_with(f: Factors, start: Start) -> u64
 {
     let oxygen = start.oxygen;
     let saturated = start.saturation + 2147483648;
-    let unmade = saturated - fixed::product(f.turned, start.bod);
+    let after_decay = saturated - fixed::product(f.turned, start.bod);
     if oxygen <= saturated {
-        unmade - fixed::product(f.kept, saturated - oxygen)
+        after_decay - fixed::product(f.kept, saturated - oxygen)
     } else {
         let over = oxygen - saturated;
-        unmade + over - fixed::product(17592186044416 - f.kept, over)
+        after_decay + over - fixed::product(17592186044416 - f.kept, over)
     }
 }
 

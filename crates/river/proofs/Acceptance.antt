@@ -9,14 +9,22 @@ use native.Mathlib.Omega.{arith}
 use lib.ListN.{length, getD}
 use borrow.Author.Tests.{ne-eqb}
 use Rattle.river.specs.declared.card.Card.{Card}
+use Rattle.river.specs.declared.read.Outcome.{Outcome}
+use Rattle.river.specs.declared.read.Reading.{Reading}
+use Rattle.river.specs.declared.refusal.Refusal.{Refusal}
+use Rattle.river.specs.declared.flow.FlowTable.{FlowTable}
+use Rattle.river.specs.declared.flow.Checked.{Checked}
 use Rattle.river.specs.Bytes.{AreBytes}
-use Rattle.river.specs.Card.{Lawful}
-use Rattle.river.specs.Refusal.{accepted}
-use Rattle.river.specs.Read.{readFile}
+use Rattle.river.specs.Card.{Lawful, river}
+use Rattle.river.specs.Refusal.{accepted, refused}
+use Rattle.river.specs.Read.{readFile, outcomeOf, Reads}
 use Rattle.river.specs.Write.{encode}
 use Rattle.river.specs.Flow.{blank, above, feedersAmong, joined, Flows, flowCheck, acceptFile}
-use Rattle.river.proofs.Answers.{after-accepted, went}
+use Rattle.river.specs.Tables.{FlowChecked}
+use Rattle.river.specs.Accept.{Accepts}
+use Rattle.river.proofs.Answers.{after-accepted, after-refused, went}
 use Rattle.river.proofs.Files.{reads-lawful, reads-only-lawful}
+use Rattle.river.proofs.Steps.{no-refusal}
 use Rattle.river.proofs.Ranges.{last-outlet, later-outlet}
 use Rattle.river.proofs.Checks.{lawful-at}
 use Rattle.river.proofs.FlowCheck.{flows-of-accepted, accepted-of-flows}
@@ -69,3 +77,33 @@ all-feeders {cards} h i l = from-all (length cards) (le-of-lt l) (le-refl (lengt
         (λ (k : i ≡ suc n). ap (λ (k : ℕ). feedersAmong cards k (suc i)) k)
         (λ (k : i < suc n). from-all n (le-of-suc-le-suc k) (le-of-lt b) ∙ sym (other n (le-of-suc-le-suc k) b))
         (eq-or-lt-of-le a)
+
+-- The cards that a reading of bytes accepts are lawful.
+pub reading-lawful : {file : List ℕ} {r : Reading} → AreBytes file → Reads file r → r .outcome ≡ Outcome.Accepted → Lawful (river (r .cards))
+reading-lawful {file} {r} b h e =
+    reads-only-lawful file (river (r .cards)) b (sym (h .answer) ∙ ap (λ (o : Outcome). outcomeOf o (river (r .cards))) e) .lawful
+
+-- a refused reading is the answer
+pub reading-refused : {file : List ℕ} {r : Reading} {x : Refusal} (t : FlowTable) → Reads file r → r .outcome ≡ Outcome.Refused x → Accepts file (record { outcome = r .outcome; cards = r .cards; flows = t })
+unfolding acceptFile
+reading-refused {file} {r} {x} t h e =
+    let read : readFile file ≡ refused x = sym (h .answer) ∙ ap (λ (o : Outcome). outcomeOf o (river (r .cards))) e in
+    record {
+      answer = ap (λ (o : Outcome). outcomeOf o (river (r .cards))) e ∙ sym (after-refused _ _ read);
+      lawful = λ q. no-refusal (sym q ∙ e);
+      sound = λ q. no-refusal (sym q ∙ e);
+      tabled = λ q. no-refusal (sym q ∙ e);
+    }
+
+-- a reading that is accepted goes on to the flow check
+pub reading-checked : {file : List ℕ} {r : Reading} {k : Checked} → AreBytes file → Reads file r → r .outcome ≡ Outcome.Accepted → FlowChecked (river (r .cards)) k → Accepts file (record { outcome = k .outcome; cards = r .cards; flows = k .flows })
+unfolding acceptFile
+reading-checked {file} {r} {k} b h e f =
+    let cards = river (r .cards) in
+    let read : readFile file ≡ accepted cards = sym (h .answer) ∙ ap (λ (o : Outcome). outcomeOf o cards) e in
+    record {
+      answer = f .answer ∙ sym (after-accepted _ _ read);
+      lawful = λ q. reading-lawful b h e;
+      sound = λ q. flows-of-accepted (sym (f .answer) ∙ ap (λ (o : Outcome). outcomeOf o cards) q);
+      tabled = f .tabled;
+    }

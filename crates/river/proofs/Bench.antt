@@ -13,7 +13,7 @@ use Rattle.river.specs.Saturation.{saturation, saturationThousandths}
 use Rattle.river.specs.Head.{floor, upstreamBod, upstreamOxygen, aerated, belowDam, headBod, headOxygen}
 
 -- a reach at 20 degrees with no load
-abbrev reach : (outlet k1 volume inflow bod oxygen : ℕ) → Dam → Card
+abbrev pub reach : (outlet k1 volume inflow bod oxygen : ℕ) → Dam → Card
 reach outlet k1 volume inflow bod oxygen dam =
     record {
       outlet = outlet;
@@ -29,13 +29,13 @@ reach outlet k1 volume inflow bod oxygen dam =
     }
 
 -- the two reaches of the printing program's example, with a dam on reach 2 or without
-abbrev first : Card
+abbrev pub first : Card
 first = reach 2 0 1000 3000 2000 8000 Absent
 
-abbrev second : Dam → Card
+abbrev pub second : Dam → Card
 second dam = reach 0 0 1000 1000 30000 2000 dam
 
-abbrev two : Dam → List Card
+abbrev pub two : Dam → List Card
 two dam = first ∷ second dam ∷ []
 
 abbrev weir : Dam

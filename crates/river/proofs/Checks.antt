@@ -1,13 +1,11 @@
 -- The check of one more reach: what the tables of the reaches that passed say of the next, and the tables after it.
 use mathlib.Core.Path.{_≡_, refl, ap, _∙_}
-use mathlib.Core.Logic.{⊎-elim}
 use mathlib.Core.List.{List, [], _∷_}
 use Prim.Native.Nat.{ℕ, zero, suc, _+_, _<_, _≤_}
-use native.Mathlib.Nat.{add-zero, le-trans, mul-le-mul-left, not-suc-le-zero, eq-or-lt-of-le, le-of-suc-le-suc}
+use native.Mathlib.Nat.{add-zero, le-trans, mul-le-mul-left, not-suc-le-zero, le-of-suc-le-suc}
 use native.Mathlib.Numerals.{one-add}
 use native.Mathlib.Omega.{arith}
 use lib.ListN.{length, getD, set}
-use lib.Seq.{getD-set-same, getD-set-other}
 use lib.Dec.{ltb}
 use Rattle.river.specs.declared.card.Card.{Card}
 use Rattle.river.specs.declared.read.Outcome.{Outcome}
@@ -15,8 +13,9 @@ use Rattle.river.specs.declared.flow.FlowTable.{FlowTable}
 use Rattle.river.specs.declared.flow.Checked.{Checked}
 use Rattle.river.specs.Refusal.{Answer}
 use Rattle.river.specs.Card.{Lawful, LawfulCard, LawfulFrom}
-use Rattle.river.specs.Flow.{Feeders, blank, cardOf, above, flowOf, massOf, deepest, reachFlow, reachMass, reachDepth, ownMass, flowAt, massAt, depthAt, checksOf, reachChecks, goOn, tableSum, tableMax, Sound, Tabled, NextInput, NextChecked}
-use Rattle.river.proofs.Table.{Adds, TableOf, sum-of-feeders, sum-bounded, max-of-feeders, deepest-few, fed-deepest}
+use Rattle.river.specs.Flow.{Feeders, blank, cardOf, above, flowOf, massOf, deepest, reachFlow, reachMass, reachDepth, ownMass, flowAt, massAt, depthAt, checksOf, reachChecks, Sound}
+use Rattle.river.specs.Tables.{goOn, tableSum, tableMax, Tabled, NextInput, NextChecked}
+use Rattle.river.proofs.Table.{entered, Adds, TableOf, sum-of-feeders, sum-bounded, max-of-feeders, deepest-few, fed-deepest}
 
 -- the card of a reach of a lawful river is lawful
 lawful-from : (n i j : ℕ) (cards : List Card) → LawfulFrom n i cards → j < length cards → LawfulCard n (i + j) (getD cards j blank)
@@ -53,14 +52,6 @@ module _ {cards : List Card} {n : ℕ} {t : FlowTable} (h : Tabled cards n t) wh
 pub mass-bounded : {card : Card} {up : Feeders} → Sound card up → reachMass card up ≤ 100000000000000
 mass-bounded {card} {up} s = le-trans (s .mass-rule) (mul-le-mul-left 1000000 (s .bounded))
 
--- one more entry of a table
-entry : (l : List ℕ) (n v : ℕ) (f : ℕ → ℕ) → n < length l → v ≡ f n → ((j : ℕ) → j < n → getD l j 0 ≡ f j) → (j : ℕ) → j < suc n → getD (set l n v) j 0 ≡ f j
-entry l n v f room e below j h =
-    ⊎-elim
-    (λ (k : j ≡ n). rw k (getD-set-same l n v 0 room ∙ e))
-    (λ (k : j < n). getD-set-other l n j v 0 (λ (q : j ≡ n). omega arith) ∙ below j k)
-    (eq-or-lt-of-le (le-of-suc-le-suc h))
-
 -- tables of 128 entries
 pub record Full (t : FlowTable) : Type 0 where
   pub outlet : length (t .outlet) ≡ 128
@@ -72,10 +63,10 @@ pub record Full (t : FlowTable) : Type 0 where
 pub next-table : {cards : List Card} {i : ℕ} {t u : FlowTable} {o q m d : ℕ} → Tabled cards i t → i < 128 → Full t → (u .outlet ≡ set (t .outlet) i o) × (u .flow ≡ set (t .flow) i q) × (u .mass ≡ set (t .mass) i m) × (u .depth ≡ set (t .depth) i d) → o ≡ cardOf cards (suc i) .outlet → q ≡ flowAt cards (suc i) → m ≡ massAt cards (suc i) → d ≡ depthAt cards (suc i) → Tabled cards (suc i) u
 next-table {cards} {i} {t} {u} {o} {q} {m} {d} h few room e eo eq em ed =
     record {
-      outlet = λ j l. rw (e .0) (entry (t .outlet) i o (λ k. cardOf cards (suc k) .outlet) (rw (room .outlet) few) eo (h .outlet) j l);
-      flow = λ j l. rw (e .1) (entry (t .flow) i q (λ k. flowAt cards (suc k)) (rw (room .flow) few) eq (h .flow) j l);
-      mass = λ j l. rw (e .2) (entry (t .mass) i m (λ k. massAt cards (suc k)) (rw (room .mass) few) em (h .mass) j l);
-      depth = λ j l. rw (e .3) (entry (t .depth) i d (λ k. depthAt cards (suc k)) (rw (room .depth) few) ed (h .depth) j l);
+      outlet = λ j l. rw (e .0) (entered (t .outlet) i o (λ k x. x ≡ cardOf cards (suc k) .outlet) (rw (room .outlet) few) eo (h .outlet) j l);
+      flow = λ j l. rw (e .1) (entered (t .flow) i q (λ k x. x ≡ flowAt cards (suc k)) (rw (room .flow) few) eq (h .flow) j l);
+      mass = λ j l. rw (e .2) (entered (t .mass) i m (λ k x. x ≡ massAt cards (suc k)) (rw (room .mass) few) em (h .mass) j l);
+      depth = λ j l. rw (e .3) (entered (t .depth) i d (λ k x. x ≡ depthAt cards (suc k)) (rw (room .depth) few) ed (h .depth) j l);
     }
 
 module _ {cards : List Card} {t : FlowTable} {i : ℕ} (h : NextInput cards t i) where

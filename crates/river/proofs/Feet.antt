@@ -1,19 +1,21 @@
 -- Tables of feet: one more foot stays in bounds, and the sum of flow × stored oxygen over the feeders stands for that of flow × oxygen.
 use mathlib.Core.Path.{_≡_, sym, ap, ap₂, _∙_}
-use mathlib.Core.Logic.{⊎-elim}
 use mathlib.Core.Bool.{Bool, true, false}
 use mathlib.Core.List.{List}
 use Prim.Native.Nat.{ℕ, zero, suc, _+_, _*_, _<_, _≤_}
-use native.Mathlib.Nat.{le-refl, le-of-suc-le-suc, eq-or-lt-of-le, not-suc-le-zero, mul-le-mul-left, mul-comm}
+use native.Mathlib.Nat.{le-refl, le-trans, not-suc-le-zero, mul-le-mul-left, mul-comm}
 use native.Mathlib.Omega.{arith}
 use lib.ListN.{length, getD, set}
-use lib.Seq.{getD-set-same, getD-set-other}
 use lib.Dec.{eqb}
 use lib.IntN.{ℤ, pos, subℕ, _+ℤ_, _*ℤ_}
 use Rattle.river.specs.declared.card.Card.{Card}
+use Rattle.river.specs.declared.flow.FlowTable.{FlowTable}
 use Rattle.river.specs.declared.head.FootTable.{FootTable}
-use Rattle.river.specs.Flow.{Feeders, none, more, blank, feedersAmong, joined, flowOf, reachFlow, flowAt, massAt, onlyIf, tableSum}
-use Rattle.river.specs.Head.{oxygenOf, Carried}
+use Rattle.river.specs.declared.head.Head.{Head}
+use Rattle.river.specs.Flow.{Feeders, none, more, blank, feedersAmong, joined, flowOf, reachFlow, flowAt, massAt}
+use Rattle.river.specs.Tables.{onlyIf, tableSum, oxygenOf, Carried, HeadInput, HeadOf}
+use Rattle.river.proofs.Table.{entered}
+use Rattle.river.proofs.Heads.{reach-few}
 use Rattle.river.proofs.Offset.{sub-add, times-sub}
 
 -- no feet are in bounds
@@ -21,21 +23,14 @@ pub carried-none : (cards : List Card) (feet : FootTable) → Carried cards feet
 carried-none cards feet =
     record { bod = λ j l. absurd (not-suc-le-zero l); oxygen = λ j l. absurd (not-suc-le-zero l) }
 
-below-next : (l : List ℕ) (n v : ℕ) (f : ℕ → ℕ) → n < length l → v ≤ f n → ((j : ℕ) → j < n → getD l j 0 ≤ f j) → (j : ℕ) → j < suc n → getD (set l n v) j 0 ≤ f j
-below-next l n v f room e below j h =
-    ⊎-elim
-    (λ (k : j ≡ n). rw (k, getD-set-same l n v 0 room) e)
-    (λ (k : j < n). rw (getD-set-other l n j v 0 (λ (q : j ≡ n). omega arith)) (below j k))
-    (eq-or-lt-of-le (le-of-suc-le-suc h))
-
 -- one more foot whose flow × BOD is at most 1,000 × M stays in bounds
 pub carried-next : (bod : ℕ) {cards : List Card} {feet next : FootTable} {i flow oxygen : ℕ} → Carried cards feet i → i < length (feet .bod) → i < length (feet .oxygen) → (next .bod ≡ set (feet .bod) i (flow * bod)) × (next .oxygen ≡ set (feet .oxygen) i (flow * oxygen)) → flow ≡ flowAt cards (suc i) → flow * bod ≤ 1000 * massAt cards (suc i) → oxygen ≤ 4294967295 → Carried cards next (suc i)
 carried-next bod {cards} {feet} {next} {i} {flow} {oxygen} h p q e f m o =
     record {
-      bod = λ j l. rw (e .0) (below-next (feet .bod) i (flow * bod) (λ k. 1000 * massAt cards (suc k)) p m (h .bod) j l);
+      bod = λ j l. rw (e .0) (entered (feet .bod) i (flow * bod) (λ k x. x ≤ 1000 * massAt cards (suc k)) p m (h .bod) j l);
       oxygen =
           λ j l. rw (e .1)
-          (below-next (feet .oxygen) i (flow * oxygen) (λ k. 4294967295 * flowAt cards (suc k)) q
+          (entered (feet .oxygen) i (flow * oxygen) (λ k x. x ≤ 4294967295 * flowAt cards (suc k)) q
           (rw (← f, mul-comm 4294967295 flow) (mul-le-mul-left flow o)) (h .oxygen) j l);
     }
 
@@ -79,3 +74,23 @@ oxygen-of-feeders {S} {g} {cards} {stored} {outlets} {values} {n = suc n} a t i 
     step : (b : Bool) (card : Card) (up rest : Feeders) (s x : ℕ) → oxygenOf s ≡ g card up → subℕ x (2147483648 * flowOf rest) ≡ S rest → subℕ (onlyIf b (reachFlow card up * s) + x) (2147483648 * flowOf (joined b card up rest)) ≡ S (joined b card up rest)
     step true card up rest s x e f = more-oxygen (reachFlow card up) s x (flowOf rest) ∙ ap₂ _+ℤ_ (ap (λ (z : ℤ). pos (reachFlow card up) *ℤ z) e) f ∙ sym (a .plus card up rest)
     step false card up rest s x e f = ap (λ (z : ℕ). subℕ z (2147483648 * flowOf rest)) (omega arith) ∙ f
+
+module _ {cards : List Card} {flows : FlowTable} {feet : FootTable} {i : ℕ} (h : HeadInput cards flows feet i) where
+  -- the flow of the reach
+  pub flow-bounded : getD (flows .flow) i 0 ≤ 100000000
+  flow-bounded = rw (h .tabled .flow i (h .within)) (h .sound .each i (h .within) .bounded)
+
+  -- a foot with at most the head's BOD stays in bounds
+  pub foot-carried :
+      {next : FootTable} {r : Head} {oxygen : ℕ} (bod : ℕ) →
+      HeadOf cards flows feet i r →
+      bod ≤ r .bod →
+      oxygen < 4294967296 →
+      (length (feet .bod) ≡ 128) × (length (feet .oxygen) ≡ 128) →
+      (next .bod ≡ set (feet .bod) i (getD (flows .flow) i 0 * bod)) × (next .oxygen ≡ set (feet .oxygen) i (getD (flows .flow) i 0 * oxygen)) →
+      Carried cards next (suc i)
+  foot-carried {next} {r} {oxygen} bod k less fits full e =
+      let flow = h .tabled .flow i (h .within) in
+      carried-next bod (h .carried) (rw (full .0) (reach-few h)) (rw (full .1) (reach-few h)) e flow
+      (rw flow (le-trans (mul-le-mul-left (flowAt cards (suc i)) less) (k .mass)))
+      (omega arith)

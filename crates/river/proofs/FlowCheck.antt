@@ -18,7 +18,8 @@ use Rattle.river.specs.declared.flow.FlowTable.{FlowTable}
 use Rattle.river.specs.declared.flow.Checked.{Checked}
 use Rattle.river.specs.Refusal.{Answer, accepted, refused}
 use Rattle.river.specs.Card.{Lawful}
-use Rattle.river.specs.Flow.{Feeders, cardOf, above, fed, flowOf, reachFlow, reachMass, damFits, DamRule, Sound, Flows, checksOf, reachChecks, checksFrom, flowCheck, goOn, PassedFirst, NextInput, NextChecked, FlowChecked}
+use Rattle.river.specs.Flow.{Feeders, cardOf, above, fed, flowOf, reachFlow, reachMass, damFits, DamRule, Sound, Flows, checksOf, reachChecks, checksFrom, flowCheck}
+use Rattle.river.specs.Tables.{goOn, PassedFirst, NextInput, NextChecked, FlowChecked}
 use Rattle.river.proofs.Answers.{need-true, passed, both-true, both}
 use Rattle.river.proofs.Steps.{no-refusal}
 

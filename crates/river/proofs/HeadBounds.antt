@@ -9,7 +9,8 @@ use Rattle.river.specs.declared.card.Dam.the-variants.{Aerating}
 use Rattle.river.specs.declared.card.Card.{Card}
 use Rattle.river.specs.Flow.{ownMass}
 use Rattle.river.specs.Saturation.{saturation, saturationThousandths}
-use Rattle.river.specs.Head.{upstreamBod, headBod, DamWithin}
+use Rattle.river.specs.Head.{upstreamBod, headBod}
+use Rattle.river.specs.Tables.{DamWithin}
 
 -- the falling terms of the polynomial are at most the others
 pub saturation-positive : (T : ℕ) → T ≤ 35 → 410220000 * T + 77774 * (T * T * T) ≤ 14652000000 + 7991000 * (T * T)

@@ -16,8 +16,9 @@ use Rattle.river.specs.declared.flow.FlowTable.{FlowTable}
 use Rattle.river.specs.declared.head.FootTable.{FootTable}
 use Rattle.river.specs.declared.head.Head.{Head}
 use Rattle.river.specs.Card.{LawfulDam}
-use Rattle.river.specs.Flow.{Feeders, blank, cardOf, above, feedersAmong, joined, flowOf, massOf, deepest, fed, reachFlow, reachMass, ownMass, tableSum, Sound, DamRule, Tabled}
-use Rattle.river.specs.Head.{upstreamBod, headBod, DamWithin, HeadReady, HeadInput, HeadOf, headOxygen, oxygenOf}
+use Rattle.river.specs.Flow.{Feeders, blank, cardOf, above, feedersAmong, joined, flowOf, massOf, deepest, fed, reachFlow, reachMass, ownMass, Sound, DamRule}
+use Rattle.river.specs.Head.{upstreamBod, headBod, headOxygen}
+use Rattle.river.specs.Tables.{tableSum, Tabled, DamWithin, HeadReady, HeadInput, HeadOf, oxygenOf}
 use Rattle.river.proofs.Table.{sum-of-feeders, sum-scaled, fed-deepest}
 use Rattle.river.proofs.HeadBounds.{mixed-total}
 use Rattle.river.proofs.Checks.{lawful-at, flows-add, masses-add, flow-table, mass-table, mass-bounded}

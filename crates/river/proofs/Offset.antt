@@ -6,7 +6,6 @@ use native.Mathlib.Decide.{decLe}
 use native.Mathlib.Nat.{mul-comm, add-mul, suc-mul, add-mul-div-right, div-eq-of-lt-le, div-lt-iff-lt-mul, lt-div-mul-add, div-mul-le-self}
 use native.Mathlib.Omega.{arith}
 use borrow.Author.Tests.{lt-ltb, le-ltb}
-use lib.Dec.{ltb}
 use lib.IntN.{ℤ, pos, negsuc, negℤ, subℕ, _+ℤ_, _-ℤ_, _*ℤ_, negℤ-negℤ, *ℤ-comm}
 use Rattle.river.specs.Head.{floor}
 

@@ -1,24 +1,23 @@
 -- The loop of reading, card after card: what is read so far and what is still to be read make the whole.
 -- Assumes nothing.
-use Prim.Native.Nat.{ℕ, suc, _+_, _-_, _*_, _≤_, _<_}
+use Prim.Native.Nat.{ℕ, suc, _+_, _-_, _≤_, _<_}
 use mathlib.Core.Path.{_≡_, refl, ap, sym, _∙_}
 use mathlib.Core.List.{List, [], _∷_, _++_, append-nil}
 use native.Mathlib.Numerals.{add-one}
 use native.Mathlib.Omega.{arith}
-use lib.ListN.{length, take, drop, set, length-set, length-drop}
+use lib.ListN.{length, take, drop, set, length-drop}
 use lib.Seq.{take-suc-set, drop-drop, append-snoc}
 use borrow.Author.Tests.{eq-eqb, ne-eqb}
-use Rattle.river.specs.Read.{readReach, readReaches, sizeOf}
+use Rattle.river.specs.Read.{readHeader, headerOf, readReach, readReaches, readFile, sizeOf}
+use Rattle.river.specs.Reader.{joined, continued, GoesOn}
 use Rattle.river.specs.Refusal.{Answer, accepted, refused, refuse, after}
 use Rattle.river.specs.declared.card.Card.{Card}
+use Rattle.river.specs.declared.read.Header.{Header}
+use Rattle.river.specs.declared.read.Outcome.{Outcome}
+use Rattle.river.specs.declared.reader.Progress.{Progress}
 use Rattle.river.specs.declared.refusal.Refusal.{Refusal}
 use Rattle.river.proofs.Answers.{need-true, need-false, after-accepted, after-refused}
-use Rattle.river.proofs.Steps.{size-small}
-
--- cards before those of an answer
-abbrev pub joined : List Card → Answer (List Card) → Answer (List Card)
-joined cs (accepted ds) = accepted (cs ++ ds)
-joined cs (refused r) = refused r
+use Rattle.river.proofs.Steps.{counted, header-few, file-reaches}
 
 joined-nil : (x : Answer (List Card)) → x ≡ joined [] x
 joined-nil (accepted cs) = refl
@@ -52,74 +51,93 @@ readReaches-end n i next s h = need-true _ _ _ _ (eq-eqb (length (drop next s)) 
 left-over : (n i : ℕ) → i < n → n - i ≡ suc (n - (i + 1))
 left-over n i h = omega arith
 
--- i reaches of n are read, and the next begins at a position
-pub record Progress (n : ℕ) (s : List ℕ) (start : ℕ) (at : List Card) (next i : ℕ) : Type 0 where
-  pub most : i ≤ n
-  pub near : next ≤ start + 34 * i
-  pub room : length at ≡ 128
-  pub rest : readReaches n 1 n (drop start s) ≡ joined (take i at) (readReaches n (i + 1) (n - i) (drop next s))
-
-module _ (n : ℕ) (s : List ℕ) (start : ℕ) where
-  pub begun : (at : List Card) → length at ≡ 128 → Progress n s start at start 0
-  begun at h =
-      let same : n ≡ n - 0 = omega arith in
+module _ (s : List ℕ) where
+  -- a refusal, after which no reach is due
+  pub halted : (at : List Card) {r : Refusal} → readFile s ≡ refused r
+      → GoesOn s (record { outcome = Outcome.Refused r; at = at; count = 0; read = 0; next = 0 })
+  halted at e =
       record {
+        few = omega arith;
         most = omega arith;
-        near = omega arith;
-        room = h;
-        rest =
-            joined-nil (readReaches n 1 n (drop start s)) ∙
-            ap (λ (k : ℕ). joined [] (readReaches n 1 k (drop start s))) same;
+        opened = λ h. absurd (let z : ⊥ = omega arith in z);
+        rest = e;
       }
 
-  module _ {at : List Card} {next i : ℕ} (p : Progress n s start at next i) where
-    pub one-more : {c : Card} {k : ℕ} → i < n → n ≤ 128 → readReach n (i + 1) (drop next s) ≡ accepted c → k ≡ next + sizeOf c
-        → Progress n s start (set at i c) k (i + 1)
-    one-more {c} {k} less few e f =
+  pub begun : (at : List Card) {n next : ℕ} → headerOf (readHeader s) ≡ Header.Count n next
+      → GoesOn s (record { outcome = Outcome.Accepted; at = at; count = n; read = 0; next = next })
+  begun at {n} {next} e =
+      let same : n ≡ n - 0 = omega arith in
+      record {
+        few = header-few s (counted (readHeader s) e .0);
+        most = omega arith;
+        opened = λ _. refl;
+        rest =
+            file-reaches s e ∙
+            joined-nil (readReaches n 1 n (drop next s)) ∙
+            ap (λ (k : ℕ). joined [] (readReaches n 1 k (drop next s))) same;
+      }
+
+  module _ {p : Progress} (g : GoesOn s p) where
+    -- where a reach is due no refusal is found
+    going : {o : Outcome} → p .outcome ≡ o
+        → readFile s ≡ continued o (take (p .read) (p .at)) (readReaches (p .count) (p .read + 1) (p .count - p .read) (drop (p .next) s))
+    going e = g .rest ∙ ap (λ (o : Outcome). continued o (take (p .read) (p .at)) (readReaches (p .count) (p .read + 1) (p .count - p .read) (drop (p .next) s))) e
+
+    pub one-more : {c : Card} {k : ℕ} → p .read < p .count → length (p .at) ≡ 128 → readReach (p .count) (p .read + 1) (drop (p .next) s) ≡ accepted c → k ≡ p .next + sizeOf c
+        → GoesOn s (record { outcome = Outcome.Accepted; at = set (p .at) (p .read) c; count = p .count; read = p .read + 1; next = k })
+    one-more {c} {k} less room e f =
         record {
+          few = g .few;
           most = omega arith;
-          near = omega (arith, p .near, size-small (c .dam));
-          room = length-set at i c ∙ p .room;
-          rest = p .rest ∙ rest₁ ∙ rest₂ ∙ rest₃;
+          opened = λ _. refl;
+          rest = going (g .opened less) ∙ rest₁ ∙ rest₂ ∙ rest₃;
         }
       where
-        rest₁ : joined (take i at) (readReaches n (i + 1) (n - i) (drop next s))
-            ≡ joined (take i at) (readReaches n (i + 1) (suc (n - (i + 1))) (drop next s))
-        rest₁ = rw left-over
+        at : List Card
+        at = p .at
 
-        rest₂ : joined (take i at) (readReaches n (i + 1) (suc (n - (i + 1))) (drop next s))
-            ≡ joined (take i at ++ (c ∷ [])) (readReaches n (suc (i + 1)) (n - (i + 1)) (drop (sizeOf c) (drop next s)))
-        rest₂ = ap (joined (take i at)) (readReaches-suc n (i + 1) (n - (i + 1)) (drop next s) e) ∙ joined-cons (take i at) c _
+        rest₁ : joined (take (p .read) (p .at)) (readReaches (p .count) (p .read + 1) (p .count - p .read) (drop (p .next) s))
+            ≡ joined (take (p .read) (p .at)) (readReaches (p .count) (p .read + 1) (suc (p .count - (p .read + 1))) (drop (p .next) s))
+        rest₁ = ap (λ (m : ℕ). joined (take (p .read) (p .at)) (readReaches (p .count) (p .read + 1) m (drop (p .next) s))) (left-over (p .count) (p .read) less)
 
-        kept : take i at ++ (c ∷ []) ≡ take (i + 1) (set at i c)
-        kept = sym (rw add-one (take-suc-set at i c (omega (arith, p .room))))
+        rest₂ : joined (take (p .read) (p .at)) (readReaches (p .count) (p .read + 1) (suc (p .count - (p .read + 1))) (drop (p .next) s))
+            ≡ joined (take (p .read) (p .at) ++ (c ∷ [])) (readReaches (p .count) (suc (p .read + 1)) (p .count - (p .read + 1)) (drop (sizeOf c) (drop (p .next) s)))
+        rest₂ = ap (joined (take (p .read) (p .at))) (readReaches-suc (p .count) (p .read + 1) (p .count - (p .read + 1)) (drop (p .next) s) e) ∙ joined-cons (take (p .read) (p .at)) c _
 
-        place : drop (sizeOf c) (drop next s) ≡ drop k s
-        place = drop-drop (sizeOf c) next s ∙ rw (← f)
+        kept : take (p .read) (p .at) ++ (c ∷ []) ≡ take (p .read + 1) (set (p .at) (p .read) c)
+        kept = sym (rw add-one (take-suc-set (p .at) (p .read) c (omega (arith, room, g .few))))
 
-        rest₃ : joined (take i at ++ (c ∷ [])) (readReaches n (suc (i + 1)) (n - (i + 1)) (drop (sizeOf c) (drop next s)))
-            ≡ joined (take (i + 1) (set at i c)) (readReaches n (i + 1 + 1) (n - (i + 1)) (drop k s))
-        rest₃ j = joined (kept j) (readReaches n (sym (add-one (i + 1)) j) (n - (i + 1)) (place j))
+        place : drop (sizeOf c) (drop (p .next) s) ≡ drop k s
+        place = drop-drop (sizeOf c) (p .next) s ∙ rw (← f)
 
-    pub stopped : {r : Refusal} → i < n → readReach n (i + 1) (drop next s) ≡ refused r → readReaches n 1 n (drop start s) ≡ refused r
+        rest₃ : joined (take (p .read) (p .at) ++ (c ∷ [])) (readReaches (p .count) (suc (p .read + 1)) (p .count - (p .read + 1)) (drop (sizeOf c) (drop (p .next) s)))
+            ≡ joined (take (p .read + 1) (set (p .at) (p .read) c)) (readReaches (p .count) (p .read + 1 + 1) (p .count - (p .read + 1)) (drop k s))
+        rest₃ j = joined (kept j) (readReaches (p .count) (sym (add-one (p .read + 1)) j) (p .count - (p .read + 1)) (place j))
+
+    pub stopped : {r : Refusal} → p .read < p .count → readReach (p .count) (p .read + 1) (drop (p .next) s) ≡ refused r → readFile s ≡ refused r
     stopped {r} less e =
-        let now : readReaches n (i + 1) (n - i) (drop next s) ≡ refused r =
-        rw left-over (readReaches-refused n (i + 1) (n - (i + 1)) (drop next s) e)
+        let now : readReaches (p .count) (p .read + 1) (p .count - p .read) (drop (p .next) s) ≡ refused r =
+        rw left-over (readReaches-refused (p .count) (p .read + 1) (p .count - (p .read + 1)) (drop (p .next) s) e)
         in
-        p .rest ∙ ap (joined (take i at)) now
+        going (g .opened less) ∙ ap (joined (take (p .read) (p .at))) now
 
-    pub too-long : n ≤ i → next < length s → readReaches n 1 n (drop start s) ≡ refused (refuse 6 0)
-    too-long done more =
-        let none : n - i ≡ 0 = omega arith in
-        p .rest ∙
-        ap (λ (k : ℕ). joined (take i at) (readReaches n (i + 1) k (drop next s))) none ∙
-        ap (joined (take i at)) (readReaches-more n (i + 1) next s more)
+    -- no reach is due
+    pub was-refused : {r : Refusal} → p .outcome ≡ Outcome.Refused r → readFile s ≡ refused r
+    was-refused e = going e
 
-    pub complete : n ≤ i → length s ≤ next → readReaches n 1 n (drop start s) ≡ accepted (take n at)
-    complete done end =
-        let none : n - i ≡ 0 = omega arith in
-        let all : i ≡ n = omega (arith, p .most) in
-        p .rest ∙
-        ap (λ (k : ℕ). joined (take i at) (readReaches n (i + 1) k (drop next s))) none ∙
-        ap (joined (take i at)) (readReaches-end n (i + 1) next s end) ∙
-        ap accepted (append-nil (take i at) ∙ rw all)
+    none-left : p .count ≤ p .read → p .outcome ≡ Outcome.Accepted
+        → readFile s ≡ joined (take (p .read) (p .at)) (readReaches (p .count) (p .read + 1) 0 (drop (p .next) s))
+    none-left done e =
+        let none : p .count - p .read ≡ 0 = omega arith in
+        going e ∙ ap (λ (k : ℕ). joined (take (p .read) (p .at)) (readReaches (p .count) (p .read + 1) k (drop (p .next) s))) none
+
+    pub too-long : p .count ≤ p .read → p .outcome ≡ Outcome.Accepted → p .next < length s → readFile s ≡ refused (refuse 6 0)
+    too-long done e more =
+        none-left done e ∙ ap (joined (take (p .read) (p .at))) (readReaches-more (p .count) (p .read + 1) (p .next) s more)
+
+    pub complete : p .count ≤ p .read → p .outcome ≡ Outcome.Accepted → length s ≤ p .next → readFile s ≡ accepted (take (p .count) (p .at))
+    complete done e end =
+        let all : p .read ≡ p .count = omega (arith, g .most) in
+        none-left done e ∙
+        ap (joined (take (p .read) (p .at))) (readReaches-end (p .count) (p .read + 1) (p .next) s end) ∙
+        ap accepted (append-nil (take (p .read) (p .at)) ∙ ap (λ (k : ℕ). take k (p .at)) all)

@@ -2,18 +2,20 @@
 -- Assumes nothing.
 use Prim.Native.Nat.{ℕ, suc, _≤_, _<_}
 use mathlib.Core.Logic.{_↔_}
-use mathlib.Core.Path.{_≡_, refl, ap, sym, _∙_}
+use mathlib.Core.Path.{_≡_, refl, ap, sym, subst, _∙_}
 use mathlib.Core.List.{List, [], _∷_, _++_}
 use native.Mathlib.Omega.{arith}
-use lib.ListN.{length, take, drop}
+use lib.ListN.{length, take, drop, length-take}
 use lib.Seq.{take-at}
 use borrow.Author.Tests.{le-leb, leb-true}
+use denote.Ref.{RefT, now}
 use Rattle.river.specs.Bytes.{AreBytes}
 use Rattle.river.specs.Card.{Lawful, LawfulCard, LawfulFrom, river}
 use Rattle.river.specs.Read.{readFile, answerOf, Reads}
 use Rattle.river.specs.Refusal.{accepted}
 use Rattle.river.specs.Write.{encode, checkCard, checkFrom, writeAnswer, bufferAfter, writtenOf, Writes}
 use Rattle.river.specs.declared.card.Card.{Card}
+use Rattle.river.specs.declared.card.Cards.{Cards}
 use Rattle.river.specs.declared.read.Outcome.{Outcome}
 use Rattle.river.specs.declared.read.Reading.{Reading}
 use Rattle.river.specs.declared.write.Written.{Written}
@@ -131,3 +133,48 @@ read-what-was-written cs before left l r h writes reads =
     reads .answer ∙
     ap readFile (ap (take l) (x .buffer) ∙ take-at (encode cs) (drop l before) l (p .size)) ∙
     reads-lawful cs (p .lawful)
+
+-- an array of 128 cards holds as many as a count up to 128 says
+pub count-held : (cs : Cards) → length (cs .at) ≡ 128 → cs .count ≤ 128 → length (river cs) ≡ cs .count
+count-held cs a h = simp length-take (omega arith)
+
+-- THEOREM: the cards that were read, written by value as they came: the same bytes
+pub read-cards-write-back :
+    (s before left : List ℕ) (r : Reading) (w : Written)
+    → AreBytes s → Reads s r → r .outcome ≡ Outcome.Accepted → length (r .cards .at) ≡ 128 → length s ≤ length before
+    → Writes (r .cards .count) (river (r .cards)) before w left
+    → (w ≡ Written.Length (length s)) × (left ≡ s ++ drop (length s) before)
+read-cards-write-back s before left r w h reads ok array room writes =
+    write-what-was-read s before left r w h reads ok room
+    (subst (λ (n : ℕ). Writes n (river (r .cards)) before w left) (sym (count-held (r .cards) array (reads .few))) writes)
+
+-- THEOREM: cards written by value, and their file read: the same cards
+pub written-cards-read-back :
+    (cs : Cards) (before left : List ℕ) (l : ℕ) (r : Reading)
+    → length (cs .at) ≡ 128 → LoadsFit (river cs) → Writes (cs .count) (river cs) before (Written.Length l) left → Reads (take l left) r
+    → answerOf r ≡ accepted (river cs)
+unfolding writeAnswer
+written-cards-read-back cs before left l r array h writes reads =
+    let p = passed _ _ _ _ (sym (writes .answer)) in
+    let few : cs .count ≤ 128 = true-countOk (cs .count) (p .test) .1 in
+    read-what-was-written (river cs) before left l r h
+    (subst (λ (n : ℕ). Writes n (river cs) before (Written.Length l) left) (sym (count-held cs array few)) writes) reads
+
+-- THEOREM: cards written from a lent slice, and their file read through the reader: the same cards
+pub lent-cards-come-back :
+    (cards : RefT (List Card)) (out file : RefT (List ℕ)) (left : List ℕ) (l : ℕ) (r : Reading)
+    → LoadsFit (now cards) → Writes (length (now cards)) (now cards) (now out) (Written.Length l) left
+    → now file ≡ take l left → Reads (now file) r
+    → answerOf r ≡ accepted (now cards)
+lent-cards-come-back cards out file left l r h writes same reads =
+    read-what-was-written (now cards) (now out) left l r h writes (subst (λ (s : List ℕ). Reads s r) same reads)
+
+-- THEOREM: a file read through the reader, and its cards written from a lent slice: the same bytes
+pub read-file-comes-back :
+    (file out : RefT (List ℕ)) (cards : RefT (List Card)) (left : List ℕ) (r : Reading) (w : Written)
+    → AreBytes (now file) → Reads (now file) r → r .outcome ≡ Outcome.Accepted → now cards ≡ river (r .cards)
+    → length (now file) ≤ length (now out) → Writes (length (now cards)) (now cards) (now out) w left
+    → (w ≡ Written.Length (length (now file))) × (left ≡ now file ++ drop (length (now file)) (now out))
+read-file-comes-back file out cards left r w h reads ok same room writes =
+    write-what-was-read (now file) (now out) left r w h reads ok room
+    (subst (λ (cs : List Card). Writes (length cs) cs (now out) w left) same writes)

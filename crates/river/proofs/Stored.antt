@@ -4,7 +4,8 @@ use mathlib.Core.Path.{_≡_, sym, ap, _∙_}
 use Prim.Native.Nat.{ℕ, _+_, _-_, _*_, _/_, _≤_, _<_}
 use native.Mathlib.Omega.{arith}
 use lib.IntN.{ℤ, pos, subℕ, _+ℤ_, _-ℤ_, _*ℤ_}
-use Rattle.river.specs.Head.{floor, oxygenOf}
+use Rattle.river.specs.Head.{floor}
+use Rattle.river.specs.Tables.{oxygenOf}
 use Rattle.river.proofs.Offset.{sub-pos, sub-eq, sub-plus, sub-add, sub-minus, sub-times, times-sub, floor-offset}
 
 -- saturation

@@ -5,17 +5,27 @@ use mathlib.Core.Bool.{Bool, true, false}
 use mathlib.Core.List.{List}
 use Prim.Native.Nat.{ℕ, zero, suc, _+_, _*_, _<_, _≤_, max, zero-le}
 use mathlib.Core.Logic.{⊎-elim}
-use native.Mathlib.Nat.{le-trans, le-refl, le-suc-iff, le-add-left, not-suc-le-zero}
+use native.Mathlib.Nat.{le-trans, le-refl, le-suc-iff, le-add-left, le-of-suc-le-suc, eq-or-lt-of-le, not-suc-le-zero}
 use native.Mathlib.Numerals.{add-one}
 use native.Mathlib.Omega.{arith}
-use lib.ListN.{getD}
+use lib.ListN.{length, getD, set}
+use lib.Seq.{getD-set-same, getD-set-other}
 use lib.Dec.{eqb, ltb}
 use borrow.Author.Tests.{eq-eqb, ne-eqb, lt-ltb}
 use Rattle.river.specs.declared.card.Card.{Card}
-use Rattle.river.specs.Flow.{Feeders, none, more, blank, feedersAmong, joined, onlyIf, tableSum, tableMax, deepest, reachDepth, fed}
+use Rattle.river.specs.Flow.{Feeders, none, more, blank, feedersAmong, joined, deepest, reachDepth, fed}
+use Rattle.river.specs.Tables.{onlyIf, tableSum, tableMax}
 
 lower : {j n : ℕ} → j < n → j < suc n
 lower h = omega arith
+
+-- one more entry of a table: what holds of each entry before and of the new one holds of all
+pub entered : (l : List ℕ) (n v : ℕ) (P : ℕ → ℕ → Type 0) → n < length l → P n v → ((j : ℕ) → j < n → P j (getD l j 0)) → (j : ℕ) → j < suc n → P j (getD (set l n v) j 0)
+entered l n v P room here below j h =
+    ⊎-elim
+    (λ (k : j ≡ n). rw (k, getD-set-same l n v 0 room) here)
+    (λ (k : j < n). rw (getD-set-other l n j v 0 (λ (q : j ≡ n). omega arith)) (below j k))
+    (eq-or-lt-of-le (le-of-suc-le-suc h))
 
 module _ (outlets values : List ℕ) (n i : ℕ) where
   -- the next reach is a feeder, or is none

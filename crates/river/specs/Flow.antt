@@ -8,12 +8,8 @@ use lib.Dec.{leb, ltb, eqb}
 use Rattle.river.specs.declared.card.Dam.{Dam}
 use Rattle.river.specs.declared.card.Dam.the-variants.{Absent, Aerating}
 use Rattle.river.specs.declared.card.Card.{Card}
-use Rattle.river.specs.declared.read.Outcome.{Outcome}
-use Rattle.river.specs.declared.flow.FlowTable.{FlowTable}
-use Rattle.river.specs.declared.flow.Checked.{Checked}
-use Rattle.river.specs.Refusal.{Answer, accepted, refused, need, after}
-use Rattle.river.specs.Card.{Lawful}
-use Rattle.river.specs.Read.{readFile, outcomeOf}
+use Rattle.river.specs.Refusal.{Answer, accepted, need, after}
+use Rattle.river.specs.Read.{readFile}
 
 -- what flows into a reach: none, or a feeder's card, what flows into that feeder, and the other feeders
 pub data Feeders : Type 0 where
@@ -62,7 +58,7 @@ unfoldable pub flowOf : Feeders → ℕ
 flowOf none = 0
 flowOf (more card up rest) = flowOf up + card .inflow + flowOf rest
 
--- Q of a reach with this card, under what flows into it
+-- Q of a reach with this card, with what flows into it
 abbrev pub reachFlow : Card → Feeders → ℕ
 reachFlow card up = flowOf up + card .inflow
 
@@ -119,7 +115,7 @@ checksOf card fed Qu Q M i later =
     (need (leb (card .k2 * card .volume) (345600 * Q)) 11 i
     later)))))
 
--- the checks of reach i with this card, under what flows into it
+-- the checks of reach i with this card, with what flows into it
 unfoldable pub reachChecks : Card → Feeders → ℕ → Answer (List Card) → Answer (List Card)
 reachChecks card up i later = checksOf card (fed up) (flowOf up) (reachFlow card up) (reachMass card up) i later
 
@@ -141,7 +137,7 @@ unfoldable pub DamRule : Dam → Feeders → Type 0
 DamRule Absent up = Unit
 DamRule (Aerating share generating) up = (fed up ≡ true) × (generating ≤ flowOf up)
 
--- what checks 7 to 11 ask of a reach with this card, under what flows into it
+-- what checks 7 to 11 ask of a reach with this card, with what flows into it
 pub record Sound (card : Card) (up : Feeders) : Type 0 where
   pub flowing : 0 < reachFlow card up
   pub bounded : reachFlow card up ≤ 100000000
@@ -153,49 +149,3 @@ pub record Sound (card : Card) (up : Feeders) : Type 0 where
 -- a river passes the flow rules: each of its reaches does
 pub record Flows (cards : List Card) : Type 0 where
   pub each : (i : ℕ) → i < length cards → Sound (cardOf cards (suc i)) (above cards (suc i))
-
--- a value where the test holds, else 0
-unfoldable pub onlyIf : Bool → ℕ → ℕ
-onlyIf true value = value
-onlyIf false value = 0
-
--- the sum and the largest of a table over the feeders of reach i among the first n reaches, by a table of outlets
-unfoldable pub tableSum : (outlets values : List ℕ) (n i : ℕ) → ℕ
-tableSum outlets values zero i = 0
-tableSum outlets values (suc n) i = onlyIf (eqb (getD outlets n 0) i) (getD values n 0) + tableSum outlets values n i
-
-unfoldable pub tableMax : (outlets values : List ℕ) (n i : ℕ) → ℕ
-tableMax outlets values zero i = 0
-tableMax outlets values (suc n) i = max (onlyIf (eqb (getD outlets n 0) i) (getD values n 0)) (tableMax outlets values n i)
-
--- tables of the first n reaches: outlet, flow, undecayed BOD and depth
-pub record Tabled (cards : List Card) (n : ℕ) (t : FlowTable) : Type 0 where
-  pub outlet : (j : ℕ) → j < n → getD (t .outlet) j 0 ≡ cardOf cards (suc j) .outlet
-  pub flow : (j : ℕ) → j < n → getD (t .flow) j 0 ≡ flowAt cards (suc j)
-  pub mass : (j : ℕ) → j < n → getD (t .mass) j 0 ≡ massAt cards (suc j)
-  pub depth : (j : ℕ) → j < n → getD (t .depth) j 0 ≡ depthAt cards (suc j)
-
--- an outcome as an answer: what comes later where it is accepted
-unfoldable pub goOn : Outcome → Answer (List Card) → Answer (List Card)
-goOn Outcome.Accepted later = later
-goOn (Outcome.Refused r) later = refused r
-
--- the first n reaches pass, and have their tables
-pub record PassedFirst (cards : List Card) (n : ℕ) (t : FlowTable) : Type 0 where
-  pub sound : (j : ℕ) → j < n → Sound (cardOf cards (suc j)) (above cards (suc j))
-  pub tabled : Tabled cards n t
-
--- what the check of reach i + 1 needs, and what it yields
-pub record NextInput (cards : List Card) (t : FlowTable) (i : ℕ) : Type 0 where
-  pub lawful : Lawful cards
-  pub within : i < length cards
-  pub passed : PassedFirst cards i t
-
-pub record NextChecked (cards : List Card) (i : ℕ) (r : Checked) : Type 0 where
-  pub answer : (later : Answer (List Card)) → goOn (r .outcome) later ≡ reachChecks (cardOf cards (suc i)) (above cards (suc i)) (suc i) later
-  pub tabled : Tabled cards (suc i) (r .flows)
-
--- what the flow check of a river yields: its answer, and the tables of every reach of an accepted river
-pub record FlowChecked (cards : List Card) (r : Checked) : Type 0 where
-  pub answer : outcomeOf (r .outcome) cards ≡ flowCheck cards
-  pub tabled : r .outcome ≡ Outcome.Accepted → Tabled cards (length cards) (r .flows)

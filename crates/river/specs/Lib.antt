@@ -1,8 +1,12 @@
+pub mod Accept
 pub mod Bytes
 pub mod Card
 pub mod Flow
 pub mod Head
 pub mod Read
+pub mod Reader
 pub mod Refusal
 pub mod Saturation
+pub mod Tables
 pub mod Write
+pub mod Writer

@@ -1,5 +1,5 @@
 -- Reading: the cards of a river file, or the first refusal in file order.
-use Prim.Native.Nat.{ℕ, zero, suc, _+_}
+use Prim.Native.Nat.{ℕ, zero, suc, _+_, _≤_}
 use mathlib.Core.Path.{_≡_}
 use mathlib.Core.List.{List, [], _∷_}
 use lib.ListN.{length, drop}
@@ -110,6 +110,7 @@ reachRefusal (Reach.Refused r) = r
 -- a reading yields an answer: the cards, or a refusal and no card
 pub record Yields (a : Answer (List Card)) (r : Reading) : Type 0 where
   pub answer : answerOf r ≡ a
+  pub few : r .cards .count ≤ 128
   pub none : {x : Refusal} → r .outcome ≡ Outcome.Refused x → r .cards .count ≡ 0
 
 -- the reading of a file

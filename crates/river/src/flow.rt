@@ -6,7 +6,8 @@ ghost use lib.Dec.{ltb, leb};
 ghost use lib.ListN.{length, set};
 ghost use Rattle.river.specs.Refusal.{Answer};
 ghost use Rattle.river.specs.Card.{Lawful, river};
-ghost use Rattle.river.specs.Flow.{tableSum, tableMax, damFits, checksOf, goOn, ownMass, NextInput, NextChecked, FlowChecked};
+ghost use Rattle.river.specs.Flow.{damFits, checksOf, ownMass};
+ghost use Rattle.river.specs.Tables.{tableSum, tableMax, goOn, NextInput, NextChecked, FlowChecked};
 use crate::card::Card;
 use crate::card::Cards;
 use crate::card::Dam;
@@ -183,18 +184,23 @@ pub fn reach_count(cards: Cards) -> usize
     if 128 < cards.count { 128 } else { cards.count }
 }
 
+// The tables of no reach.
+pub fn no_flows() -> FlowTable {
+    FlowTable {
+        outlet: [0u8; 128],
+        flow: [0u64; 128],
+        mass: [0u64; 128],
+        depth: [0u8; 128],
+    }
+}
+
 // The flow check of a river.
 pub fn flow_check(cards: Cards) -> Checked
     requires { ⌜ Lawful (river cards) ⌝ }
     ensures { λ r. ⌜ FlowChecked (river cards) r ⌝ }
 {
     let count = reach_count(cards);
-    let mut flows = FlowTable {
-        outlet: [0u8; 128],
-        flow: [0u64; 128],
-        mass: [0u64; 128],
-        depth: [0u8; 128],
-    };
+    let mut flows = no_flows();
     let mut i: usize = 0;
     while i < count {
         let next = check_next(cards, flows, i);

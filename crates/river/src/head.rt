@@ -6,7 +6,8 @@ ghost use lib.ListN.{set};
 ghost use lib.IntN.{pos, subℕ, _+ℤ_, _-ℤ_, _*ℤ_};
 ghost use Rattle.river.specs.Flow.{ownMass};
 ghost use Rattle.river.specs.Saturation as Sat;
-ghost use Rattle.river.specs.Head.{floor, upstreamBod, upstreamOxygen, belowDam, headBod, headOxygen, oxygenOf, HeadReady, HeadInput, HeadOf};
+ghost use Rattle.river.specs.Head.{floor, upstreamBod, upstreamOxygen, belowDam, headBod, headOxygen};
+ghost use Rattle.river.specs.Tables.{oxygenOf, HeadReady, HeadInput, HeadOf};
 ghost use Rattle.river.specs.Card.{river};
 use crate::card::Card;
 use crate::card::Cards;
@@ -48,7 +49,7 @@ fn share_of(a: u32, b: u64, d: u64) -> u64
     first / d * 65536 + rest / d
 }
 
-// Stored oxygen after the weight out of the whole of the water has come to saturation.
+// Stored oxygen after `weight` parts in `whole` of the water have come to saturation.
 fn aerate(oxygen: u32, saturated: u32, weight: u64, whole: u64) -> u32
     requires { ⌜ (0 < whole) × (weight ≤ whole) × (whole ≤ 100000000000) ⌝ }
     ensures { λ r. ⌜ oxygenOf r ≡ oxygenOf oxygen +ℤ floor ((oxygenOf saturated -ℤ oxygenOf oxygen) *ℤ pos weight) whole ⌝ }

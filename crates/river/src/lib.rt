@@ -1,4 +1,5 @@
 // River files, flows and the head of a reach.
+pub mod accept;
 pub mod bytes;
 pub mod card;
 pub mod flow;
@@ -6,5 +7,7 @@ pub mod head;
 pub mod put;
 pub mod range;
 pub mod read;
+pub mod reader;
 pub mod refusal;
 pub mod write;
+pub mod writer;

@@ -74,7 +74,7 @@ fn put_load(out: &mut [u8], at: usize, c: Card) -> usize
     put_four(out, next, c.load)
 }
 
-// The `DM` record of a dam, if there is one.
+// The `DM` record of a dam, if there is one. The size of a reach's records counts 26 bytes of the `RE` record, which stand before.
 fn put_dam(out: &mut [u8], at: usize, dam: Dam) -> usize
     requires { ⌜ at + sizeOfDam dam ≤ length (now out) + 26 ⌝ }
     ensures { λ r. ⌜ Put (now (out .entry)) at (encodeDam dam) (now (out .exit)) r ⌝ }

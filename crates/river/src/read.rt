@@ -3,7 +3,7 @@ ghost use mathlib.Core.Path.{_≡_};
 ghost use Prim.Native.Nat.{_+_, _≤_, _<_};
 ghost use lib.ListN.{drop};
 ghost use Rattle.river.specs.Refusal.{Answer, accepted, after};
-ghost use Rattle.river.specs.Read.{readHeader, headerOf, headerRefusal, cardAt, readDam, damOf, sizeOfDam, readReach, reachOf, reachRefusal, readReaches, Yields, Reads};
+ghost use Rattle.river.specs.Read.{readHeader, headerOf, headerRefusal, cardAt, readDam, damOf, sizeOfDam, readReach, reachOf, reachRefusal, Yields, Reads};
 use crate::bytes::byte_at;
 use crate::bytes::four_at;
 use crate::bytes::marked;
@@ -15,6 +15,10 @@ use crate::range::count_ok;
 use crate::range::dam_in_range;
 use crate::range::in_range;
 use crate::range::outlet_ok;
+use crate::reader::Reader;
+use crate::reader::begin;
+use crate::reader::finish;
+use crate::reader::take;
 use crate::refusal::Refusal;
 
 // What reading the header finds: the reach count and the next position, or a refusal.
@@ -35,7 +39,7 @@ pub enum Reach {
     Refused(Refusal),
 }
 
-// Whether a file was read.
+// The outcome of reading, and of the flow check.
 pub enum Outcome {
     Accepted,
     Refused(Refusal),
@@ -215,7 +219,7 @@ pub fn blank() -> Card {
 }
 
 // A refusal, and no card.
-fn refused(r: Refusal) -> Reading
+pub fn refused(r: Refusal) -> Reading
     ensures { λ x. ⌜ Yields (Answer.refused r) x ⌝ }
 {
     let none = blank();
@@ -226,45 +230,16 @@ fn refused(r: Refusal) -> Reading
     }
 }
 
-// The reaches of a file from a position on, card after card.
-fn read_reaches(file: &[u8], count: u8, start: usize) -> Reading
-    requires { ⌜ (count ≤ 128) × (start ≤ 4) ⌝ }
-    ensures { λ r. ⌜ Yields (readReaches count 1 count (drop start (now (file .entry)))) r ⌝ }
-{
-    let none = blank();
-    let mut at = [none; 128];
-    let mut next = start;
-    let mut i: u8 = 0;
-    while i < count {
-        let reach = read_reach(file, next, count, i + 1);
-        let Reach::Read { card, next: after } = reach else {
-            return refused(reach_refusal(reach));
-        };
-        let k = i as usize;
-        at[k] = card;
-        next = after;
-        i = i + 1;
-    }
-    if next < file.len() {
-        return refused(Refusal {
-            number: 6,
-            reach: 0,
-        });
-    }
-    let n = count as usize;
-    Reading {
-        outcome: Outcome::Accepted,
-        cards: Cards { at, count: n },
-    }
-}
-
-// A river file: the header, then card after card.
+// A river file, through a reader that moves on: the header, then card after card.
 pub fn read_file(file: &[u8]) -> Reading
     ensures { λ r. ⌜ Reads (now (file .entry)) r ⌝ }
 {
-    let header = read_header(file);
-    let Header::Count { count, next } = header else {
-        return refused(header_refusal(header));
-    };
-    read_reaches(file, count, next)
+    let mut reader = Reader::new(file);
+    let mut p = begin(reader.header());
+    reader = reader.moved(p.next);
+    while p.read < p.count {
+        p = take(p, reader.next(p.count, p.read + 1));
+        reader = reader.moved(p.next);
+    }
+    finish(p, reader.file, reader.at)
 }

@@ -1,7 +1,6 @@
 -- Sanity rows: the definitions of S and F, computed, against e^-x, x e^-x and k1 / (k2 - k1) (e^-x1 - e^-x2) as decimal fractions.
 -- Each row holds to 10^-12. A wrong sign, factorial, exponent or case fails here.
 use Prim.Native.Nat.{ℕ, _^_}
-use native.Mathlib.Nat.{mul-pos}
 use lib.Signed.{leZ-yes}
 use Rattle.decay.specs.Fraction.{Fraction, ofℕ, ofℤ, _+ᶠ_, -ᶠ_, _*ᶠ_, _÷_, over, ∣_∣ᶠ, distance, _≼_}
 use Rattle.decay.specs.Exact.{exponent, power, factorial, term, sum, S, F}

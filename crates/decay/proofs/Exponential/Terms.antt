@@ -52,9 +52,6 @@ pub unique : {x y : Fraction} (f g : ℕ → Fraction) → Series x f → Series
 unique f g p q r zero = ≈-trans (p .first) (≈-sym (q .first))
 unique f g p q r (suc n) = cancel-≈ n (≈-trans (p .next n) (≈-trans (*ᶠ-cong r (unique f g p q r n)) (≈-sym (q .next n))))
 
-pub e-cong : {x y : Fraction} → x ≈ y → Same (e x) (e y)
-e-cong {x} {y} r = unique (e x) (e y) (e-series x) (e-series y) r
-
 -- the product of two series is the series of the sum
 pub conv-series : {a b : Fraction} (f g : ℕ → Fraction) → Series a f → Series b g → Series (a +ᶠ b) (conv f g)
 unfolding conv

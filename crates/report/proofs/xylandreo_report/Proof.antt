@@ -1,13 +1,15 @@
--- `report::xylandreo_report` meets its contract, by the outcome of reading. Assumes nothing.
+-- `report::xylandreo_report` meets its contract, by the outcome of reading and flow check and by the length of the buffer.
+-- Assumes nothing.
 use mathlib.Core.Path.{refl}
+use native.Mathlib.Omega.{arith}
 use Rattle.river.specs.Bytes.{AreBytes}
-use Rattle.report.proofs.Entry.{reports-by, leaves-refused, file-refused, file-lawful, file-river}
+use Rattle.report.proofs.Entry.{reports-refusal, reports-river, file-refused, file-short, file-held, file-ready}
 use borrow.Author.Needs.{needs}
 use Rattle.report.proofs.xylandreo_report.Statement.{statement}
 use Rattle.report.proofs.xylandreo_report.Tie as tie
 
-read-file-requires : tie.Need-read-file-requires
-read-file-requires c κs = search needs
+accept-requires : tie.Need-accept-requires
+accept-requires c κs = search needs
 
 enum-known-outcome : tie.Need-enum-known-outcome
 enum-known-outcome c = search needs
@@ -18,40 +20,60 @@ code-requires c κs = search needs
 enum-told : tie.Need-enum-told
 enum-told c = search needs
 
+reach-count-requires : tie.Need-reach-count-requires
+reach-count-requires c κs = search needs
+
+mul-if1 : tie.Need-mul-if1
+mul-if1 c =
+    let a = c .before .before .before .before in
+    omega (arith, c .reach-count .ensures, a .accept .ensures .lawful (c .before .before .enum-told .given .1) .few)
+
 -- the elements of the file are bytes
 are-bytes : (c : tie.After-shared-slice-known) → AreBytes (c .before .args .file .now)
 are-bytes c = record { below = λ k. c .shared-slice-known .given k .fits }
 
-report-river-requires : tie.Need-report-river-requires
-report-river-requires c κs =
-    let read = c .before .before .before .before in
-    file-lawful _ (read .read-file .ensures) (are-bytes (read .before .before)) (c .before .before .enum-told .given .1)
-
 returns : tie.Need-returns
 returns c =
-    let read = c .before .before .before .before in
-    reports-by (are-bytes (read .before .before)) (file-refused _ (read .read-file .ensures) _ (c .before .before .outcome .given .1))
-    (leaves-refused _ refl (c .code .ensures))
+    let a = c .before .before .before .before .before in
+    reports-refusal (are-bytes (a .before .before))
+    (file-short (a .accept .ensures) _ (c .before .before .before .enum-told .given .1) (omega (arith, c .if1 .taken, c .before .reach-count .ensures)))
+    refl
+
+report-all-requires : tie.Need-report-all-requires
+report-all-requires c κs =
+    let a = c .before .before .before .before .before .before .before in (
+      file-ready (a .accept .ensures) (c .before .before .before .before .before .enum-told .given .1),
+      omega (arith, c .before .before .if1 .left, c .before .before .before .reach-count .ensures),
+    )
+
+returns-2 : tie.Need-returns-2
+returns-2 c =
+    let a = c .before .before .before .before in
+    reports-refusal (are-bytes (a .before .before)) (file-refused (a .accept .ensures) _ (c .before .before .outcome .given .1)) (c .code .ensures)
 
 same-length : tie.Need-same-length
 same-length c = search needs
 
-returns-2 : tie.Need-returns-2
-returns-2 c =
-    let read = c .before .before .before .before .before .before .before in
-    reports-by (are-bytes (read .before .before))
-    (file-river _ (read .read-file .ensures) _ (c .before .before .before .before .before .enum-told .given .1))
-    (c .before .before .report-river .ensures)
+returns-3 : tie.Need-returns-3
+returns-3 c =
+    let a = c .before .before .before .before .before .before .before .before .before .before in
+    reports-river (are-bytes (a .before .before))
+    (file-held (a .accept .ensures) _ (c .before .before .before .before .before .before .before .before .enum-told .given .1)
+    (omega (arith, c .before .before .before .before .before .if1 .left, c .before .before .before .before .before .before .reach-count .ensures)))
+    (c .before .before .report-all .ensures)
 
 pub xylandreo-report-spec : {M : Type 1} → statement M
 xylandreo-report-spec =
     tie.close
     (tie.spec
-    read-file-requires
+    accept-requires
     enum-known-outcome
     code-requires
     enum-told
-    report-river-requires
+    reach-count-requires
+    mul-if1
     returns
+    report-all-requires
+    returns-2
     same-length
-    returns-2)
+    returns-3)

@@ -3,7 +3,8 @@
 use Prim.Native.Nat.{_-_, _+_}
 use borrow.Author.Needs.{needs}
 use native.Mathlib.Omega.{arith}
-use Rattle.report.proofs.Oxygen.{share-below, turned-below, holds-under, holds-over}
+use Rattle.decay.proofs.Digits.{share-below}
+use Rattle.report.proofs.Oxygen.{turned-below, holds-under, holds-over}
 use Rattle.report.proofs.profile.oxygen_with.Statement.{statement}
 use Rattle.report.proofs.profile.oxygen_with.Tie as tie
 
@@ -13,8 +14,8 @@ add-saturated c = search needs
 product-requires : tie.Need-product-requires
 product-requires c κs = search needs
 
-sub-unmade : tie.Need-sub-unmade
-sub-unmade c =
+sub-after-decay : tie.Need-sub-after-decay
+sub-after-decay c =
     let a = c .before .before .args in
     omega (arith, turned-below (a .f) (a .start) (c .before .before .pre .0) (c .before .before .pre .1))
 
@@ -71,7 +72,7 @@ oxygen-with-spec =
     (tie.spec
     add-saturated
     product-requires
-    sub-unmade
+    sub-after-decay
     product-requires-2
     sub-result
     sub-over

@@ -1,9 +1,9 @@
 -- `report::reach::line_at` meets its contract: the head is that of the reach, and so is the line below it. Assumes nothing.
 use borrow.Author.Needs.{needs}
 use native.Mathlib.Omega.{arith}
+use Rattle.river.proofs.Count.{card-of-river}
 use Rattle.report.proofs.Feet.{
   head-input,
-  card-at,
   reach-passed,
   reach-temperature,
   reach-flow-small,
@@ -42,7 +42,7 @@ line-of-requires : tie.Need-line-of-requires
 line-of-requires c κs =
     let s = c .before .before .before .before in
     let p = s .pre in
-    let e = card-at (s .args .t1) (s .args .i) (p .2) in
+    let e = card-of-river (s .args .t1) (s .args .i) (p .2) in
     let of = c .before .before .before .head-of .ensures in (
       (reach-passed (p .0) (p .1) (p .2) e (p .0 .tabled .flow (s .args .i) (p .2)), reach-temperature (p .0) (p .1) (p .2) e),
       (head-small (p .0) (p .1) (p .2) of, head-low (p .0) (p .1) (p .2) of),
@@ -54,7 +54,7 @@ returns c =
     let p = s .pre in
     let of = c .before .before .before .before .head-of .ensures in
     line-of-reach (p .0) (p .1) (p .2) of (c .line-of .result)
-    (card-at (s .args .t1) (s .args .i) (p .2))
+    (card-of-river (s .args .t1) (s .args .i) (p .2))
     (p .0 .tabled .depth (s .args .i) (p .2))
     (p .0 .tabled .flow (s .args .i) (p .2))
     (c .line-of .ensures)

@@ -1,6 +1,6 @@
 -- `report::record::place` meets its contract. The loop's invariant: the first i bytes of the record stand in their place.
 -- The measure is how many bytes are left. Assumes nothing.
-use mathlib.Core.Path.{_≡_, sym, _∙_, ap}
+use mathlib.Core.Path.{_≡_, _∙_, ap}
 use mathlib.Core.List.{List}
 use Prim.Native.Nat.{ℕ, _+_, _≤_, _-_}
 use native.Mathlib.Numerals.{add-one}

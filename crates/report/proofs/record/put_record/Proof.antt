@@ -1,12 +1,7 @@
 -- `report::record::put_record` meets its contract: the bytes that are put in place are those of the line's record. Assumes nothing.
-use Prim.Native.Nat.{_*_}
 use borrow.Author.Needs.{needs}
-use Rattle.report.proofs.Bytes.{put-line}
 use Rattle.report.proofs.record.put_record.Statement.{statement}
 use Rattle.report.proofs.record.put_record.Tie as tie
-
-record-of-requires : tie.Need-record-of-requires
-record-of-requires c κs = search needs
 
 bytes-requires : tie.Need-bytes-requires
 bytes-requires c κs = search needs
@@ -21,14 +16,7 @@ same-length : tie.Need-same-length
 same-length c = search needs
 
 returns : tie.Need-returns
-returns c =
-    let a = c .before .before .before .before .before .before .before .before .args in
-    put-line (a .report .now) (29 * a .i) (a .line)
-    (c .before .before .place .ensures)
-    (c .before .before .before .before .before .bytes .ensures)
-    (c .before .before .before .before .before .before .record-of .ensures)
+returns c = rw (c .before .before .before .before .before .bytes .ensures) at (c .before .before .place .ensures)
 
 pub put-record-spec : {M : Type 1} → statement M
-put-record-spec =
-    tie.close
-    (tie.spec record-of-requires bytes-requires mul-place place-requires same-length returns)
+put-record-spec = tie.close (tie.spec bytes-requires mul-place place-requires same-length returns)

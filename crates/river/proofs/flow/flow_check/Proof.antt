@@ -18,12 +18,15 @@ abbrev μ-loop : tie.MeasureT-loop
 reach-count-requires : tie.Need-reach-count-requires Inv-loop μ-loop
 reach-count-requires c κs = search needs
 
+no-flows-requires : tie.Need-no-flows-requires Inv-loop μ-loop
+no-flows-requires c κs = search needs
+
 loop-holds : tie.Need-loop-holds Inv-loop μ-loop
-loop-holds c = (c .reach-count .ensures, at-start _ _)
+loop-holds c = (c .before .reach-count .ensures, at-start _ _)
 
 check-next-requires : tie.Need-check-next-requires Inv-loop μ-loop
 check-next-requires c κs =
-    next-input (c .before .loop .inv .1) (omega (arith, c .before .loop .inv .0)) (c .before .before .before .pre)
+    next-input (c .before .loop .inv .1) (omega (arith, c .before .loop .inv .0)) (c .before .before .before .before .pre)
 
 enum-known-outcome : tie.Need-enum-known-outcome Inv-loop μ-loop
 enum-known-outcome c = search needs
@@ -66,6 +69,7 @@ flow-check-spec =
     Inv-loop
     μ-loop
     reach-count-requires
+    no-flows-requires
     loop-holds
     check-next-requires
     enum-known-outcome

@@ -1,10 +1,11 @@
 -- `river::head::upstream_oxygen` meets its contract, with feeders and without.
-use mathlib.Core.Path.{refl, ap, _∙_}
+use mathlib.Core.Path.{ap, _∙_}
 use mathlib.Core.Bool.{true}
 use Prim.Native.Nat.{_/_, _<_}
 use native.Mathlib.Nat.{div-lt-iff-lt-mul}
 use native.Mathlib.Omega.{arith}
-use Rattle.river.specs.Head.{upstreamOxygen, belowDam, oxygenOf}
+use Rattle.river.specs.Head.{upstreamOxygen, belowDam}
+use Rattle.river.specs.Tables.{oxygenOf}
 use Rattle.river.proofs.Stored.{mean-stored}
 use Rattle.river.proofs.head.upstream_oxygen.Statement.{statement}
 use Rattle.river.proofs.head.upstream_oxygen.Tie as tie

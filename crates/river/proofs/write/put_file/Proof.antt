@@ -11,7 +11,7 @@ use Rattle.river.specs.Bytes.{Put}
 use Rattle.river.specs.Card.{river}
 use Rattle.river.specs.Write.{encode, encodeHeader}
 use Rattle.river.specs.declared.card.Card.{Card}
-use Rattle.river.specs.declared.card.Dam.the-variants.{Absent}
+use Rattle.river.specs.Flow.{blank}
 use Rattle.river.proofs.Tests.{mapped-length}
 use Rattle.river.proofs.Passes.{Placed, from, place-start, place-more, place-room, place-end, length-encode}
 use Rattle.river.proofs.write.put_file.Statement.{statement}
@@ -23,22 +23,6 @@ Inv-loop n out₀ at next₀ i₀ out next i = (i ≤ n) × Placed (take n at) o
 abbrev μ-loop : tie.MeasureT-loop
 μ-loop n out₀ at next₀ i₀ out next i = n - i
 
--- the card that stands for a missing one
-abbrev none : Card
-none =
-    record {
-      outlet = 0;
-      temperature = 0;
-      k1 = 0;
-      k2 = 0;
-      volume = 0;
-      inflow = 0;
-      «inflow_bod» = 0;
-      «inflow_oxygen» = 0;
-      load = 0;
-      dam = Absent;
-    }
-
 -- the river of the cards, and its length
 same : (c : tie.Start Inv-loop μ-loop) → take (c .args .n) (c .args .cards .at) ≡ river (c .args .cards)
 same c = ap (λ (m : ℕ). take m (c .args .cards .at)) (sym (c .pre .0))
@@ -49,8 +33,8 @@ room c = let h : length (c .args .cards .at) ≡ 128 = search mapped-length in o
 -- the card of the next turn
 card : (c : tie.In-loop Inv-loop μ-loop)
     → drop (c .before .loop .i) (take (c .before .before .before .before .before .before .before .before .args .n) (c .before .before .before .before .before .before .before .before .args .cards .at))
-    ≡ getD (c .before .before .before .before .before .before .before .before .args .cards .at) (c .before .loop .i) none ∷ drop (c .before .loop .i + 1) (take (c .before .before .before .before .before .before .before .before .args .n) (c .before .before .before .before .before .before .before .before .args .cards .at))
-card c = let start = c .before .before .before .before .before .before .before .before in from (start .args .cards .at) (start .args .n) (c .before .loop .i) none (c .loop-test .taken) (room start)
+    ≡ getD (c .before .before .before .before .before .before .before .before .args .cards .at) (c .before .loop .i) blank ∷ drop (c .before .loop .i + 1) (take (c .before .before .before .before .before .before .before .before .args .n) (c .before .before .before .before .before .before .before .before .args .cards .at))
+card c = let start = c .before .before .before .before .before .before .before .before in from (start .args .cards .at) (start .args .n) (c .before .loop .i) blank (c .loop-test .taken) (room start)
 
 -- the file fits behind the header too
 space : (c : tie.After-put-header Inv-loop μ-loop)

@@ -1,0 +1,200 @@
+// The bench values of document 01 that are not proved as rows, and a few more rivers: the result of reporting on each file and,
+// for accepted ones, foot BOD, foot oxygen, critical instant and critical oxygen of each reach.
+ghost use Prim.Native.Nat.{_≤_};
+use river::bytes::four_at;
+use river::bytes::two_at;
+
+// Prints a number in two's complement.
+fn print_signed(n: u32) {
+    if n < 2147483648 {
+        io::print_decimal(1, n as u64);
+    } else {
+        io::write_all(1, b"-");
+        io::print_decimal(1, (4294967295 - n + 1) as u64);
+    }
+}
+
+// Prints the figures below the head of a reach whose record is at the start of s.
+fn print_reach(s: &[u8]) {
+    io::print_decimal(1, four_at(s, 11) as u64);
+    io::write_all(1, b" ");
+    print_signed(four_at(s, 25));
+    io::write_all(1, b" ");
+    io::print_decimal(1, two_at(s, 19) as u64);
+    io::write_all(1, b" ");
+    print_signed(four_at(s, 21));
+    io::write_all(1, b"\n");
+}
+
+// Prints the result of a call.
+fn print_result(name: &[u8], result: u32) {
+    io::write_all(1, name);
+    io::write_all(1, b": ");
+    io::print_decimal(1, (result % 256) as u64);
+    io::write_all(1, b" at ");
+    io::print_decimal(1, (result / 256) as u64);
+    io::write_all(1, b"\n");
+}
+
+// Reports on a file into a buffer of 87 bytes, which three reaches fill, and prints the first reaches.
+fn show(name: &[u8], file: &[u8], reaches: u8) {
+    let mut report = [0u8; 87];
+    print_result(name, report::xylandreo_report(file, &mut report));
+    print_first(&report, reaches);
+}
+
+// Prints the first reaches of a report.
+fn print_first(report: &[u8], reaches: u8) {
+    let mut i: u8 = 0;
+    while i < reaches {
+        let from = 29 * (i as usize);
+        if report.len() < from + 29 {
+            return;
+        }
+        print_reach(&report[from..]);
+        i = i + 1;
+    }
+}
+
+// How far two numbers lie apart.
+fn distance(a: u32, b: u32) -> u64
+    ensures { λ r. ⌜ r ≤ 4294967295 ⌝ }
+{
+    if a < b {
+        (b - a) as u64
+    } else {
+        (a - b) as u64
+    }
+}
+
+// The bench value of document 01: both rates 1,000; foot BOD 3,678,794 and foot oxygen 10,973,206, errors together at most 100.
+fn equal_rates() {
+    let mut report = [0u8; 29];
+    let file =
+        b"RV\x00\x01RE\x00\x00\x03\xe8\x03\xe8\x00\x0d\x2f\x00\x00\x00\x27\x10\x00\x00\x27\x109\x3c\x00\x00\x00\x00";
+    print_result(b"equal rates", report::xylandreo_report(file, &mut report));
+    print_reach(&report);
+    if errors(&report) <= 100 {
+        io::write_all(1, b"within 100\n");
+    }
+}
+
+// The errors of foot BOD and foot oxygen together.
+fn errors(s: &[u8]) -> u64 {
+    distance(four_at(s, 11), 3678794) + distance(four_at(s, 25), 10973206)
+}
+
+// Puts a byte at a place of a file.
+fn put(file: &mut [u8], at: usize, b: u8) {
+    if at < file.len() {
+        file[at] = b;
+    }
+}
+
+// Puts the card of reach i + 1: 20 degrees, inflow 1 and zeros.
+fn put_reach(file: &mut [u8], i: u8, outlet: u8) {
+    let at = 4 + 26 * (i as usize);
+    put(file, at, b'R');
+    put(file, at + 1, b'E');
+    put(file, at + 2, outlet);
+    put(file, at + 3, 20);
+    put(file, at + 15, 1);
+}
+
+// The outlet of reach i + 1 of reaches in a row.
+fn outlet_of(i: u8, count: u8) -> u8 {
+    if count < 2 {
+        return 0;
+    }
+    if i < count - 1 { i + 2 } else { 0 }
+}
+
+// Puts a river of reaches in a row.
+fn put_row(file: &mut [u8], count: u8) {
+    put(file, 0, b'R');
+    put(file, 1, b'V');
+    put(file, 3, count);
+    let mut i: u8 = 0;
+    while i < count {
+        let outlet = outlet_of(i, count);
+        put_reach(file, i, outlet);
+        i = i + 1;
+    }
+}
+
+// A row of 128 reaches passes, in a buffer of 3,712 bytes and no fewer, and one of 129 does not.
+fn rows() {
+    let mut report = [0u8; 3712];
+    let mut short = [0u8; 3711];
+    let mut most = [0u8; 3332];
+    put_row(&mut most, 128);
+    print_result(b"128 reaches", report::xylandreo_report(&most, &mut report));
+    print_result(
+        b"128 reaches in 3,711 bytes",
+        report::xylandreo_report(&most, &mut short),
+    );
+    let mut more = [0u8; 3358];
+    put_row(&mut more, 129);
+    print_result(b"129 reaches", report::xylandreo_report(&more, &mut report));
+}
+
+// Refused files.
+fn refusals() {
+    show(
+        b"36 degrees",
+        b"RV\x00\x01RE\x00\x24\x03\xe8\x03\xe8\x00\x0d\x2f\x00\x00\x00\x27\x10\x00\x00\x27\x109\x3c\x00\x00\x00\x00",
+        0,
+    );
+    show(
+        b"outlet to itself",
+        b"RV\x00\x01RE\x01\x00\x03\xe8\x03\xe8\x00\x0d\x2f\x00\x00\x00\x27\x10\x00\x00\x27\x109\x3c\x00\x00\x00\x00",
+        0,
+    );
+    show(
+        b"check 11 refuses",
+        b"RV\x00\x01RE\x00\x14\x03\xe8\x00\x00\x004\xbc\x01\x00\x00\x27\x10\x00\x00\x27\x10\x23\x28\x00\x00\x00\x00",
+        0,
+    );
+    show(
+        b"no inflow",
+        b"RV\x00\x01RE\x00\x14\x00\x00\x00\x00\x00\x00\x00\x00\x00\x00\x00\x00\x00\x00\x00\x00\x00\x00\x00\x00\x00\x00",
+        0,
+    );
+    show(
+        b"dam without feeders",
+        b"RV\x00\x01RE\x00\x14\x00\x00\x00\x00\x00\x00\x03\xe8\x00\x00\x03\xe8\x00\x00u0\x07\xd0\x00\x00\x00\x00DM\x01\xf4\x00\x00\x00\x00",
+        0,
+    );
+    show(b"empty file", b"", 0);
+}
+
+// Accepted files.
+fn rivers() {
+    show(
+        b"check 11 passes",
+        b"RV\x00\x01RE\x00\x14\x03\xe8\x00\x00\x004\xbc\x00\x00\x00\x27\x10\x00\x00\x27\x10\x23\x28\x00\x00\x00\x00",
+        1,
+    );
+    show(
+        b"dam",
+        b"RV\x00\x02RE\x02\x14\x00\x00\x00\x00\x00\x00\x03\xe8\x00\x00\x0b\xb8\x00\x00\x07\xd0\x1f\x40\x00\x00\x00\x00RE\x00\x14\x00\x00\x00\x00\x00\x00\x03\xe8\x00\x00\x03\xe8\x00\x00u0\x07\xd0\x00\x00\x00\x00DM\x01\xf4\x00\x00\x03\xe8",
+        2,
+    );
+    show(
+        b"heavy load",
+        b"RV\x00\x03RE\x02\x19\x0f\xa0\x07\xd0\x00\x3d\x09\x00\x00\x01\x86\xa0\x00\x07\xa1\x20N\x20\x00\x00\x00\x00RE\x03\x0aN\x20\x01\x2c\x00\x0fB\x40\x00\x00\xea\x60\x00\x00\x03\xe8\x23\x28\x02bZ\x00RE\x00\x1e\x00dN\x20\x00\x16\xe3\x60\x00\x01\x86\xa0\x00\x00\x00\x00\x00\x00\x00\x00\x00\x00DM\x03\xe8\x00\x00N\x20",
+        3,
+    );
+    show(
+        b"fork",
+        b"RV\x00\x03RE\x03\x0f\x01\xf4\x03\x84\x00\x1e\x84\x80\x00\x00N\x20\x00\x00\x1f\x40\x1bX\x00\x0fB\x40RE\x03\x12\x02\xbc\x02X\x00\x2d\xc6\xc0\x00\x00u0\x00\x00\x2e\xe0N\x20\x00\x00\x00\x00RE\x00\x16\x03\xe7\x03\xe8\x00\x89T\x40\x00\x00\x13\x88\x00\x00\x0b\xb8\x17p\x00\x07\xa1\x20",
+        3,
+    );
+}
+
+fn main() {
+    equal_rates();
+    rows();
+    refusals();
+    rivers();
+}

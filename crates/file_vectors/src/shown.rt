@@ -1,0 +1,172 @@
+// Readings and writings, printed.
+use river::card::Card;
+use river::card::Cards;
+use river::card::Dam;
+use river::read::Outcome;
+use river::read::blank;
+use river::read::read_file;
+use river::refusal::Refusal;
+use river::write::Written;
+use river::write::write_cards;
+
+// A number and a space.
+fn number(n: u64) {
+    io::print_decimal(1, n);
+    io::write_all(1, b" ");
+}
+
+fn end() {
+    io::write_all(1, b"\n");
+}
+
+// A word and a number, on a line.
+fn count(word: &[u8], n: usize) {
+    io::write_all(1, word);
+    io::print_decimal(1, n as u64);
+    end();
+}
+
+fn refusal(r: Refusal) {
+    io::write_all(1, b"refused ");
+    io::print_decimal(1, r.number as u64);
+    count(b" reach ", r.reach as usize);
+}
+
+fn dam(d: Dam) {
+    match d {
+        Dam::Absent => {}
+        Dam::Aerating { share, generating } => {
+            io::write_all(1, b" dam ");
+            number(share as u64);
+            io::print_decimal(1, generating as u64);
+        }
+    }
+}
+
+// The fields of a card up to its volume.
+fn start(c: Card) {
+    number(c.outlet as u64);
+    number(c.temperature as u64);
+    number(c.k1 as u64);
+    number(c.k2 as u64);
+    number(c.volume as u64);
+}
+
+// A card, on a line.
+fn card(c: Card) {
+    start(c);
+    number(c.inflow as u64);
+    number(c.inflow_bod as u64);
+    number(c.inflow_oxygen as u64);
+    io::print_decimal(1, c.load as u64);
+    let d = c.dam;
+    dam(d);
+    end();
+}
+
+// The first cards of a river.
+fn cards(river: Cards) {
+    let at = river.at;
+    let mut i: usize = 0;
+    while i < 128 {
+        if i < river.count {
+            card(at[i]);
+        }
+        i = i + 1;
+    }
+}
+
+fn wide(b: u8) -> u64 {
+    b as u64
+}
+
+// The bytes of a buffer, on a line.
+fn buffer(out: &[u8]) {
+    let mut i: usize = 0;
+    while i < out.len() {
+        io::print_hex(1, wide(out[i]), 2);
+        i = i + 1;
+    }
+    end();
+}
+
+// What writing a river answers and leaves in a buffer.
+fn written(river: Cards, out: &mut [u8]) {
+    match write_cards(river, out) {
+        Written::Length(n) => count(b"wrote ", n),
+        Written::Refused(r) => refusal(r),
+    }
+    buffer(out);
+}
+
+// What reading a file answers, and writing the cards again.
+pub fn show(file: &[u8]) {
+    let reading = read_file(file);
+    let outcome = reading.outcome;
+    match outcome {
+        Outcome::Refused(r) => refusal(r),
+        Outcome::Accepted => {
+            let river = reading.cards;
+            count(b"read ", river.count);
+            cards(river);
+            let mut out = [7u8; 100];
+            written(river, &mut out);
+        }
+    }
+}
+
+// Writing of a river of one reach.
+pub fn wrote(c: Card, out: &mut [u8]) {
+    let at = [c; 128];
+    written(Cards { at, count: 1 }, out);
+}
+
+// Writing of a river of two reaches.
+pub fn wrote_two(c: Card, d: Card, out: &mut [u8]) {
+    let mut at = [d; 128];
+    at[0] = c;
+    written(Cards { at, count: 2 }, out);
+}
+
+// The card of reach i of n in a chain.
+fn link(i: usize, n: usize) -> Card {
+    let mut c = blank();
+    if i < n {
+        if i < 128 {
+            c.outlet = i as u8 + 1;
+        }
+    }
+    c
+}
+
+// A chain of n reaches.
+fn chain(n: usize) -> Cards {
+    let none = blank();
+    let mut at = [none; 128];
+    let mut i: usize = 0;
+    while i < 128 {
+        at[i] = link(i + 1, n);
+        i = i + 1;
+    }
+    Cards { at, count: n }
+}
+
+// How many cards the first bytes are read as.
+fn reread(out: &[u8], l: usize) {
+    if l <= out.len() {
+        let reading = read_file(&out[..l]);
+        count(b"read ", reading.cards.count);
+    }
+}
+
+// Writing of a chain of n reaches, and what the file is read as.
+pub fn many(n: usize) {
+    let mut out = [0u8; 4356];
+    match write_cards(chain(n), &mut out) {
+        Written::Refused(r) => refusal(r),
+        Written::Length(l) => {
+            count(b"wrote ", l);
+            reread(&out, l);
+        }
+    }
+}

@@ -1,0 +1,71 @@
+-- `head_vectors::shown::reaches` meets its contract: the feet of the reaches printed so far are in bounds.
+use mathlib.Core.Path.{_≡_}
+use Prim.Native.Nat.{_≤_, _-_, zero-le}
+use native.Mathlib.Numerals.{add-one}
+use lib.ListN.{length}
+use native.Mathlib.Omega.{arith}
+use borrow.Author.Needs.{needs}
+use Rattle.river.specs.Card.{river}
+use Rattle.river.specs.Tables.{Carried}
+use Rattle.river.proofs.Feet.{carried-none}
+use Rattle.head_vectors.proofs.shown.reaches.Statement.{statement}
+use Rattle.head_vectors.proofs.shown.reaches.Tie as tie
+
+abbrev Inv-loop : tie.InvT-loop
+Inv-loop cards flows first step count feet₀ i₀ feet i =
+    (count ≡ length (river cards)) × (i ≤ count) × Carried (river cards) feet i
+
+abbrev μ-loop : tie.MeasureT-loop
+μ-loop cards flows first step count feet₀ i₀ feet i = count - i
+
+reach-count-requires : tie.Need-reach-count-requires Inv-loop μ-loop
+reach-count-requires c κs = search needs
+
+no-feet-requires : tie.Need-no-feet-requires Inv-loop μ-loop
+no-feet-requires c κs = search needs
+
+loop-holds : tie.Need-loop-holds Inv-loop μ-loop
+loop-holds c = (c .before .reach-count .ensures, zero-le, carried-none _ _)
+
+foot-oxygen-requires : tie.Need-foot-oxygen-requires Inv-loop μ-loop
+foot-oxygen-requires c κs = omega (arith, c .before .loop .inv .0, c .before .before .before .before .pre .0 .few)
+
+reach-requires : tie.Need-reach-requires Inv-loop μ-loop
+reach-requires c κs =
+    let s = c .before .before .before .before .before in
+    record {
+      lawful = s .pre .0;
+      sound = s .pre .1;
+      within = omega (arith, c .before .before .loop .inv .0);
+      tabled = s .pre .2;
+      carried = c .before .before .loop .inv .2;
+    }
+
+add-i : tie.Need-add-i Inv-loop μ-loop
+add-i c = omega arith
+
+loop-less : tie.Need-loop-less Inv-loop μ-loop
+loop-less c = omega arith
+
+loop-again : tie.Need-loop-again Inv-loop μ-loop
+loop-again c =
+    (c .before .before .before .loop .inv .0, omega arith, rw add-one (c .reach .ensures))
+
+returns : tie.Need-returns Inv-loop μ-loop
+returns c = search needs
+
+pub reaches-spec : {M : Type 1} → statement M
+reaches-spec =
+    tie.close
+    (tie.spec
+    Inv-loop
+    μ-loop
+    reach-count-requires
+    no-feet-requires
+    loop-holds
+    foot-oxygen-requires
+    reach-requires
+    add-i
+    loop-less
+    loop-again
+    returns)

@@ -1,0 +1,97 @@
+// Flows and heads of an accepted river, printed. A foot has seven eighths of the head's BOD, and an oxygen that the test gives.
+ghost use Prim.Native.Nat.{suc, _<_};
+ghost use lib.ListN.{length};
+ghost use Rattle.river.specs.Card.{Lawful, river};
+ghost use Rattle.river.specs.Flow.{Flows};
+ghost use Rattle.river.specs.Tables.{Tabled, Carried, HeadInput};
+use river::accept::accept;
+use river::card::Cards;
+use river::flow::FlowTable;
+use river::flow::reach_count;
+use river::head::FootTable;
+use river::head::Head;
+use river::head::head_of;
+use river::head::no_feet;
+use river::head::put_foot;
+use river::read::Outcome;
+use river::refusal::Refusal;
+
+// A number and a space.
+fn number(n: u64) {
+    io::print_decimal(1, n);
+    io::write_all(1, b" ");
+}
+
+// Stored oxygen as a signed number, and the end of the line.
+fn oxygen(stored: u32) {
+    if stored < 2147483648 {
+        io::write_all(1, b"-");
+        io::print_decimal(1, (2147483648 - stored) as u64);
+    } else {
+        io::print_decimal(1, (stored - 2147483648) as u64);
+    }
+    io::write_all(1, b"\n");
+}
+
+fn refusal(r: Refusal) {
+    io::write_all(1, b"refused ");
+    number(r.number as u64);
+    io::write_all(1, b"reach ");
+    io::print_decimal(1, r.reach as u64);
+    io::write_all(1, b"\n");
+}
+
+// A reach: its number, depth, flow, undecayed BOD, head BOD and head oxygen.
+fn line(reach: usize, depth: u8, flow: u64, mass: u64, head: Head) {
+    number(reach as u64);
+    number(depth as u64);
+    number(flow);
+    number(mass);
+    number(head.bod as u64);
+    oxygen(head.oxygen);
+}
+
+// Prints reach i + 1, and puts its foot with this stored oxygen.
+fn reach(cards: Cards, flows: FlowTable, feet: FootTable, i: usize, foot: u32) -> FootTable
+    requires { ⌜ HeadInput (river cards) flows feet i ⌝ }
+    ensures { λ r. ⌜ Carried (river cards) r (suc i) ⌝ }
+{
+    let head = head_of(cards, flows, feet, i);
+    let flow = flows.flow[i];
+    line(i + 1, flows.depth[i], flow, flows.mass[i], head);
+    put_foot(feet, i, flow, head.bod - head.bod / 8, foot)
+}
+
+// Stored foot oxygen of reach i + 1.
+fn foot_oxygen(first: u32, step: u32, i: usize) -> u32
+    requires { ⌜ i < 128 ⌝ }
+{
+    ((first as u64 + (step as u64) * (i as u64)) % 4294967296) as u32
+}
+
+// Prints every reach of an accepted river.
+fn reaches(cards: Cards, flows: FlowTable, first: u32, step: u32)
+    requires { ⌜ Lawful (river cards) × Flows (river cards) × Tabled (river cards) (length (river cards)) flows ⌝ }
+{
+    let count = reach_count(cards);
+    let mut feet = no_feet();
+    let mut i: usize = 0;
+    while i < count {
+        feet = reach(cards, flows, feet, i, foot_oxygen(first, step, i));
+        i = i + 1;
+    }
+}
+
+// Prints what a river file yields. Feet have stored oxygen from the first, and a step more for each reach.
+pub fn show(file: &[u8], first: u32, step: u32) {
+    let accepted = accept(file);
+    let outcome = accepted.outcome;
+    match outcome {
+        Outcome::Refused(r) => refusal(r),
+        Outcome::Accepted => {
+            let cards = accepted.cards;
+            let flows = accepted.flows;
+            reaches(cards, flows, first, step);
+        }
+    }
+}

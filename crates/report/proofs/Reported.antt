@@ -1,0 +1,77 @@
+-- What a call of the entry leaves in the bytes of a reach, beyond its contract: the ties, the critical point as the first lowest, and
+-- locality, that a record depends only on its reach and the reaches above it.
+use mathlib.Core.Path.{_≡_, sym, ap, _∙_, subst}
+use mathlib.Core.Logic.{_⊎_}
+use mathlib.Core.List.{List}
+use Prim.Native.Nat.{ℕ, suc, _*_, _≤_, _<_}
+use lib.ListN.{length, take, drop}
+use Rattle.river.specs.declared.card.Card.{Card}
+use Rattle.river.specs.Bytes.{AreBytes}
+use Rattle.river.specs.Refusal.{Answer}
+use Rattle.river.specs.Flow.{cardOf, above}
+use Rattle.report.specs.Program.{Figures, figuresOf, figuresAt, bodAt, oxygenAt, foot}
+use Rattle.report.specs.Record.{encodeRecord, readRecord}
+use Rattle.report.specs.Locality.{Agree}
+use Rattle.report.specs.Report.{bufferAfter, recordAt, Accepted, Reports}
+use Rattle.report.proofs.Lowest.{FirstLowest}
+use Rattle.report.proofs.River.{IsRiver, river-of-file, foot-bod-at-most-head, bod-stays-at-head, oxygen-stays-at-head, critical-is-first-lowest}
+use Rattle.report.proofs.Report.{bytes-at}
+use Rattle.report.proofs.Entry.{answers}
+use Rattle.report.proofs.Locality.{locality}
+
+module _ {file before after : List ℕ} {result : ℕ} (call : Reports file before after result) (river : Accepted file (length before)) (i : ℕ) (l : i < length (river .cards)) where
+  -- the 29 bytes of a reach
+  pub record-bytes : take 29 (recordAt after i) ≡ encodeRecord (figuresAt (river .cards) (suc i))
+  unfolding bufferAfter
+  record-bytes =
+      ap (λ (b : List ℕ). take 29 (recordAt b i)) (call .buffer ∙ ap (λ (a : Answer (List Card)). bufferAfter a before) (answers file river))
+      ∙ bytes-at (river .cards) (length (river .cards)) i (drop (29 * length (river .cards)) before) l
+
+  module _ (bytes : AreBytes file) where
+    is-river : IsRiver (river .cards)
+    is-river = river-of-file file bytes (river .passes)
+
+    -- reported foot BOD lies from 0 to reported head BOD
+    pub reported-foot-bod : readRecord (recordAt after i) .foot-bod ≤ readRecord (recordAt after i) .head-bod
+    reported-foot-bod =
+        subst (λ (f : Figures). f .foot-bod ≤ f .head-bod) (sym (call .figures river i l)) (foot-bod-at-most-head is-river i l)
+
+    -- k1 = 0 or volume 0 keeps reported BOD from head to foot
+    pub reported-bod-kept :
+        (cardOf (river .cards) (suc i) .k1 ≡ 0) ⊎ (cardOf (river .cards) (suc i) .volume ≡ 0) →
+        readRecord (recordAt after i) .foot-bod ≡ readRecord (recordAt after i) .head-bod
+    unfolding figuresOf bodAt
+    reported-bod-kept h =
+        subst (λ (f : Figures). f .foot-bod ≡ f .head-bod) (sym (call .figures river i l)) (bod-stays-at-head is-river i l h foot)
+
+    -- both rates 0, or volume 0, keep reported oxygen from head to foot
+    pub reported-oxygen-kept :
+        ((cardOf (river .cards) (suc i) .k1 ≡ 0) × (cardOf (river .cards) (suc i) .k2 ≡ 0)) ⊎ (cardOf (river .cards) (suc i) .volume ≡ 0) →
+        readRecord (recordAt after i) .foot-oxygen ≡ readRecord (recordAt after i) .head-oxygen
+    unfolding figuresOf oxygenAt
+    reported-oxygen-kept h =
+        subst (λ (f : Figures). f .foot-oxygen ≡ f .head-oxygen) (sym (call .figures river i l)) (oxygen-stays-at-head is-river i l h foot)
+
+    -- reported critical oxygen is the lowest of the 1,025 values of the reach, and the reported instant the first that has it
+    pub reported-critical :
+        FirstLowest (oxygenAt (cardOf (river .cards) (suc i)) (above (river .cards) (suc i))) foot
+        (record { instant = readRecord (recordAt after i) .critical-instant; oxygen = readRecord (recordAt after i) .critical-oxygen })
+    reported-critical =
+        subst
+        (λ (f : Figures). FirstLowest (oxygenAt (cardOf (river .cards) (suc i)) (above (river .cards) (suc i))) foot (record { instant = f .critical-instant; oxygen = f .critical-oxygen }))
+        (sym (call .figures river i l)) (critical-is-first-lowest is-river i l)
+
+-- THEOREM: two calls that report rivers which agree on a reach and on the reaches above it leave the same 29 bytes there
+pub same-record :
+    {file before after file′ before′ after′ : List ℕ} {result result′ : ℕ} (i : ℕ) →
+    Reports file before after result →
+    Reports file′ before′ after′ result′ →
+    (here : Accepted file (length before)) (there : Accepted file′ (length before′)) →
+    i < length (here .cards) →
+    i < length (there .cards) →
+    Agree (here .cards) (there .cards) i →
+    take 29 (recordAt after i) ≡ take 29 (recordAt after′ i)
+same-record i call call′ here there l l′ agree =
+    record-bytes call here i l
+    ∙ ap encodeRecord (locality (here .cards) (there .cards) i agree)
+    ∙ sym (record-bytes call′ there i l′)

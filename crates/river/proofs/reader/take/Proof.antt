@@ -1,0 +1,75 @@
+-- `river::reader::take` meets its contract: one reach more, or a refusal.
+-- Assumes nothing.
+use mathlib.Core.Path.{_≡_, sym, ap, _∙_}
+use borrow.Author.Needs.{needs}
+use lib.ListN.{length}
+use native.Mathlib.Omega.{arith}
+use Rattle.river.specs.Refusal.{refused}
+use Rattle.river.proofs.Reaches.{one-more, stopped, halted}
+use Rattle.river.proofs.Steps.{is-read, not-read}
+use Rattle.river.proofs.Tests.{mapped-length}
+use Rattle.river.proofs.reader.take.Statement.{statement}
+use Rattle.river.proofs.reader.take.Tie as tie
+
+enum-known-reach : tie.Need-enum-known-reach
+enum-known-reach c = search needs
+
+enum-told : tie.Need-enum-told
+enum-told c = search needs
+
+reach-refusal-requires : tie.Need-reach-refusal-requires
+reach-refusal-requires c κs = search needs
+
+returns : tie.Need-returns
+returns c =
+    let told = c .before in
+    let start = told .before .before .before in
+    let p = start .args .p in
+    record {
+      goes = λ s g e.
+          halted s _
+          (stopped s g (start .pre .0) (not-read (p .next) _ e (told .enum-told .given .1)) ∙
+          ap refused (sym (c .reach-refusal .ensures)));
+      fewer = omega (arith, start .pre);
+    }
+
+cast-k : tie.Need-cast-k
+cast-k c = search needs
+
+mul-at : tie.Need-mul-at
+mul-at c = search needs
+
+array-set-from-at : tie.Need-array-set-from-at
+array-set-from-at c = search needs
+
+add-t17 : tie.Need-add-t17
+add-t17 c = search needs
+
+room : (c : tie.Start) → length (c .args .p .at) ≡ 128
+room c = search mapped-length
+
+returns-2 : tie.Need-returns-2
+returns-2 c =
+    let start = c .before .before .before .before in
+    let p = start .args .p in
+    let less = start .pre .0 in
+    record {
+      goes = λ s g e.
+          let read = is-read (p .next) _ (sym e ∙ c .before .reach .given .1) in
+          one-more s g less (room start) (read .card) (read .place);
+      fewer = omega arith;
+    }
+
+pub take-spec : {M : Type 1} → statement M
+take-spec =
+    tie.close
+    (tie.spec
+    enum-known-reach
+    enum-told
+    reach-refusal-requires
+    returns
+    cast-k
+    mul-at
+    array-set-from-at
+    add-t17
+    returns-2)

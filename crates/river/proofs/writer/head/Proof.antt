@@ -1,0 +1,74 @@
+-- `river::writer::head` meets its contract: nothing is put after a refusal or into a short buffer, else the header.
+-- Assumes nothing.
+use mathlib.Core.Path.{_≡_, refl, sym, ap, _∙_}
+use native.Mathlib.Omega.{arith}
+use Rattle.river.specs.declared.refusal.Refusal.{Refusal}
+use Rattle.river.specs.declared.write.Check.{Check}
+use Rattle.river.specs.declared.write.Written.{Written}
+use Rattle.river.proofs.Steps.{clash}
+use borrow.Author.Needs.{needs}
+use Rattle.river.proofs.writer.head.Statement.{statement}
+use Rattle.river.proofs.writer.head.Tie as tie
+
+not-both : {P : Type 0} {k : Check} {r : Refusal} → k ≡ Check.Passed → k ≡ Check.Refused r → P
+not-both e f = clash (cc)
+
+same-refusal : {r x : Refusal} → Check.Refused r ≡ Check.Refused x → r ≡ x
+same-refusal e = cc
+
+enum-known-check : tie.Need-enum-known-check
+enum-known-check c = search needs
+
+enum-told : tie.Need-enum-told
+enum-told c = search needs
+
+returns : tie.Need-returns
+returns c =
+    record {
+      none = refl;
+      stops = λ e. not-both (c .before .enum-told .given .1) e;
+      short = λ e l. record { answer = refl; due = refl; buffer = refl };
+      begins = λ e l. absurd (let z : ⊥ = omega (arith, c .if1 .taken) in z);
+    }
+
+cast-put-header : tie.Need-cast-put-header
+cast-put-header c = search needs
+
+put-header-requires : tie.Need-put-header-requires
+put-header-requires c κs = search needs
+
+returns-2 : tie.Need-returns-2
+returns-2 c =
+    let is = c .before .check .given .1 in
+    record {
+      none = refl;
+      stops = λ e. record { answer = ap Written.Refused (same-refusal (sym is ∙ e)); due = refl; buffer = refl };
+      short = λ e l. not-both e is;
+      begins = λ e l. not-both e is;
+    }
+
+same-length : tie.Need-same-length
+same-length c = search needs
+
+returns-3 : tie.Need-returns-3
+returns-3 c =
+    let told = c .before .before .before .before .before in
+    record {
+      none = refl;
+      stops = λ e. not-both (told .enum-told .given .1) e;
+      short = λ e l. absurd (let z : ⊥ = omega (arith, c .before .before .before .before .if1 .left) in z);
+      begins = λ e l. record { answer = refl; due = refl; header = c .before .before .put-header .ensures };
+    }
+
+pub head-spec : {M : Type 1} → statement M
+head-spec =
+    tie.close
+    (tie.spec
+    enum-known-check
+    enum-told
+    returns
+    cast-put-header
+    put-header-requires
+    returns-2
+    same-length
+    returns-3)

@@ -1,0 +1,18 @@
+-- What acceptance of a river file yields.
+use mathlib.Core.Path.{_≡_}
+use mathlib.Core.List.{List}
+use Prim.Native.Nat.{ℕ}
+use lib.ListN.{length}
+use Rattle.river.specs.declared.read.Outcome.{Outcome}
+use Rattle.river.specs.declared.accept.Acceptance.{Acceptance}
+use Rattle.river.specs.Card.{Lawful, river}
+use Rattle.river.specs.Read.{outcomeOf}
+use Rattle.river.specs.Flow.{Flows, acceptFile}
+use Rattle.river.specs.Tables.{Tabled}
+
+-- the answer of reading and flow check; the cards of an accepted river are lawful and pass the flow rules, and the tables are theirs
+pub record Accepts (file : List ℕ) (r : Acceptance) : Type 0 where
+  pub answer : outcomeOf (r .outcome) (river (r .cards)) ≡ acceptFile file
+  pub lawful : r .outcome ≡ Outcome.Accepted → Lawful (river (r .cards))
+  pub sound : r .outcome ≡ Outcome.Accepted → Flows (river (r .cards))
+  pub tabled : r .outcome ≡ Outcome.Accepted → Tabled (river (r .cards)) (length (river (r .cards))) (r .flows)

@@ -1,0 +1,40 @@
+// Acceptance of a river file: reading, then the flow check.
+ghost use Rattle.river.specs.Accept.{Accepts};
+use crate::card::Cards;
+use crate::flow::FlowTable;
+use crate::flow::flow_check;
+use crate::flow::no_flows;
+use crate::read::Outcome;
+use crate::read::read_file;
+
+// What reading and the flow check of a file yield: the cards and their flows if the river is accepted, or a refusal.
+pub struct Acceptance {
+    pub outcome: Outcome,
+    pub cards: Cards,
+    pub flows: FlowTable,
+}
+
+// Only a file read without refusal goes on to the flow check.
+pub fn accept(file: &[u8]) -> Acceptance
+    ensures { λ r. ⌜ Accepts (now (file .entry)) r ⌝ }
+{
+    let reading = read_file(file);
+    let cards = reading.cards;
+    let read = reading.outcome;
+    let Outcome::Accepted = read else {
+        let flows = no_flows();
+        return Acceptance {
+            outcome: read,
+            cards,
+            flows,
+        };
+    };
+    let checked = flow_check(cards);
+    let outcome = checked.outcome;
+    let flows = checked.flows;
+    Acceptance {
+        outcome,
+        cards,
+        flows,
+    }
+}

@@ -1,0 +1,147 @@
+// The reader: it holds the file and how far it has read. Thin functions over those that take slice and number.
+ghost use mathlib.Core.Path.{_≡_};
+ghost use Prim.Native.Nat.{_<_, _≤_};
+ghost use lib.ListN.{drop};
+ghost use Rattle.river.specs.Read.{readHeader, headerOf, readReach, reachOf};
+ghost use Rattle.river.specs.Reader.{Begins, Takes, Ends};
+use crate::card::Card;
+use crate::card::Cards;
+use crate::read::Header;
+use crate::read::Outcome;
+use crate::read::Reach;
+use crate::read::Reading;
+use crate::read::blank;
+use crate::read::header_refusal;
+use crate::read::reach_refusal;
+use crate::read::read_header;
+use crate::read::read_reach;
+use crate::read::refused;
+use crate::refusal::Refusal;
+
+// A file, and how far it has been read.
+pub struct Reader<'a> {
+    pub file: &'a [u8],
+    pub at: usize,
+}
+
+// What has been read of a file: a refusal, or the first cards of so many, and the position behind them.
+pub struct Progress {
+    pub outcome: Outcome,
+    pub at: [Card; 128],
+    pub count: u8,
+    pub read: u8,
+    pub next: usize,
+}
+
+impl<'a> Reader<'a> {
+    // A reader at the start of a file.
+    pub fn new(file: &'a [u8]) -> Reader<'a>
+        ensures { λ r. ⌜ (r .file ≡ file .entry) × (r .at ≡ 0) ⌝ }
+    {
+        Reader { file, at: 0 }
+    }
+
+    // The header of its file.
+    pub fn header(self) -> Header
+        ensures { λ h. ⌜ h ≡ headerOf (readHeader (now (self .entry .file))) ⌝ }
+    {
+        read_header(self.file)
+    }
+
+    // The next reach, of so many, with the position behind it, or the refusal.
+    pub fn next(self, count: u8, reach: u8) -> Reach
+        ensures { λ x. ⌜ x ≡ reachOf (self .entry .at) (readReach count reach (drop (self .entry .at) (now (self .entry .file)))) ⌝ }
+    {
+        read_reach(self.file, self.at, count, reach)
+    }
+
+    // The reader, moved on to a position.
+    pub fn moved(self, at: usize) -> Reader<'a>
+        ensures { λ r. ⌜ (r .file ≡ self .entry .file) × (r .at ≡ at) ⌝ }
+    {
+        Reader {
+            file: self.file,
+            at,
+        }
+    }
+}
+
+// No card is read yet: what the header says is due.
+pub fn begin(header: Header) -> Progress
+    ensures { λ p. ⌜ Begins header p ⌝ }
+{
+    let none = blank();
+    let at = [none; 128];
+    let Header::Count { count, next } = header else {
+        return Progress {
+            outcome: Outcome::Refused(header_refusal(header)),
+            at,
+            count: 0,
+            read: 0,
+            next: 0,
+        };
+    };
+    Progress {
+        outcome: Outcome::Accepted,
+        at,
+        count,
+        read: 0,
+        next,
+    }
+}
+
+// One reach more: its card, or the refusal, after which no reach is due.
+pub fn take(p: Progress, reach: Reach) -> Progress
+    requires { ⌜ (p .read < p .count) × (p .count ≤ 128) ⌝ }
+    ensures { λ q. ⌜ Takes p reach q ⌝ }
+{
+    let mut at = p.at;
+    let count = p.count;
+    let read = p.read;
+    let Reach::Read { card, next } = reach else {
+        return Progress {
+            outcome: Outcome::Refused(reach_refusal(reach)),
+            at,
+            count: 0,
+            read: 0,
+            next: 0,
+        };
+    };
+    let k = read as usize;
+    at[k] = card;
+    Progress {
+        outcome: Outcome::Accepted,
+        at,
+        count,
+        read: read + 1,
+        next,
+    }
+}
+
+// The end of reading, at a position of the file: the cards if no byte remains, or the refusal.
+pub fn finish(p: Progress, file: &[u8], at: usize) -> Reading
+    requires { ⌜ p .count ≤ p .read ⌝ }
+    ensures { λ r. ⌜ Ends p (now (file .entry)) at r ⌝ }
+{
+    let outcome = p.outcome;
+    match outcome {
+        Outcome::Refused(r) => refused(r),
+        Outcome::Accepted => {
+            if at < file.len() {
+                return refused(Refusal {
+                    number: 6,
+                    reach: 0,
+                });
+            }
+            let cards = p.at;
+            let n = p.count as usize;
+            Reading {
+                outcome,
+                cards: Cards {
+                    at: cards,
+                    count: n,
+                },
+            }
+        }
+    }
+}

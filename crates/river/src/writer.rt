@@ -1,0 +1,170 @@
+// The writer: it is lent the cards, one for each reach. Thin functions over those that take a card by value.
+ghost use mathlib.Core.Path.{_≡_};
+ghost use Prim.Native.Nat.{_+_, _*_, _≤_, _<_};
+ghost use lib.ListN.{length};
+ghost use Rattle.river.specs.Read.{sizeOf};
+ghost use Rattle.river.specs.Write.{checkCard, Writes};
+ghost use Rattle.river.specs.Writer.{stoppedAt, startOf, nextOf, ChecksAll, Heads, PutsNext};
+use crate::card::Card;
+use crate::put::put_card;
+use crate::put::put_header;
+use crate::range::count_ok;
+use crate::read::size_of;
+use crate::refusal::Refusal;
+use crate::write::Check;
+use crate::write::Written;
+use crate::write::check_card;
+
+// What checking the lent cards has come to: a refusal, or how many of those due have passed, and the length of their file.
+pub struct Checking {
+    pub check: Check,
+    pub due: usize,
+    pub passed: usize,
+    pub length: usize,
+}
+
+// What putting the lent cards has come to: the answer, how many of those due are put, and the next place.
+pub struct Putting {
+    pub answer: Written,
+    pub due: usize,
+    pub put: usize,
+    pub next: usize,
+}
+
+// A refusal, after which no card is due.
+fn stopped(r: Refusal) -> Checking
+    ensures { λ s. ⌜ s ≡ stoppedAt r ⌝ }
+{
+    Checking {
+        check: Check::Refused(r),
+        due: 0,
+        passed: 0,
+        length: 4,
+    }
+}
+
+// So many cards are due, or 3.
+fn start(n: usize) -> Checking
+    ensures { λ s. ⌜ s ≡ startOf n ⌝ }
+{
+    if !count_ok(n) {
+        return stopped(Refusal {
+            number: 3,
+            reach: 0,
+        });
+    }
+    Checking {
+        check: Check::Passed,
+        due: n,
+        passed: 0,
+        length: 4,
+    }
+}
+
+// One card more.
+fn check_next(s: Checking, c: Card) -> Checking
+    requires { ⌜ (s .passed < s .due) × (s .due ≤ 128) × (s .length ≤ 4 + 34 * s .passed) ⌝ }
+    ensures { λ t. ⌜ t ≡ nextOf (checkCard (s .due) (s .passed + 1) c) s c ⌝ }
+{
+    let due = s.due;
+    let passed = s.passed;
+    match check_card(c, due as u8, (passed + 1) as u8) {
+        Check::Refused(r) => stopped(r),
+        Check::Passed => {
+            let dam = c.dam;
+            Checking {
+                check: Check::Passed,
+                due,
+                passed: passed + 1,
+                length: s.length + size_of(dam),
+            }
+        }
+    }
+}
+
+// The header, where the cards have passed and the buffer has room for their file.
+fn head(s: Checking, out: &mut [u8]) -> Putting
+    requires { ⌜ (s .due ≤ 128) × (4 ≤ s .length) ⌝ }
+    ensures { λ p. ⌜ Heads s (now (out .entry)) p (now (out .exit)) ⌝ }
+{
+    let check = s.check;
+    let due = s.due;
+    let length = s.length;
+    match check {
+        Check::Refused(r) => Putting {
+            answer: Written::Refused(r),
+            due: 0,
+            put: 0,
+            next: 0,
+        },
+        Check::Passed => {
+            if out.len() < length {
+                return Putting {
+                    answer: Written::Refused(Refusal {
+                        number: 12,
+                        reach: 0,
+                    }),
+                    due: 0,
+                    put: 0,
+                    next: 0,
+                };
+            }
+            let next = put_header(out, due as u16);
+            Putting {
+                answer: Written::Length(length),
+                due,
+                put: 0,
+                next,
+            }
+        }
+    }
+}
+
+// One card more.
+fn put_next(p: Putting, c: Card, out: &mut [u8]) -> Putting
+    requires { ⌜ (p .put < p .due) × (p .next + sizeOf c ≤ length (now out)) ⌝ }
+    ensures { λ r. ⌜ PutsNext p c (now (out .entry)) r (now (out .exit)) ⌝ }
+{
+    let answer = p.answer;
+    let due = p.due;
+    let put = p.put;
+    let at = p.next;
+    let next = put_card(out, at, c);
+    Putting {
+        answer,
+        due,
+        put: put + 1,
+        next,
+    }
+}
+
+// The answer that putting has come to.
+fn answer(p: Putting) -> Written
+    ensures { λ r. ⌜ r ≡ p .answer ⌝ }
+{
+    p.answer
+}
+
+// The lent cards, card after card.
+fn check_all(cards: &[Card]) -> Checking
+    ensures { λ s. ⌜ ChecksAll (now (cards .entry)) s ⌝ }
+{
+    let mut s = start(cards.len());
+    while s.passed < s.due {
+        let i = s.passed;
+        s = check_next(s, cards[i]);
+    }
+    s
+}
+
+// The file of the lent cards, or the first refusal.
+pub fn write(cards: &[Card], out: &mut [u8]) -> Written
+    ensures { λ r. ⌜ Writes (length (now (cards .entry))) (now (cards .entry)) (now (out .entry)) r (now (out .exit)) ⌝ }
+{
+    let mut p = head(check_all(cards), out);
+    while p.put < p.due {
+        let i = p.put;
+        p = put_next(p, cards[i], out);
+    }
+    answer(p)
+}
