@@ -15,13 +15,13 @@ use lib.Signed.{leZ-yes}
 use Rattle.decay.specs.Fraction.{Fraction, ofℕ, ofℤ, over, _+ᶠ_, _*ᶠ_, _÷_, _≈_, _≼_, ∣_∣ᶠ, distance}
 use Rattle.decay.specs.Exact.{exponent, S, F}
 use Rattle.decay.specs.Fixed.{one}
-use Rattle.decay.specs.Step.{Passed, stepOf}
-use Rattle.decay.specs.Factors.{startOf, factorsAt}
+use Rattle.decay.specs.Step.{RatesPass, stepOf}
+use Rattle.decay.specs.Factors.{headFactors, factorsAt}
 use Rattle.decay.specs.Promise.{share, factorsOf, Accurate}
 use Rattle.decay.proofs.Algebra.{≈-sym, ≈-trans, ring, quote, ≼-trans, ≼-of-≈, Nonneg, slack, number, _⊞_, _⊠_, multiple, certify, ofℕ-mono, ofℕ-suc, Within, within-of-≈, within-weaken, within→distance, abs-le}
 use Rattle.decay.proofs.Algebra.Identity.{replaced}
-use Rattle.decay.proofs.Shares.{step-sound}
-use Rattle.decay.proofs.Instants.{range}
+use Rattle.decay.proofs.step.Shares.{step-sound}
+use Rattle.decay.proofs.factors.Instants.{range}
 use Rattle.decay.proofs.Exponential.Compose.{S-compose, F-compose, S-start, F-start}
 use Units.{eps, eps-nonneg, one-eps, share-is, share-nonneg, share-mono, share-sum, share-one}
 use Advance.{BodNear, bod-advance, deficit-advance, size}
@@ -70,7 +70,7 @@ bod-weaken h b =
 
 -- ---- every instant
 
-module _ {N k1 k2 v Q : ℕ} (long : 40 ≤ N) (p : Passed k1 k2 v Q) where
+module _ {N k1 k2 v Q : ℕ} (long : 40 ≤ N) (p : RatesPass k1 k2 v Q) where
   bod-range : (m : ℕ) → share ((factorsOf k1 k2 v Q m) .left) +ᶠ share ((factorsOf k1 k2 v Q m) .turned) ≼ ofℕ 1
   bod-range m =
       let f = factorsOf k1 k2 v Q m in
@@ -85,7 +85,7 @@ module _ {N k1 k2 v Q : ℕ} (long : 40 ≤ N) (p : Passed k1 k2 v Q) where
       (m : ℕ) →
       m ≤ 1024 →
       BodNear (share ((factorsOf k1 k2 v Q m) .left)) (share ((factorsOf k1 k2 v Q m) .turned)) (S N (exponent k1 v Q m)) (F N k1 k2 v Q m) (ofℕ (11 * m) *ᶠ eps)
-  unfolding factorsAt startOf
+  unfolding factorsAt headFactors
   bod-at zero h =
       record {
         u = ofℕ 0;
@@ -119,7 +119,7 @@ module _ {N k1 k2 v Q : ℕ} (long : 40 ≤ N) (p : Passed k1 k2 v Q) where
   -- the deficit left: 5 units an instant
   pub deficit-at :
       (m : ℕ) → m ≤ 1024 → Within (share ((factorsOf k1 k2 v Q m) .kept)) (S N (exponent k2 v Q m)) (ofℕ (5 * m) *ᶠ eps)
-  unfolding factorsAt startOf
+  unfolding factorsAt headFactors
   deficit-at zero h =
       within-weaken (within-of-≈ (≈-trans share-one (≈-sym (S-start k2 v Q positive)))) (certify (eps ∷ []) (number 0) (search quote depth 40 fits 9999) tt)
     where
@@ -160,7 +160,7 @@ one-sized {r} {s} {e} {c} hr one w h =
     certify (∣ s ∣ᶠ ∷ r ∷ e ∷ c ∷ []) (slack (abs-le (size hr w)) ⊞ slack one ⊞ slack h) (search quote depth 40 fits 9999) tt
 
 -- for every series length from 40 up, every instant and every reach that check 11 lets through
-pub accuracy : {N k1 k2 volume Q m : ℕ} → 40 ≤ N → m ≤ 1024 → Passed k1 k2 volume Q → Accurate N k1 k2 volume Q m
+pub accuracy : {N k1 k2 volume Q m : ℕ} → 40 ≤ N → m ≤ 1024 → RatesPass k1 k2 volume Q → Accurate N k1 k2 volume Q m
 accuracy {N} {k1} {k2} {volume} {Q} {m} long h p =
     let f = factorsOf k1 k2 volume Q m in
     let bod = bod-at long p m h in

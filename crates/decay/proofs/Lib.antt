@@ -1,9 +1,6 @@
--- The laws of the crate.
+-- What serves all of the crate, and its theorems. The laws of a module of src/ stand in the room of its name beside this file.
 pub mod Algebra
 pub mod Uses
 pub mod Exponential
-pub mod Digits
-pub mod Shares
-pub mod Instants
 pub mod Accuracy
 pub mod Bench

@@ -5,24 +5,24 @@ use Rattle.decay.specs.declared.step.Step.{Step}
 use Rattle.decay.specs.declared.factors.Factors.{Factors}
 
 -- a step's shares are small, and no more BOD is used than lost
-pub record Sound (s : Step) : Type 0 where
+pub record SoundStep (s : Step) : Type 0 where
   pub lost-small : s .lost ≤ small
   pub used-lost : s .used ≤ s .lost
   pub filled-small : s .filled ≤ small
 
 -- the factors are shares of one, and so is the sum of BOD left and turned
-pub record InRange (f : Factors) : Type 0 where
+pub record AreShares (f : Factors) : Type 0 where
   pub bod : f .left + f .turned ≤ one
   pub deficit : f .kept ≤ one
 
 -- instant 0, the head: all BOD and all deficit are left
-unfoldable pub startOf : Factors
-startOf = record { left = one; turned = 0; kept = one }
+unfoldable pub headFactors : Factors
+headFactors = record { left = one; turned = 0; kept = one }
 
 -- The instant after the next step. BOD left loses its lost share; the deficit made from head BOD loses its filled
 -- share and gains the used share of the BOD that was left; the head deficit loses its filled share.
-unfoldable pub nextOf : Step → Factors → Factors
-nextOf s f =
+unfoldable pub nextFactors : Step → Factors → Factors
+nextFactors s f =
     record {
       left = f .left - product (f .left) (s .lost);
       turned = f .turned - product (f .turned) (s .filled) + product (f .left) (s .used);
@@ -31,5 +31,5 @@ nextOf s f =
 
 -- the factors at instant m
 unfoldable pub factorsAt : Step → ℕ → Factors
-factorsAt s zero = startOf
-factorsAt s (suc m) = nextOf s (factorsAt s m)
+factorsAt s zero = headFactors
+factorsAt s (suc m) = nextFactors s (factorsAt s m)

@@ -5,7 +5,7 @@ use Rattle.decay.specs.declared.step.Step.{Step}
 use Rattle.decay.specs.declared.step.Terms.{Terms}
 
 -- a reach's rates, volume and flow are in range and pass check 11
-pub record Passed (k1 k2 volume flow : ℕ) : Type 0 where
+pub record RatesPass (k1 k2 volume flow : ℕ) : Type 0 where
   pub k1-range : k1 ≤ 20000
   pub k2-range : k2 ≤ 20000
   pub volume-range : volume ≤ 1000000000

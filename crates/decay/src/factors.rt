@@ -2,7 +2,7 @@
 use crate::fixed;
 use crate::step::Step;
 ghost use mathlib.Core.Path.{_≡_};
-ghost use Rattle.decay.specs.Factors.{Sound, InRange, startOf, nextOf};
+ghost use Rattle.decay.specs.Factors.{SoundStep, AreShares, headFactors, nextFactors};
 
 // BOD left, head BOD turned to deficit and head deficit left, as shares of one.
 pub struct Factors {
@@ -13,7 +13,7 @@ pub struct Factors {
 
 // The factors of the head.
 pub fn start() -> Factors
-    ensures { λ r. ⌜ r ≡ startOf ⌝ }
+    ensures { λ r. ⌜ r ≡ headFactors ⌝ }
 {
     Factors {
         left: 17592186044416,
@@ -24,8 +24,8 @@ pub fn start() -> Factors
 
 // The factors one step further down.
 pub fn next(s: Step, f: Factors) -> Factors
-    requires { ⌜ Sound s × InRange f ⌝ }
-    ensures { λ r. ⌜ r ≡ nextOf s f ⌝ }
+    requires { ⌜ SoundStep s × AreShares f ⌝ }
+    ensures { λ r. ⌜ r ≡ nextFactors s f ⌝ }
 {
     let left = f.left;
     let turned = f.turned;

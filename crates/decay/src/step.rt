@@ -3,7 +3,7 @@ use crate::fixed;
 ghost use mathlib.Core.Path.{_≡_};
 ghost use Prim.Native.Nat.{_+_, _≤_, _<_};
 ghost use Rattle.decay.specs.Fixed.{small};
-ghost use Rattle.decay.specs.Step.{Passed, exponentOf, termOf, nextTerms, Falling, alternatingSum, seriesOf, stepOf};
+ghost use Rattle.decay.specs.Step.{RatesPass, exponentOf, termOf, nextTerms, Falling, alternatingSum, seriesOf, stepOf};
 
 // BOD lost, BOD used (turned to deficit and not yet filled) and deficit filled in one step, as shares of one.
 pub struct Step {
@@ -20,7 +20,7 @@ pub struct Terms {
 
 // The exponent of one step at the rate k, as a share of one.
 pub fn exponent(k: u16, volume: u32, flow: u32) -> u64
-    requires { ⌜ Passed k k volume flow ⌝ }
+    requires { ⌜ RatesPass k k volume flow ⌝ }
     ensures { λ r. ⌜ r ≡ exponentOf k volume flow ⌝ }
 {
     fixed::quotient((k as u64) * (volume as u64), 88473600 * (flow as u64))
@@ -71,7 +71,7 @@ pub fn series(y: u64, z: u64) -> Terms
 
 // The shares of one step of a reach.
 pub fn step_of(k1: u16, k2: u16, volume: u32, flow: u32) -> Step
-    requires { ⌜ Passed k1 k2 volume flow ⌝ }
+    requires { ⌜ RatesPass k1 k2 volume flow ⌝ }
     ensures { λ r. ⌜ r ≡ stepOf k1 k2 volume flow ⌝ }
 {
     let y = exponent(k1, volume, flow);

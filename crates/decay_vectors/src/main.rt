@@ -3,8 +3,8 @@
 use decay::factors::Factors;
 use decay::step::Step;
 ghost use Prim.Native.Nat.{_≤_};
-ghost use Rattle.decay.specs.Step.{Passed};
-ghost use Rattle.decay.specs.Factors.{Sound, InRange};
+ghost use Rattle.decay.specs.Step.{RatesPass};
+ghost use Rattle.decay.specs.Factors.{SoundStep, AreShares};
 
 // A label and three numbers on a line.
 fn line(label: &[u8], a: u64, b: u64, c: u64) {
@@ -20,8 +20,8 @@ fn line(label: &[u8], a: u64, b: u64, c: u64) {
 
 // The factors so many steps further down.
 fn after(s: Step, from: Factors, steps: u32) -> Factors
-    requires { ⌜ Sound s × InRange from ⌝ }
-    ensures { λ r. ⌜ InRange r ⌝ }
+    requires { ⌜ SoundStep s × AreShares from ⌝ }
+    ensures { λ r. ⌜ AreShares r ⌝ }
 {
     let mut f = from;
     let mut i: u32 = 0;
@@ -39,7 +39,7 @@ fn instant(label: &[u8], f: Factors) {
 
 // Four instants of a reach.
 fn instants(s: Step)
-    requires { ⌜ Sound s ⌝ }
+    requires { ⌜ SoundStep s ⌝ }
 {
     let head = decay::factors::start();
     instant(b"0", head);
@@ -52,7 +52,7 @@ fn instants(s: Step)
 
 // A reach: its card's numbers, the shares of its step, and four instants.
 fn reach(k1: u16, k2: u16, volume: u32, flow: u32)
-    requires { ⌜ Passed k1 k2 volume flow ⌝ }
+    requires { ⌜ RatesPass k1 k2 volume flow ⌝ }
 {
     io::write_all(1, b"flow ");
     io::print_decimal(1, flow as u64);

@@ -2,9 +2,9 @@
 use river::card::Card;
 use river::card::Cards;
 use river::card::Dam;
-use river::read::Outcome;
-use river::read::blank;
-use river::read::read_file;
+use river::card::blank;
+use river::file::read_file;
+use river::refusal::Outcome;
 use river::refusal::Refusal;
 use river::write::Written;
 use river::write::write_cards;

@@ -3,7 +3,8 @@ ghost use Prim.Native.Nat.{suc, _<_};
 ghost use lib.ListN.{length};
 ghost use Rattle.river.specs.Card.{Lawful, river};
 ghost use Rattle.river.specs.Flow.{Flows};
-ghost use Rattle.river.specs.Tables.{Tabled, Carried, HeadInput};
+ghost use Rattle.river.specs.FlowTable.{Tabled};
+ghost use Rattle.river.specs.HeadTable.{Carried, HeadInput};
 use river::accept::accept;
 use river::card::Cards;
 use river::flow::FlowTable;
@@ -13,7 +14,7 @@ use river::head::Head;
 use river::head::head_of;
 use river::head::no_feet;
 use river::head::put_foot;
-use river::read::Outcome;
+use river::refusal::Outcome;
 use river::refusal::Refusal;
 
 // A number and a space.

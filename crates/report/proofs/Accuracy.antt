@@ -1,5 +1,6 @@
 -- The reported figures of an accepted reach lie near the exact recurrence: a reach adds at most 18 units, so that the errors of BOD and
 -- oxygen, added together, are at most 18 units times depth at every instant, and 18 units times the depth above and 5 more at the head.
+pub mod Errors
 use mathlib.Core.List.{[], _∷_}
 use Prim.Native.Nat.{ℕ, _+_, _*_, _≤_, max}
 use native.Mathlib.Nat.{le-max-left, le-max-right, le-refl, mul-le-mul-left}
@@ -17,16 +18,16 @@ use Rattle.river.specs.declared.card.Card.{Card}
 use Rattle.river.specs.Flow.{Feeders, more, fed, flowOf, reachFlow, deepest, reachDepth}
 use Rattle.river.specs.Saturation.{saturation}
 use Rattle.river.specs.Head.{upstreamBod, upstreamOxygen, belowDam, headBod, headOxygen}
-use Rattle.river.proofs.HeadBounds.{saturation-small}
-use Rattle.report.specs.Program.{bodSum, oxygenSum, bodAtHead, oxygenAtHead, bodAt, oxygenAt, bodAlong, oxygenAlong, bodWith, factorsOf, foot}
+use Rattle.river.proofs.head.Bounds.{saturation-small}
+use Rattle.report.specs.Program.{bodSum, oxygenSum, bodAtHead, oxygenAtHead, bodAt, oxygenAt, bodAlong, oxygenAlong, bodWith, factorsAlong, foot}
 use Rattle.report.specs.Recurrence.{exactSaturation, exactMean, exactBelowDam, exactHeadBod, exactHeadOxygen, exactBodSum, exactOxygenSum, exactBodAtHead, exactOxygenAtHead, exactBodAlong, exactOxygenAlong, exactBodAt, exactOxygenAt}
-use Rattle.report.proofs.Forest.{AcceptedReach, AllAccepted, no-more, one-more, passed}
+use Rattle.report.proofs.Forest.{AcceptedReach, AllAccepted, no-more, one-more, rates-pass}
 use Rattle.report.proofs.Ties.{factors-range}
-use Rattle.report.proofs.HeadFacts.{damPart, bod-mean, oxygen-mean, below-dam, bod-mixed, oxygen-mixed}
-use Rattle.report.proofs.InstantFacts.{product-floored, shares-in-range, keptDeficit, kept-floored, oxygen-parts}
-use Rattle.report.proofs.ExactFacts.{saturation-low, saturation-high, exact-bod-mean, exact-oxygen-mean, exact-below-dam, exact-bod-mixed, exact-oxygen-mixed}
+use Rattle.report.proofs.Facts.Head.{damPart, bod-mean, oxygen-mean, below-dam, bod-mixed, oxygen-mixed}
+use Rattle.report.proofs.Facts.Instant.{product-floored, shares-in-range, keptDeficit, kept-floored, oxygen-parts}
+use Rattle.report.proofs.Facts.Exact.{saturation-low, saturation-high, exact-bod-mean, exact-oxygen-mean, exact-below-dam, exact-bod-mixed, exact-oxygen-mixed}
 use Rattle.report.proofs.Bounds.{head-ranged}
-use Rattle.report.proofs.Errors.{Near, HeadSteps, head-near, InstantSteps, instant-near, reach-adds}
+use Rattle.report.proofs.Accuracy.Errors.{Near, HeadSteps, head-near, InstantSteps, instant-near, reach-adds}
 
 -- the distance promised of the factors
 abbrev ε : Fraction
@@ -127,10 +128,10 @@ module _ (N : ℕ) (long : 40 ≤ N) where
       in head-near (ofℕ (18 * deepest up)) (number (18 * deepest up)) steps n
 
   pub instant-is-near : {card : Card} {up : Feeders} → AcceptedReach card up → AllAccepted up → reachDepth up ≤ 128 → HeadNear card up → (m : ℕ) → m ≤ 1024 → InstantNear card up m
-  unfolding bodAt oxygenAt bodAlong oxygenAlong bodWith factorsOf exactBodAt exactOxygenAt exactBodAlong exactOxygenAlong
+  unfolding bodAt oxygenAt bodAlong oxygenAlong bodWith factorsAlong exactBodAt exactOxygenAt exactBodAlong exactOxygenAlong
   instant-is-near {card} {up} own above shallow n m l =
       let Q = reachFlow card up in
-      let f = factorsOf card Q m in
+      let f = factorsAlong card Q m in
       let L = bodAtHead card up in
       let C = oxygenAtHead card up in
       let Cs = saturation (card .temperature) in
@@ -138,7 +139,7 @@ module _ (N : ℕ) (long : 40 ≤ N) where
       let S₁ = S N (exponent (card .k1) (card .volume) Q m) in
       let F₁ = F N (card .k1) (card .k2) (card .volume) Q m in
       let S₂ = S N (exponent (card .k2) (card .volume) Q m) in
-      let accurate = accuracy long l (passed own) in
+      let accurate = accuracy long l (rates-pass own) in
       let range = head-ranged own above shallow in
       let steps : InstantSteps (share (f .left)) (share (f .turned)) (share (f .kept)) S₁ F₁ S₂ (distance (share (f .left)) S₁) (distance (share (f .turned)) F₁) ε (ofℕ L) (ofℤ C) (ofℕ Cs) Csx (ofℕ (product (f .left) L)) (ofℕ (product (f .turned) L)) (ofℤ (keptDeficit f Cs C)) (ofℕ 1020000000) =
       record {

@@ -8,13 +8,14 @@ use lib.IntN.{ℤ, pos, _+ℤ_, _*ℤ_}
 use Rattle.river.specs.declared.card.Dam.{Dam}
 use Rattle.river.specs.declared.card.Dam.the-variants.{Absent, Aerating}
 use Rattle.river.specs.Card.{LawfulDam}
-use Rattle.river.specs.Flow.{Feeders, none, more, joined, feedersAmong, above, fed, flowOf, massOf, deepest, DamRule}
+use Rattle.river.specs.Flow.{Feeders, none, more, joinedIf, feedersAmong, above, fed, flowOf, massOf, deepest, DamRule}
 use Rattle.river.specs.Saturation.{saturation, saturationThousandths}
 use Rattle.river.specs.Head.{floor, upstreamBod, upstreamOxygen, aerated, belowDam, headBod, headOxygen}
 use Rattle.river.proofs.Bench.{first, second, two, Rows as FlowRows, bench as flow-bench}
-use Rattle.report.specs.Program.{Figures, figuresAt, bodSum, oxygenSum, bodAtHead, oxygenAtHead, bodAt, oxygenAt, foot}
+use Rattle.report.specs.Program.{figuresAt, bodSum, oxygenSum, bodAtHead, oxygenAtHead, bodAt, oxygenAt, foot}
 use Rattle.report.proofs.Forest.{AcceptedReach}
-use Rattle.report.proofs.Ties.{bod-kept, oxygen-kept, still-figures}
+use Rattle.report.proofs.Ties.{reach-bod-stays, reach-oxygen-stays, still-figures}
+use Rattle.report.specs.Record.{Figures}
 
 -- the dam of the example, share 500 and generating flow 1,000
 abbrev weir : Dam
@@ -71,7 +72,7 @@ head-1 = (refl, refl)
 foot-1 : (bodSum feeders ≡ 6000000000) × (oxygenSum feeders ≡ pos 24000000000)
 unfolding bodSum oxygenSum flowOf bodAt oxygenAt bodAtHead oxygenAtHead
 foot-1 =
-    (ap (λ (b : ℕ). 3000 * b + 0) (bod-kept accepted-first refl foot ∙ head-1 .0), ap (λ (o : ℤ). pos 3000 *ℤ o +ℤ pos 0) (oxygen-kept accepted-first refl refl foot ∙ head-1 .1))
+    (ap (λ (b : ℕ). 3000 * b + 0) (reach-bod-stays accepted-first refl foot ∙ head-1 .0), ap (λ (o : ℤ). pos 3000 *ℤ o +ℤ pos 0) (reach-oxygen-stays accepted-first refl refl foot ∙ head-1 .1))
 
 head-2 : (bodAtHead (second Absent) feeders ≡ 9000000) × (oxygenAtHead (second Absent) feeders ≡ pos 6500000)
 unfolding bodAtHead oxygenAtHead fed flowOf headBod headOxygen upstreamBod upstreamOxygen belowDam aerated floor
@@ -101,7 +102,7 @@ pub record Rows : Type 0 where
   pub line-dam : figuresAt (two weir) 2 ≡ line 2 4000 9000000 6755451
 
 pub bench : Rows
-unfolding feedersAmong joined flowOf deepest
+unfolding feedersAmong joinedIf flowOf deepest
 bench =
     record {
       flows-and-heads = flow-bench;

@@ -15,13 +15,13 @@ use Rattle.river.specs.declared.card.Card.{Card}
 use Rattle.river.specs.Flow.{Feeders, more, fed, flowOf, reachFlow, massOf, reachMass, deepest, reachDepth}
 use Rattle.river.specs.Saturation.{saturation}
 use Rattle.river.specs.Head.{upstreamBod, upstreamOxygen, belowDam, headBod, headOxygen}
-use Rattle.river.proofs.HeadBounds.{saturation-small}
-use Rattle.report.specs.Program.{bodSum, oxygenSum, bodAtHead, oxygenAtHead, bodAt, oxygenAt, bodAlong, oxygenAlong, bodWith, factorsOf, foot}
-use Rattle.report.proofs.Floor.{Rounded}
+use Rattle.river.proofs.head.Bounds.{saturation-small}
+use Rattle.report.specs.Program.{bodSum, oxygenSum, bodAtHead, oxygenAtHead, bodAt, oxygenAt, bodAlong, oxygenAlong, bodWith, factorsAlong, foot}
+use Rattle.report.proofs.Facts.Floor.{Rounded}
 use Rattle.report.proofs.Forest.{AcceptedReach, AllAccepted, no-more, one-more}
 use Rattle.report.proofs.Ties.{factors-range}
-use Rattle.report.proofs.InstantFacts.{Floored, product-floored, Shares, shares-in-range, keptDeficit, kept-floored, oxygen-parts}
-use Rattle.report.proofs.HeadFacts.{ofℕ-+₃, ofℕ-+₄, Dammed, bod-mean, oxygen-mean, damPart, below-dam, bod-mixed, oxygen-mixed}
+use Rattle.report.proofs.Facts.Instant.{Floored, product-floored, Shares, shares-in-range, keptDeficit, kept-floored, oxygen-parts}
+use Rattle.report.proofs.Facts.Head.{ofℕ-+₃, ofℕ-+₄, Dammed, bod-mean, oxygen-mean, damPart, below-dam, bod-mixed, oxygen-mixed}
 
 -- ---- the estimates in fractions
 
@@ -141,7 +141,7 @@ instant-in-bounds : {card : Card} {up : Feeders} → AcceptedReach card up → H
 unfolding bodAt oxygenAt bodAlong oxygenAlong bodWith
 instant-in-bounds {card} {up} own b m =
     let Q = reachFlow card up in
-    let f = factorsOf card Q m in
+    let f = factorsAlong card Q m in
     let L = bodAtHead card up in
     let C = oxygenAtHead card up in
     let Cs = saturation (card .temperature) in

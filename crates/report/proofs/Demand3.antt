@@ -16,7 +16,7 @@ use Rattle.report.specs.Recurrence.{exactOxygenAt}
 use Rattle.report.specs.Distance.{allowance, WithinAllowance}
 use Rattle.report.proofs.Lowest.{lowest-first}
 use Rattle.report.proofs.Forest.{AcceptedReach, AllAccepted, reach-accepted, above-accepted, reach-shallow}
-use Rattle.report.proofs.Errors.{Near}
+use Rattle.report.proofs.Accuracy.Errors.{Near}
 use Rattle.report.proofs.Accuracy.{head-is-near, instant-is-near, feet-are-near}
 
 -- the two distances, and oxygen's alone

@@ -1,5 +1,7 @@
 -- The entry's contract follows from its result and the buffer that it leaves: 0 is no refusal's result, and the figures read
 -- back from the bytes are those of the definitions, for which demand 3 holds. Assumes nothing.
+pub mod Numbers
+pub mod Report
 use mathlib.Core.Path.{_≡_, refl, sym, ap, _∙_, subst}
 use mathlib.Core.List.{List, _++_}
 use Prim.Native.Nat.{ℕ, zero, suc, _-_, _*_, _≤_, _<_}
@@ -10,26 +12,25 @@ use lib.IntN.{ℤ, pos, negsuc}
 use lib.ListN.{length, drop}
 use Rattle.river.specs.declared.card.Card.{Card}
 use Rattle.river.specs.declared.refusal.Refusal.{Refusal}
-use Rattle.river.specs.declared.read.Outcome.{Outcome}
+use Rattle.river.specs.declared.refusal.Outcome.{Outcome}
 use Rattle.river.specs.declared.accept.Acceptance.{Acceptance}
 use Rattle.river.specs.Bytes.{AreBytes}
 use Rattle.river.specs.Card.{river}
-use Rattle.river.specs.Read.{outcomeOf}
-use Rattle.river.specs.Refusal.{Answer, accepted, refused, refuse, after, codeOf}
-use Rattle.river.specs.Flow.{cardOf, above, acceptFile}
-use Rattle.river.specs.Accept.{Accepts}
+use Rattle.river.specs.Refusal.{Answer, accepted, refused, refuse, after, codeOf, outcomeOf}
+use Rattle.river.specs.Flow.{cardOf, above}
+use Rattle.river.specs.Accept.{Accepts, acceptFile}
 use Rattle.river.proofs.Answers.{passed, went, need-true, need-false, after-accepted, after-refused}
-use Rattle.report.specs.Program.{Figures, oxygenAt, figuresOf, figuresAt, foot}
+use Rattle.report.specs.Program.{oxygenAt, figuresOf, figuresAt, foot}
 use Rattle.report.specs.Distance.{WithinAllowance}
-use Rattle.report.specs.Record.{complement, fromComplement, readRecord}
-use Rattle.report.specs.Report.{reportOf, roomAnswer, reportAnswer, resultOf, bufferAfter, recordAt, Accepted, Reports}
+use Rattle.report.specs.Record.{complement, fromComplement, readRecord, Figures}
+use Rattle.report.specs.Report.{reportOf, roomAnswer, reportAnswer, resultOf, bufferReported, recordAt, Accepted, Reports}
 use Rattle.report.specs.Lines.{Ready}
 use Rattle.report.proofs.Lowest.{lowest-first}
 use Rattle.report.proofs.Bounds.{Range}
 use Rattle.report.proofs.River.{IsRiver, river-of-file, head-in-range, instant-in-range, reach-within-allowance}
-use Rattle.report.proofs.Bytes.{Writable}
-use Rattle.report.proofs.Numbered.{Numbered, report-numbered}
-use Rattle.report.proofs.Report.{read-at}
+use Rattle.report.proofs.record.Encoding.{Writable}
+use Rattle.report.proofs.Entry.Numbers.{Numbered, report-numbered}
+use Rattle.report.proofs.Entry.Report.{read-at}
 
 -- two's complement holds the oxygen of an accepted river
 complement-back : {b : ℕ} (z : ℤ) → Range b z → fromComplement (complement z) ≡ z
@@ -68,20 +69,20 @@ module _ (file before : List ℕ) where
       record { cards = w .value; passes = w .first; holds = leb-true _ _ (p .test) }
   answered (refused r) e n z = absurd (let h : ⊥ = omega arith in h)
 
-  module _ (bytes : AreBytes file) {after : List ℕ} (buffer : after ≡ bufferAfter (reportAnswer file (length before)) before) (river : Accepted file (length before)) (i : ℕ) (l : i < length (river .cards)) where
+  module _ (bytes : AreBytes file) {after : List ℕ} (buffer : after ≡ bufferReported (reportAnswer file (length before)) before) (river : Accepted file (length before)) (i : ℕ) (l : i < length (river .cards)) where
     is-river : IsRiver (river .cards)
     is-river = river-of-file file bytes (river .passes)
 
     -- the figures in the bytes are those of the reach
     figures-read : readRecord (recordAt after i) ≡ figuresAt (river .cards) (suc i)
-    unfolding bufferAfter
+    unfolding bufferReported
     figures-read =
-        ap (λ (b : List ℕ). readRecord (recordAt b i)) (buffer ∙ ap (λ (a : Answer (List Card)). bufferAfter a before) (answers file river))
+        ap (λ (b : List ℕ). readRecord (recordAt b i)) (buffer ∙ ap (λ (a : Answer (List Card)). bufferReported a before) (answers file river))
         ∙ read-at (river .cards) (length (river .cards)) i (drop (29 * length (river .cards)) before) l (writable is-river i l)
 
 -- a refusal leaves the buffer as it was
-left-alone : (x : Answer (List Card)) (before : List ℕ) → (resultOf x ≡ 0 → ⊥) → bufferAfter x before ≡ before
-unfolding resultOf bufferAfter
+left-alone : (x : Answer (List Card)) (before : List ℕ) → (resultOf x ≡ 0 → ⊥) → bufferReported x before ≡ before
+unfolding resultOf bufferReported
 left-alone (accepted cards) before h = absurd (h refl)
 left-alone (refused r) before h = refl
 
@@ -90,7 +91,7 @@ pub reports-of :
     (file before after : List ℕ) (result : ℕ) →
     AreBytes file →
     result ≡ resultOf (reportAnswer file (length before)) →
-    after ≡ bufferAfter (reportAnswer file (length before)) before →
+    after ≡ bufferReported (reportAnswer file (length before)) before →
     Reports file before after result
 unfolding resultOf figuresOf
 reports-of file before after result bytes answer buffer =
@@ -112,18 +113,18 @@ reports-of file before after result bytes answer buffer =
 -- the entry's contract for a refusal, and for a report
 module _ {file before : List ℕ} (bytes : AreBytes file) where
   pub reports-refusal : {result : ℕ} {r : Refusal} → reportAnswer file (length before) ≡ refused r → result ≡ codeOf r → Reports file before before result
-  unfolding resultOf bufferAfter
+  unfolding resultOf bufferReported
   reports-refusal {result} e c =
-      reports-of file before before result bytes (c ∙ sym (ap resultOf e)) (sym (ap (λ (a : Answer (List Card)). bufferAfter a before) e))
+      reports-of file before before result bytes (c ∙ sym (ap resultOf e)) (sym (ap (λ (a : Answer (List Card)). bufferReported a before) e))
 
   pub reports-river :
       {after : List ℕ} {cards : List Card} →
       reportAnswer file (length before) ≡ accepted cards →
       after ≡ reportOf cards ++ drop (29 * length cards) before →
       Reports file before after 0
-  unfolding resultOf bufferAfter
+  unfolding resultOf bufferReported
   reports-river {after} e b =
-      reports-of file before after 0 bytes (sym (ap resultOf e)) (b ∙ sym (ap (λ (a : Answer (List Card)). bufferAfter a before) e))
+      reports-of file before after 0 bytes (sym (ap resultOf e)) (b ∙ sym (ap (λ (a : Answer (List Card)). bufferReported a before) e))
 
 -- the answer for a file, by the outcome of reading and flow check and by the room
 module _ {file : List ℕ} {r : Acceptance} (h : Accepts file r) where

@@ -5,22 +5,22 @@ use Prim.Native.Nat.{ℕ, zero, suc, _≤_, _<_}
 use native.Mathlib.Omega.{arith}
 use lib.ListN.{length, getD}
 use lib.Dec.{eqb}
-use Rattle.decay.specs.Step.{Passed}
+use Rattle.decay.specs.Step.{RatesPass}
 use Rattle.river.specs.declared.card.Card.{Card}
-use Rattle.river.specs.Card.{InRange, LawfulDam, Lawful}
-use Rattle.river.proofs.Checks.{lawful-at}
-use Rattle.river.proofs.Table.{deepest-few}
-use Rattle.river.specs.Flow.{Feeders, none, more, blank, joined, feedersAmong, reachFlow, reachDepth, Sound, Flows}
+use Rattle.river.specs.Card.{FieldsInRange, LawfulDam, Lawful, blank}
+use Rattle.river.proofs.flow.Checks.{lawful-at}
+use Rattle.river.proofs.flow.Table.{deepest-few}
+use Rattle.river.specs.Flow.{Feeders, none, more, joinedIf, feedersAmong, reachFlow, reachDepth, ReachPasses, Flows}
 
 -- an accepted reach: its fields lie in range, and it passes the flow check
 pub record AcceptedReach (card : Card) (up : Feeders) : Type 0 where
-  pub fields : InRange card
+  pub fields : FieldsInRange card
   pub dam : LawfulDam (card .dam)
-  pub flows : Sound card up
+  pub flows : ReachPasses card up
 
 -- and so the factors' promise holds for it
-pub passed : {card : Card} {up : Feeders} → AcceptedReach card up → Passed (card .k1) (card .k2) (card .volume) (reachFlow card up)
-passed a =
+pub rates-pass : {card : Card} {up : Feeders} → AcceptedReach card up → RatesPass (card .k1) (card .k2) (card .volume) (reachFlow card up)
+rates-pass a =
     record {
       k1-range = a .fields .k1;
       k2-range = a .fields .k2;
@@ -36,8 +36,8 @@ pub data AllAccepted : Feeders → Type 0 where
   no-more : AllAccepted none
   one-more : {card : Card} {up rest : Feeders} → AcceptedReach card up → AllAccepted up → AllAccepted rest → AllAccepted (more card up rest)
 
-joined-accepted : (t : Bool) (card : Card) (up rest : Feeders) → AcceptedReach card up → AllAccepted up → AllAccepted rest → AllAccepted (joined t card up rest)
-unfolding joined
+joined-accepted : (t : Bool) (card : Card) (up rest : Feeders) → AcceptedReach card up → AllAccepted up → AllAccepted rest → AllAccepted (joinedIf t card up rest)
+unfolding joinedIf
 joined-accepted true card up rest own water others = one-more own water others
 joined-accepted false card up rest own water others = others
 

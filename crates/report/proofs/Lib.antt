@@ -1,25 +1,13 @@
--- The laws of the crate.
-pub mod Floor
-pub mod HeadFacts
-pub mod InstantFacts
-pub mod ExactFacts
-pub mod Errors
-pub mod Bounds
-pub mod Lowest
+-- What serves all of the crate, and its theorems. The laws of a module of src/ stand in the room of its name beside this file.
 pub mod Forest
-pub mod Locality
-pub mod Offset
-pub mod Oxygen
-pub mod Walk
-pub mod Bytes
-pub mod Lines
-pub mod Feet
-pub mod Numbered
-pub mod Report
-pub mod Entry
+pub mod Facts
+pub mod Lowest
 pub mod Ties
+pub mod Bounds
+pub mod Locality
 pub mod Accuracy
 pub mod Demand3
-pub mod Bench
 pub mod River
+pub mod Entry
 pub mod Reported
+pub mod Bench

@@ -6,9 +6,10 @@ use Prim.Native.Nat.{ℕ, zero, suc}
 use lib.ListN.{getD}
 use lib.Dec.{T, eqb, eqb→eq}
 use Rattle.river.specs.declared.card.Card.{Card}
-use Rattle.river.specs.Flow.{blank, joined, feedersAmong}
+use Rattle.river.specs.Flow.{joinedIf, feedersAmong}
 use Rattle.report.specs.Program.{figuresOf, figuresAt}
 use Rattle.report.specs.Locality.{LiesAbove, feeds, through, SameCard, Agree}
+use Rattle.river.specs.Card.{blank}
 
 -- the reach at place k flows into the one at place i: agreement passes on to what lies above it
 passes-on : {here there : List Card} {k i : ℕ} → (getD here k blank) .outlet ≡ suc i → (getD there k blank) .outlet ≡ suc i → SameCard here there k → Agree here there i → Agree here there k
@@ -27,8 +28,8 @@ clash {ℓ} : {X : Type ℓ} {c d : Card} (i : ℕ) → eqb (c .outlet) i ≡ tr
 clash i e f same = absurd (let z : true ≡ false = cc in subst T z tt)
 
 module _ (here there : List Card) where
-  same-joined : (n i : ℕ) → Agree here there i → (Agree here there n → feedersAmong here n (suc n) ≡ feedersAmong there n (suc n)) → feedersAmong here n (suc i) ≡ feedersAmong there n (suc i) → (s t : Bool) → eqb ((getD here n blank) .outlet) (suc i) ≡ s → eqb ((getD there n blank) .outlet) (suc i) ≡ t → joined s (getD here n blank) (feedersAmong here n (suc n)) (feedersAmong here n (suc i)) ≡ joined t (getD there n blank) (feedersAmong there n (suc n)) (feedersAmong there n (suc i))
-  unfolding joined
+  same-joined : (n i : ℕ) → Agree here there i → (Agree here there n → feedersAmong here n (suc n) ≡ feedersAmong there n (suc n)) → feedersAmong here n (suc i) ≡ feedersAmong there n (suc i) → (s t : Bool) → eqb ((getD here n blank) .outlet) (suc i) ≡ s → eqb ((getD there n blank) .outlet) (suc i) ≡ t → joinedIf s (getD here n blank) (feedersAmong here n (suc n)) (feedersAmong here n (suc i)) ≡ joinedIf t (getD there n blank) (feedersAmong there n (suc n)) (feedersAmong there n (suc i))
+  unfolding joinedIf
   same-joined n i a up rest true true e f =
       let p = flows-into here n i e in
       let q = flows-into there n i f in

@@ -9,22 +9,22 @@ use Rattle.river.specs.declared.card.Card.{Card}
 use Rattle.river.specs.Bytes.{AreBytes}
 use Rattle.river.specs.Refusal.{Answer}
 use Rattle.river.specs.Flow.{cardOf, above}
-use Rattle.report.specs.Program.{Figures, figuresOf, figuresAt, bodAt, oxygenAt, foot}
-use Rattle.report.specs.Record.{encodeRecord, readRecord}
+use Rattle.report.specs.Program.{figuresOf, figuresAt, bodAt, oxygenAt, foot}
+use Rattle.report.specs.Record.{encodeRecord, readRecord, Figures}
 use Rattle.report.specs.Locality.{Agree}
-use Rattle.report.specs.Report.{bufferAfter, recordAt, Accepted, Reports}
+use Rattle.report.specs.Report.{bufferReported, recordAt, Accepted, Reports}
 use Rattle.report.proofs.Lowest.{FirstLowest}
 use Rattle.report.proofs.River.{IsRiver, river-of-file, foot-bod-at-most-head, bod-stays-at-head, oxygen-stays-at-head, critical-is-first-lowest}
-use Rattle.report.proofs.Report.{bytes-at}
+use Rattle.report.proofs.Entry.Report.{bytes-at}
 use Rattle.report.proofs.Entry.{answers}
 use Rattle.report.proofs.Locality.{locality}
 
 module _ {file before after : List ℕ} {result : ℕ} (call : Reports file before after result) (river : Accepted file (length before)) (i : ℕ) (l : i < length (river .cards)) where
   -- the 29 bytes of a reach
   pub record-bytes : take 29 (recordAt after i) ≡ encodeRecord (figuresAt (river .cards) (suc i))
-  unfolding bufferAfter
+  unfolding bufferReported
   record-bytes =
-      ap (λ (b : List ℕ). take 29 (recordAt b i)) (call .buffer ∙ ap (λ (a : Answer (List Card)). bufferAfter a before) (answers file river))
+      ap (λ (b : List ℕ). take 29 (recordAt b i)) (call .buffer ∙ ap (λ (a : Answer (List Card)). bufferReported a before) (answers file river))
       ∙ bytes-at (river .cards) (length (river .cards)) i (drop (29 * length (river .cards)) before) l
 
   module _ (bytes : AreBytes file) where

@@ -10,15 +10,16 @@ use Rattle.river.specs.declared.card.Card.{Card}
 use Rattle.river.specs.Bytes.{AreBytes}
 use Rattle.river.specs.Card.{Lawful}
 use Rattle.river.specs.Refusal.{accepted}
-use Rattle.river.specs.Flow.{cardOf, above, Flows, acceptFile}
+use Rattle.river.specs.Flow.{cardOf, above, Flows}
 use Rattle.river.proofs.Acceptance.{accepts-exactly}
 use Rattle.report.specs.Program.{bodAtHead, oxygenAtHead, bodAt, oxygenAt, figuresAt, figuresOf, foot}
 use Rattle.report.specs.Distance.{WithinAllowance}
 use Rattle.report.proofs.Forest.{AcceptedReach, AllAccepted, reach-accepted, above-accepted, reach-shallow}
 use Rattle.report.proofs.Bounds.{Range, head-range, instant-range}
-use Rattle.report.proofs.Ties.{bod-at-most-head, bod-kept, oxygen-kept}
+use Rattle.report.proofs.Ties.{bod-at-most-head, reach-bod-stays, reach-oxygen-stays}
 use Rattle.report.proofs.Lowest.{FirstLowest, lowest-first}
 use Rattle.report.proofs.Demand3.{demand-3}
+use Rattle.river.specs.Accept.{acceptFile}
 
 -- the river of an accepted file
 pub record IsRiver (cards : List Card) : Type 0 where
@@ -60,7 +61,7 @@ module _ {cards : List Card} (river : IsRiver cards) (i : ℕ) (l : i < length c
       (m : ℕ) →
       bodAt (cardOf cards (suc i)) (above cards (suc i)) m ≡ figuresAt cards (suc i) .head-bod
   unfolding figuresOf
-  bod-stays-at-head h m = bod-kept own (no-rate h) m
+  bod-stays-at-head h m = reach-bod-stays own (no-rate h) m
 
   -- both rates 0, or volume 0, keep oxygen to the unit, at every instant
   pub oxygen-stays-at-head :
@@ -68,8 +69,8 @@ module _ {cards : List Card} (river : IsRiver cards) (i : ℕ) (l : i < length c
       (m : ℕ) →
       oxygenAt (cardOf cards (suc i)) (above cards (suc i)) m ≡ figuresAt cards (suc i) .head-oxygen
   unfolding figuresOf
-  oxygen-stays-at-head (inl (h, k)) m = oxygen-kept own (no-rate (inl h)) (no-rate (inl k)) m
-  oxygen-stays-at-head (inr h) m = oxygen-kept own (no-rate (inr h)) (no-rate (inr h)) m
+  oxygen-stays-at-head (inl (h, k)) m = reach-oxygen-stays own (no-rate (inl h)) (no-rate (inl k)) m
+  oxygen-stays-at-head (inr h) m = reach-oxygen-stays own (no-rate (inr h)) (no-rate (inr h)) m
 
   -- critical oxygen is the lowest of the 1,025 values, and its instant the first that has it
   pub critical-is-first-lowest :

@@ -5,18 +5,18 @@ use native.Mathlib.Nat.{mul-div-cancel-left, zero-mul, add-zero}
 use native.Mathlib.Omega.{arith}
 use lib.IntN.{ℤ, pos, negℤ, _+ℤ_, _-ℤ_, +ℤ-assoc, +ℤ-idl, +ℤ-invr, negℤ-negℤ, negℤ-+ℤ}
 use Rattle.decay.specs.Fixed.{one, product}
-use Rattle.decay.specs.Factors.{InRange}
-use Rattle.decay.proofs.Digits.{one-pos, share-below}
-use Rattle.decay.proofs.Shares.{step-sound}
-use Rattle.decay.proofs.Instants.{range, bod-tie, deficit-tie}
+use Rattle.decay.specs.Factors.{AreShares}
+use Rattle.decay.proofs.fixed.Digits.{one-pos, share-below}
+use Rattle.decay.proofs.step.Shares.{step-sound}
+use Rattle.decay.proofs.factors.Instants.{range, bod-tie, deficit-tie}
 use Rattle.decay.specs.declared.factors.Factors.{Factors}
 use Rattle.river.specs.declared.card.Card.{Card}
 use Rattle.river.specs.Flow.{Feeders, reachFlow, reachDepth}
 use Rattle.river.specs.Saturation.{saturation}
-use Rattle.report.specs.Program.{bodWith, oxygenWith, factorsOf, bodAlong, oxygenAlong, bodAt, oxygenAt, bodAtHead, oxygenAtHead, figuresOf, foot}
+use Rattle.report.specs.Program.{bodWith, oxygenWith, factorsAlong, bodAlong, oxygenAlong, bodAt, oxygenAt, bodAtHead, oxygenAtHead, figuresOf, foot}
 use Rattle.report.proofs.Lowest.{lowest-constant}
-use Rattle.report.proofs.Forest.{AcceptedReach, passed}
-use Rattle.report.proofs.Floor.{floor-multiple}
+use Rattle.report.proofs.Forest.{AcceptedReach, rates-pass}
+use Rattle.report.proofs.Facts.Floor.{floor-multiple}
 
 -- where all BOD is left, BOD is that of the head
 pub bod-stays : (f : Factors) (L : ℕ) → f .left ≡ one → bodWith f L ≡ L
@@ -33,9 +33,9 @@ unfolding oxygenWith product
 oxygen-stays f Cs L C h k = rw (h, k, zero-mul, floor-multiple (pos Cs -ℤ C) one one-pos, add-zero) (back-again (pos Cs) C)
 
 -- the factors of an accepted reach are shares of one
-pub factors-range : {card : Card} {up : Feeders} → AcceptedReach card up → (m : ℕ) → InRange (factorsOf card (reachFlow card up) m)
-unfolding factorsOf
-factors-range {card} {up} a m = range (step-sound (card .k1) (card .k2) (card .volume) (reachFlow card up) (passed a)) m
+pub factors-range : {card : Card} {up : Feeders} → AcceptedReach card up → (m : ℕ) → AreShares (factorsAlong card (reachFlow card up) m)
+unfolding factorsAlong
+factors-range {card} {up} a m = range (step-sound (card .k1) (card .k2) (card .volume) (reachFlow card up) (rates-pass a)) m
 
 module _ {card : Card} {up : Feeders} (a : AcceptedReach card up) where
   -- BOD lies from 0 to head BOD, at the foot too
@@ -44,16 +44,16 @@ module _ {card : Card} {up : Feeders} (a : AcceptedReach card up) where
   bod-at-most-head m = share-below _ (bodAtHead card up) (omega (arith, factors-range a m .bod))
 
   -- k1 = 0 or volume 0 keeps BOD
-  pub bod-kept : card .k1 * card .volume ≡ 0 → (m : ℕ) → bodAt card up m ≡ bodAtHead card up
-  unfolding bodAt bodAlong factorsOf
-  bod-kept h m =
-      bod-stays _ (bodAtHead card up) (bod-tie (card .k1) (card .k2) (card .volume) (reachFlow card up) (passed a) h m .0)
+  pub reach-bod-stays : card .k1 * card .volume ≡ 0 → (m : ℕ) → bodAt card up m ≡ bodAtHead card up
+  unfolding bodAt bodAlong factorsAlong
+  reach-bod-stays h m =
+      bod-stays _ (bodAtHead card up) (bod-tie (card .k1) (card .k2) (card .volume) (reachFlow card up) (rates-pass a) h m .0)
 
   -- both rates 0, or volume 0, keep oxygen
-  pub oxygen-kept : card .k1 * card .volume ≡ 0 → card .k2 * card .volume ≡ 0 → (m : ℕ) → oxygenAt card up m ≡ oxygenAtHead card up
-  unfolding oxygenAt oxygenAlong factorsOf
-  oxygen-kept h k m =
-      oxygen-stays _ (saturation (card .temperature)) (bodAtHead card up) (oxygenAtHead card up) (bod-tie (card .k1) (card .k2) (card .volume) (reachFlow card up) (passed a) h m .1) (deficit-tie (card .k1) (card .k2) (card .volume) (reachFlow card up) (passed a) k m)
+  pub reach-oxygen-stays : card .k1 * card .volume ≡ 0 → card .k2 * card .volume ≡ 0 → (m : ℕ) → oxygenAt card up m ≡ oxygenAtHead card up
+  unfolding oxygenAt oxygenAlong factorsAlong
+  reach-oxygen-stays h k m =
+      oxygen-stays _ (saturation (card .temperature)) (bodAtHead card up) (oxygenAtHead card up) (bod-tie (card .k1) (card .k2) (card .volume) (reachFlow card up) (rates-pass a) h m .1) (deficit-tie (card .k1) (card .k2) (card .volume) (reachFlow card up) (rates-pass a) k m)
 
   -- and then the figures are those of the head, and the head is critical
   pub still-figures :
@@ -75,7 +75,7 @@ module _ {card : Card} {up : Feeders} (a : AcceptedReach card up) where
       let Q = reachFlow card up in
       let L = bodAtHead card up in
       let C = oxygenAtHead card up in
-      let bod : bodAlong card Q L foot ≡ L = bod-kept h foot in
-      let oxygen : oxygenAlong card Q L C foot ≡ C = oxygen-kept h k foot in
-      let critical = lowest-constant (oxygenAlong card Q L C) C foot (λ m l. oxygen-kept h k m) in
+      let bod : bodAlong card Q L foot ≡ L = reach-bod-stays h foot in
+      let oxygen : oxygenAlong card Q L C foot ≡ C = reach-oxygen-stays h k foot in
+      let critical = lowest-constant (oxygenAlong card Q L C) C foot (λ m l. reach-oxygen-stays h k m) in
       cc

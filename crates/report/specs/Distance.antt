@@ -4,8 +4,8 @@ use Rattle.decay.specs.Fraction.{Fraction, ofℕ, ofℤ, _≼_, _+ᶠ_, _-ᶠ_,
 use Rattle.decay.specs.Exact.{foot}
 use Rattle.river.specs.declared.card.Card.{Card}
 use Rattle.river.specs.Flow.{Feeders, reachDepth}
-use Rattle.report.specs.Program.{Figures}
 use Rattle.report.specs.Recurrence.{exactBodAtHead, exactOxygenAtHead, exactBodAt, exactOxygenAt}
+use Rattle.report.specs.Record.{Figures}
 
 -- the distance allowed: 0.0001 mg/L, which is 100 units, times the depth of the reach
 abbrev pub allowance : Feeders → Fraction

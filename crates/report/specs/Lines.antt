@@ -1,23 +1,19 @@
 -- What the program holds between the reaches of an accepted river: the feet of the reaches reported so far.
 use mathlib.Core.Path.{_≡_}
 use mathlib.Core.List.{List}
-use Prim.Native.Nat.{ℕ, suc, _+_, _-_, _*_, _≤_, _<_}
-use lib.IntN.{ℤ, pos, negsuc}
+use Prim.Native.Nat.{ℕ, suc, _*_, _≤_, _<_}
 use lib.ListN.{length, getD}
 use Rattle.river.specs.declared.card.Card.{Card}
 use Rattle.river.specs.declared.flow.FlowTable.{FlowTable}
 use Rattle.river.specs.declared.head.FootTable.{FootTable}
 use Rattle.river.specs.Card.{Lawful}
 use Rattle.river.specs.Flow.{Flows, flowAt, massAt}
-use Rattle.river.specs.Tables.{Tabled, Carried}
+use Rattle.river.specs.FlowTable.{Tabled}
+use Rattle.river.specs.HeadTable.{Carried}
+use Rattle.river.specs.Stored.{storedOf}
 use Rattle.report.specs.Program.{figuresAt}
 use Rattle.report.specs.Record.{figuresIn}
 use Rattle.report.specs.declared.record.Line.{Line}
-
--- the number that stores this oxygen
-unfoldable pub storedOf : ℤ → ℕ
-storedOf (pos n) = n + 2147483648
-storedOf (negsuc n) = 2147483647 - n
 
 -- tables of flow × foot BOD and flow × stored foot oxygen of the first n reaches
 pub record FeetOf (cards : List Card) (feet : FootTable) (n : ℕ) : Type 0 where

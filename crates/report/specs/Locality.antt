@@ -5,7 +5,7 @@ use mathlib.Core.List.{List}
 use Prim.Native.Nat.{ℕ, suc}
 use lib.ListN.{getD}
 use Rattle.river.specs.declared.card.Card.{Card}
-use Rattle.river.specs.Flow.{blank}
+use Rattle.river.specs.Card.{blank}
 
 -- the reach at place j lies above the one at place i: it flows into that reach, or into one that lies above it
 pub data LiesAbove (cards : List Card) : ℕ → ℕ → Type 0 where

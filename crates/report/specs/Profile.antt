@@ -4,19 +4,14 @@ use Prim.Native.Nat.{ℕ, _≤_, _<_}
 use lib.IntN.{ℤ}
 use Rattle.decay.specs.Factors.{factorsAt}
 use Rattle.decay.specs.declared.step.Step.{Step}
-use Rattle.river.specs.Tables.{oxygenOf}
+use Rattle.river.specs.Stored.{oxygenOf, Stores}
 use Rattle.report.specs.Program.{bodWith, oxygenWith, foot, lowest}
 use Rattle.report.specs.declared.profile.Start.{Start}
 use Rattle.report.specs.declared.profile.Walk.{Walk}
 use Rattle.report.specs.declared.profile.Profile.{Profile}
 
--- a stored number stands for this oxygen, and fits in four bytes
-pub record Stores (stored : ℕ) (oxygen : ℤ) : Type 0 where
-  pub is : oxygenOf stored ≡ oxygen
-  pub fits : stored < 4294967296
-
 -- the ranges in which no number of a reach leaves four bytes
-pub record InRange (start : Start) : Type 0 where
+pub record StartInRange (start : Start) : Type 0 where
   pub bod : start .bod ≤ 1000000000
   pub low : 1000000000 ≤ start .oxygen
   pub high : start .oxygen < 4294967296

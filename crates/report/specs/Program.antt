@@ -7,12 +7,13 @@ use lib.IntN.{ℤ, pos, _+ℤ_, _-ℤ_, _*ℤ_}
 use lib.Signed.{ltZ}
 pub use Rattle.decay.specs.Exact.{foot}
 use Rattle.decay.specs.Fixed.{one, product}
-use Rattle.decay.specs.Promise.{factorsOf as decayFactors}
+use Rattle.decay.specs.Promise.{factorsOf}
 use Rattle.decay.specs.declared.factors.Factors.{Factors}
 use Rattle.river.specs.declared.card.Card.{Card}
 use Rattle.river.specs.Flow.{Feeders, none, more, fed, flowOf, reachFlow, reachDepth, cardOf, above}
 use Rattle.river.specs.Saturation.{saturation}
 use Rattle.river.specs.Head.{floor, headBod, headOxygen}
+use Rattle.report.specs.Record.{Figures}
 
 -- BOD where these factors hold, with head BOD L: the share left of it, rounded down
 unfoldable pub bodWith : Factors → (L : ℕ) → ℕ
@@ -24,15 +25,15 @@ unfoldable pub oxygenWith : Factors → (Cs L : ℕ) (C : ℤ) → ℤ
 oxygenWith f Cs L C = pos Cs -ℤ pos (product (f .turned) L) -ℤ floor (pos (f .kept) *ℤ (pos Cs -ℤ C)) one
 
 -- the factors of a reach with flow Q at instant m
-unfoldable pub factorsOf : Card → (Q m : ℕ) → Factors
-factorsOf card Q m = decayFactors (card .k1) (card .k2) (card .volume) Q m
+unfoldable pub factorsAlong : Card → (Q m : ℕ) → Factors
+factorsAlong card Q m = factorsOf (card .k1) (card .k2) (card .volume) Q m
 
 -- BOD and oxygen at instant m of a reach with flow Q, head BOD L and head oxygen C
 unfoldable pub bodAlong : Card → (Q L m : ℕ) → ℕ
-bodAlong card Q L m = bodWith (factorsOf card Q m) L
+bodAlong card Q L m = bodWith (factorsAlong card Q m) L
 
 unfoldable pub oxygenAlong : Card → (Q L : ℕ) (C : ℤ) (m : ℕ) → ℤ
-oxygenAlong card Q L C m = oxygenWith (factorsOf card Q m) (saturation (card .temperature)) L C
+oxygenAlong card Q L C m = oxygenWith (factorsAlong card Q m) (saturation (card .temperature)) L C
 
 -- the sum over the feeders of Q × foot BOD
 unfoldable pub bodSum : Feeders → ℕ
@@ -78,17 +79,6 @@ lower before m oxygen = cond (ltZ oxygen (before .oxygen)) (record { instant = m
 unfoldable pub lowest : (ℕ → ℤ) → ℕ → Critical
 lowest at zero = record { instant = 0; oxygen = at 0 }
 lowest at (suc m) = lower (lowest at m) (suc m) (at (suc m))
-
--- the figures of a record, in file order
-pub record Figures : Type 0 where
-  pub depth : ℕ
-  pub flow : ℕ
-  pub head-bod : ℕ
-  pub foot-bod : ℕ
-  pub head-oxygen : ℤ
-  pub critical-instant : ℕ
-  pub critical-oxygen : ℤ
-  pub foot-oxygen : ℤ
 
 -- the figures of a reach with this depth, flow Q, head BOD L and head oxygen C
 abbrev pub figuresBelow : Card → (depth Q L : ℕ) (C : ℤ) → Figures

@@ -5,9 +5,19 @@ use Prim.Native.Nat.{ℕ, _-_}
 use lib.Dec.{ltb}
 use lib.IntN.{ℤ, pos, negsuc}
 use Rattle.river.specs.Bytes.{twoBytes, fourBytes, byteAt, twoAt, fourAt}
-use Rattle.report.specs.Program.{Figures}
-use Rattle.river.specs.Tables.{oxygenOf}
+use Rattle.river.specs.Stored.{oxygenOf}
 use Rattle.report.specs.declared.record.Line.{Line}
+
+-- the figures of a record, in file order
+pub record Figures : Type 0 where
+  pub depth : ℕ
+  pub flow : ℕ
+  pub head-bod : ℕ
+  pub foot-bod : ℕ
+  pub head-oxygen : ℤ
+  pub critical-instant : ℕ
+  pub critical-oxygen : ℤ
+  pub foot-oxygen : ℤ
 
 -- the figures that a line of the program stands for
 abbrev pub figuresIn : Line → Figures

@@ -6,10 +6,11 @@ use lib.Dec.{leb}
 use lib.ListN.{length, drop}
 use Rattle.river.specs.declared.card.Card.{Card}
 use Rattle.river.specs.Refusal.{Answer, accepted, refused, need, after, codeOf}
-use Rattle.river.specs.Flow.{cardOf, above, depthAt, flowAt, acceptFile}
+use Rattle.river.specs.Flow.{cardOf, above, depthAt, flowAt}
 use Rattle.report.specs.Program.{figuresAt}
 use Rattle.report.specs.Distance.{WithinAllowance}
 use Rattle.report.specs.Record.{encodeRecord, readRecord}
+use Rattle.river.specs.Accept.{acceptFile}
 
 -- the records of the first n reaches of a river
 unfoldable pub recordsOf : List Card → ℕ → List ℕ
@@ -34,9 +35,9 @@ resultOf (accepted cards) = 0
 resultOf (refused r) = codeOf r
 
 -- the buffer afterwards: the report and then what stood there, and as it was after a refusal
-unfoldable pub bufferAfter : Answer (List Card) → List ℕ → List ℕ
-bufferAfter (accepted cards) before = reportOf cards ++ drop (29 * length cards) before
-bufferAfter (refused r) before = before
+unfoldable pub bufferReported : Answer (List Card) → List ℕ → List ℕ
+bufferReported (accepted cards) before = reportOf cards ++ drop (29 * length cards) before
+bufferReported (refused r) before = before
 
 -- the file's river is accepted, and a buffer of so many bytes can hold its report
 pub record Accepted (file : List ℕ) (room : ℕ) : Type 0 where
@@ -56,7 +57,7 @@ pub record Reports (file before after : List ℕ) (result : ℕ) : Type 0 where
   pub accepts : result ≡ 0 → Accepted file (length before)
   pub zero : Accepted file (length before) → result ≡ 0
   -- the whole buffer: untouched by a refusal, else each reach's record, and past 29 × n what stood there
-  pub buffer : after ≡ bufferAfter (reportAnswer file (length before)) before
+  pub buffer : after ≡ bufferReported (reportAnswer file (length before)) before
   -- in short: a refused call writes no byte
   pub untouched : (result ≡ 0 → ⊥) → after ≡ before
   -- the record of each reach, read back from its bytes: the head by "Head of a reach", foot and critical point by the program's own factors

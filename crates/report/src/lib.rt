@@ -1,12 +1,12 @@
 // Reports of BOD and dissolved oxygen along the reaches of a river.
+pub mod lines;
 pub mod profile;
-pub mod reach;
 pub mod record;
 
 use river::accept;
 use river::flow;
-use river::read::Outcome;
 use river::refusal;
+use river::refusal::Outcome;
 ghost use Rattle.report.specs.Report.{Reports};
 
 // The report of a river file: 0, or the number and 256 times the reach of a refusal.
@@ -25,7 +25,7 @@ pub extern "C" fn xylandreo_report(file: &[u8], report: &mut [u8]) -> u32
                 return 12;
             }
             let flows = river.flows;
-            reach::report_all(cards, flows, report);
+            lines::report_all(cards, flows, report);
             0
         }
     }

@@ -4,10 +4,10 @@ use decay::factors::Factors;
 use decay::fixed;
 use decay::step::Step;
 ghost use Prim.Native.Nat.{_+_, _<_};
-ghost use Rattle.river.specs.Tables.{oxygenOf};
-ghost use Rattle.decay.specs.Factors.{Sound, InRange as Shares};
+ghost use Rattle.decay.specs.Factors.{SoundStep, AreShares};
 ghost use Rattle.report.specs.Program.{foot, oxygenWith};
-ghost use Rattle.report.specs.Profile.{Stores, InRange, WalkedTo, Profiled};
+ghost use Rattle.report.specs.Profile.{StartInRange, WalkedTo, Profiled};
+ghost use Rattle.river.specs.Stored.{oxygenOf, Stores};
 
 // What a reach starts with: head BOD, stored head oxygen and saturation. Oxygen is stored as its units plus 2^31.
 pub struct Start {
@@ -33,7 +33,7 @@ pub struct Profile {
 
 // Stored oxygen where these factors hold.
 pub fn oxygen_with(f: Factors, start: Start) -> u64
-    requires { ⌜ Shares f × InRange start ⌝ }
+    requires { ⌜ AreShares f × StartInRange start ⌝ }
     ensures { λ r. ⌜ Stores r (oxygenWith f (start .saturation) (start .bod) (oxygenOf (start .oxygen))) ⌝ }
 {
     let oxygen = start.oxygen;
@@ -49,7 +49,7 @@ pub fn oxygen_with(f: Factors, start: Start) -> u64
 
 // The walk at the head, which is instant 0.
 pub fn begin(step: Step, start: Start) -> Walk
-    requires { ⌜ InRange start ⌝ }
+    requires { ⌜ StartInRange start ⌝ }
     ensures { λ r. ⌜ WalkedTo step start 0 r ⌝ }
 {
     let f = factors::start();
@@ -63,7 +63,7 @@ pub fn begin(step: Step, start: Start) -> Walk
 
 // The walk one step after instant m.
 pub fn turn(step: Step, start: Start, m: u64, walk: Walk) -> Walk
-    requires { ⌜ Sound step × InRange start × (m < foot) × WalkedTo step start m walk ⌝ }
+    requires { ⌜ SoundStep step × StartInRange start × (m < foot) × WalkedTo step start m walk ⌝ }
     ensures { λ r. ⌜ WalkedTo step start (m + 1) r ⌝ }
 {
     let reached = walk.factors;
@@ -86,7 +86,7 @@ pub fn turn(step: Step, start: Start, m: u64, walk: Walk) -> Walk
 
 // The walk at the foot, which is instant 1,024.
 pub fn walk_down(step: Step, start: Start) -> Walk
-    requires { ⌜ Sound step × InRange start ⌝ }
+    requires { ⌜ SoundStep step × StartInRange start ⌝ }
     ensures { λ r. ⌜ WalkedTo step start foot r ⌝ }
 {
     let mut walk = begin(step, start);
@@ -100,7 +100,7 @@ pub fn walk_down(step: Step, start: Start) -> Walk
 
 // The profile of a reach.
 pub fn profile_of(step: Step, start: Start) -> Profile
-    requires { ⌜ Sound step × InRange start ⌝ }
+    requires { ⌜ SoundStep step × StartInRange start ⌝ }
     ensures { λ r. ⌜ Profiled step start r ⌝ }
 {
     let walk = walk_down(step, start);

@@ -3,8 +3,8 @@ ghost use mathlib.Core.Path.{_≡_};
 ghost use Prim.Native.Nat.{_+_, _*_, _≤_};
 ghost use lib.ListN.{length};
 ghost use lib.Seq.{paste};
-ghost use Rattle.river.specs.Tables.{oxygenOf};
 ghost use Rattle.report.specs.Record.{complement, encodeRecord, figuresIn};
+ghost use Rattle.river.specs.Stored.{oxygenOf};
 
 // The figures of a reach. Oxygen is stored as its units plus 2^31.
 pub struct Line {

@@ -9,25 +9,26 @@ use native.Mathlib.Omega.{arith}
 use lib.ListN.{length, getD}
 use borrow.Author.Tests.{ne-eqb}
 use Rattle.river.specs.declared.card.Card.{Card}
-use Rattle.river.specs.declared.read.Outcome.{Outcome}
-use Rattle.river.specs.declared.read.Reading.{Reading}
+use Rattle.river.specs.declared.refusal.Outcome.{Outcome}
+use Rattle.river.specs.declared.file.Reading.{Reading}
 use Rattle.river.specs.declared.refusal.Refusal.{Refusal}
 use Rattle.river.specs.declared.flow.FlowTable.{FlowTable}
 use Rattle.river.specs.declared.flow.Checked.{Checked}
 use Rattle.river.specs.Bytes.{AreBytes}
-use Rattle.river.specs.Card.{Lawful, river}
-use Rattle.river.specs.Refusal.{accepted, refused}
-use Rattle.river.specs.Read.{readFile, outcomeOf, Reads}
+use Rattle.river.specs.Card.{Lawful, river, blank}
+use Rattle.river.specs.Refusal.{accepted, refused, outcomeOf}
+use Rattle.river.specs.Read.{readFile}
 use Rattle.river.specs.Write.{encode}
-use Rattle.river.specs.Flow.{blank, above, feedersAmong, joined, Flows, flowCheck, acceptFile}
-use Rattle.river.specs.Tables.{FlowChecked}
-use Rattle.river.specs.Accept.{Accepts}
+use Rattle.river.specs.Flow.{above, feedersAmong, joinedIf, Flows, flowCheck}
+use Rattle.river.specs.Accept.{Accepts, acceptFile}
 use Rattle.river.proofs.Answers.{after-accepted, after-refused, went}
 use Rattle.river.proofs.Files.{reads-lawful, reads-only-lawful}
-use Rattle.river.proofs.Steps.{no-refusal}
-use Rattle.river.proofs.Ranges.{last-outlet, later-outlet}
-use Rattle.river.proofs.Checks.{lawful-at}
-use Rattle.river.proofs.FlowCheck.{flows-of-accepted, accepted-of-flows}
+use Rattle.river.proofs.read.Steps.{no-refusal}
+use Rattle.river.proofs.range.Ranges.{last-outlet, later-outlet}
+use Rattle.river.proofs.flow.Checks.{lawful-at}
+use Rattle.river.proofs.flow.FlowCheck.{flows-of-accepted, accepted-of-flows}
+use Rattle.river.specs.FlowTable.{FlowChecked}
+use Rattle.river.specs.File.{Reads}
 
 -- a file of lawful cards that pass the flow rules
 pub record AcceptedFile (file : List ℕ) (cards : List Card) : Type 0 where
@@ -64,7 +65,7 @@ outlet-later {cards} h i j a b e =
 
 -- THEOREM: what flows into a reach of a lawful river are all the reaches of the river whose outlet it is
 pub all-feeders : {cards : List Card} → Lawful cards → (i : ℕ) → i < length cards → above cards (suc i) ≡ feedersAmong cards (length cards) (suc i)
-unfolding feedersAmong joined
+unfolding feedersAmong joinedIf
 all-feeders {cards} h i l = from-all (length cards) (le-of-lt l) (le-refl (length cards))
   where
     other : (n : ℕ) → i ≤ n → n < length cards → feedersAmong cards (suc n) (suc i) ≡ feedersAmong cards n (suc i)

@@ -10,17 +10,17 @@ use native.Mathlib.Omega.{arith}
 use lib.ListN.{length, drop}
 use borrow.Author.Tests.{le-leb, leb-true, eqb-true}
 use Rattle.river.specs.Bytes.{AreBytes, twoAt, marked}
-use Rattle.river.specs.Card.{Lawful, LawfulCard, LawfulFrom, LawfulDam}
-use Rattle.river.specs.Read.{readHeader, readReaches, readFile, sizeOf}
+use Rattle.river.specs.Card.{Lawful, LawfulCard, LawfulFrom, LawfulDam, sizeOf}
+use Rattle.river.specs.Read.{readHeader, readReaches, readFile}
 use Rattle.river.specs.Refusal.{accepted}
 use Rattle.river.specs.Write.{encode, encodeDam, encodeCard, encodeCards, encodeHeader}
 use Rattle.river.specs.declared.card.Card.{Card}
 use Rattle.river.specs.declared.card.Dam.{Dam}
 use Rattle.river.specs.declared.card.Dam.the-variants.{Absent, Aerating}
 use Rattle.river.proofs.Answers.{need-true, after-accepted, passed, went}
-use Rattle.river.proofs.Numbers.{are-bytes-cons, are-bytes-two, are-bytes-four, are-bytes-drop, mark, twoBytes-twoAt, spelled}
-use Rattle.river.proofs.Ranges.{countOk-true, true-countOk, outlet-below}
-use Rattle.river.proofs.Records.{readReach-encode, drop-encodeCard, readReach-is}
+use Rattle.river.proofs.bytes.Numbers.{are-bytes-cons, are-bytes-two, are-bytes-four, are-bytes-drop, mark, twoBytes-twoAt, spelled}
+use Rattle.river.proofs.range.Ranges.{countOk-true, true-countOk, outlet-below}
+use Rattle.river.proofs.read.Records.{readReach-encode, drop-encodeCard, readReach-is}
 
 -- Reading what was encoded.
 

@@ -11,17 +11,18 @@ use borrow.Author.Tests.{le-leb, leb-true}
 use denote.Ref.{RefT, now}
 use Rattle.river.specs.Bytes.{AreBytes}
 use Rattle.river.specs.Card.{Lawful, LawfulCard, LawfulFrom, river}
-use Rattle.river.specs.Read.{readFile, answerOf, Reads}
+use Rattle.river.specs.Read.{readFile}
 use Rattle.river.specs.Refusal.{accepted}
-use Rattle.river.specs.Write.{encode, checkCard, checkFrom, writeAnswer, bufferAfter, writtenOf, Writes}
+use Rattle.river.specs.Write.{encode, checkCard, checkFrom, writeAnswer, bufferWritten, writtenOf, Writes}
 use Rattle.river.specs.declared.card.Card.{Card}
 use Rattle.river.specs.declared.card.Cards.{Cards}
-use Rattle.river.specs.declared.read.Outcome.{Outcome}
-use Rattle.river.specs.declared.read.Reading.{Reading}
+use Rattle.river.specs.declared.refusal.Outcome.{Outcome}
+use Rattle.river.specs.declared.file.Reading.{Reading}
 use Rattle.river.specs.declared.write.Written.{Written}
 use Rattle.river.proofs.Answers.{never, need-true, after-accepted, passed, went}
 use Rattle.river.proofs.Files.{reads-lawful, reads-only-lawful}
-use Rattle.river.proofs.Ranges.{inRange-true, true-inRange, damInRange-true, true-damInRange, countOk-true, true-countOk}
+use Rattle.river.proofs.range.Ranges.{inRange-true, true-inRange, damInRange-true, true-damInRange, countOk-true, true-countOk}
+use Rattle.river.specs.File.{answerOf, Reads}
 
 -- each load is a number of four bytes, as the field's type has it
 abbrev pub LoadsFit : List Card → Type 0
@@ -102,8 +103,8 @@ pub record Wrote (cs : List Card) (before : List ℕ) (l : ℕ) (w : Written) (l
   pub buffer : left ≡ encode cs ++ drop l before
 
 pub wrote : (cs : List Card) (before left : List ℕ) (l : ℕ) (w : Written) → writtenOf w ≡ accepted l
-    → left ≡ bufferAfter (writtenOf w) cs before → Wrote cs before l w left
-unfolding bufferAfter
+    → left ≡ bufferWritten (writtenOf w) cs before → Wrote cs before l w left
+unfolding bufferWritten
 wrote cs before left l (Written.Length k) e b =
     let same : k ≡ l = cc in
     record { answer = ap Written.Length same; buffer = b ∙ rw same }

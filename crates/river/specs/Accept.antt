@@ -3,12 +3,18 @@ use mathlib.Core.Path.{_≡_}
 use mathlib.Core.List.{List}
 use Prim.Native.Nat.{ℕ}
 use lib.ListN.{length}
-use Rattle.river.specs.declared.read.Outcome.{Outcome}
+use Rattle.river.specs.declared.refusal.Outcome.{Outcome}
 use Rattle.river.specs.declared.accept.Acceptance.{Acceptance}
+use Rattle.river.specs.declared.card.Card.{Card}
 use Rattle.river.specs.Card.{Lawful, river}
-use Rattle.river.specs.Read.{outcomeOf}
-use Rattle.river.specs.Flow.{Flows, acceptFile}
-use Rattle.river.specs.Tables.{Tabled}
+use Rattle.river.specs.Flow.{Flows, flowCheck}
+use Rattle.river.specs.FlowTable.{Tabled}
+use Rattle.river.specs.Refusal.{outcomeOf, Answer, after}
+use Rattle.river.specs.Read.{readFile}
+
+-- a river file that was read without refusal goes on to the flow check
+unfoldable pub acceptFile : List ℕ → Answer (List Card)
+acceptFile file = after (readFile file) flowCheck
 
 -- the answer of reading and flow check; the cards of an accepted river are lawful and pass the flow rules, and the tables are theirs
 pub record Accepts (file : List ℕ) (r : Acceptance) : Type 0 where

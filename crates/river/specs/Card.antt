@@ -1,8 +1,8 @@
 -- Cards: the ranges of their fields, outlets, and the lawful lists of cards, which are the rivers that have a file.
-use Prim.Native.Nat.{ℕ, suc, _≤_, _<_}
 use mathlib.Core.Path.{_≡_}
-use mathlib.Core.List.{List, [], _∷_}
 use mathlib.Core.Bool.{Bool, true, _&&_, cond}
+use mathlib.Core.List.{List, [], _∷_}
+use Prim.Native.Nat.{ℕ, suc, _≤_, _<_}
 use lib.ListN.{length, take}
 use lib.Dec.{leb, ltb, eqb}
 use Rattle.river.specs.declared.card.Card.{Card}
@@ -14,8 +14,24 @@ use Rattle.river.specs.declared.card.Dam.the-variants.{Absent, Aerating}
 abbrev pub river : Cards → List Card
 river cs = take (cs .count) (cs .at)
 
+-- the card that stands for a reach beyond the last one
+abbrev pub blank : Card
+blank =
+    record {
+      outlet = 0;
+      temperature = 0;
+      k1 = 0;
+      k2 = 0;
+      volume = 0;
+      inflow = 0;
+      «inflow_bod» = 0;
+      «inflow_oxygen» = 0;
+      load = 0;
+      dam = Absent;
+    }
+
 -- the ranges of an `RE` record's fields
-pub record InRange (c : Card) : Type 0 where
+pub record FieldsInRange (c : Card) : Type 0 where
   pub temperature : c .temperature ≤ 35
   pub k1 : c .k1 ≤ 20000
   pub k2 : c .k2 ≤ 20000
@@ -40,7 +56,7 @@ outletOk n i o = cond (eqb i n) (eqb o 0) (ltb i o && leb o n)
 
 -- a lawful card of reach i of n; any load that four bytes hold will do
 pub record LawfulCard (n i : ℕ) (c : Card) : Type 0 where
-  pub in-range : InRange c
+  pub in-range : FieldsInRange c
   pub load : c .load < 4294967296
   pub outlet : outletOk n i (c .outlet) ≡ true
   pub dam : LawfulDam (c .dam)
@@ -72,3 +88,11 @@ damInRange (Aerating s g) = leb s 1000 && leb g 100000000
 -- the test of a reach count
 unfoldable pub countOk : ℕ → Bool
 countOk n = leb 1 n && leb n 128
+
+-- the length of a card's records
+abbrev pub sizeOfDam : Dam → ℕ
+sizeOfDam Absent = 26
+sizeOfDam (Aerating s g) = 34
+
+abbrev pub sizeOf : Card → ℕ
+sizeOf c = sizeOfDam (c .dam)

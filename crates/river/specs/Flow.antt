@@ -8,29 +8,13 @@ use lib.Dec.{leb, ltb, eqb}
 use Rattle.river.specs.declared.card.Dam.{Dam}
 use Rattle.river.specs.declared.card.Dam.the-variants.{Absent, Aerating}
 use Rattle.river.specs.declared.card.Card.{Card}
-use Rattle.river.specs.Refusal.{Answer, accepted, need, after}
-use Rattle.river.specs.Read.{readFile}
+use Rattle.river.specs.Refusal.{Answer, accepted, need}
+use Rattle.river.specs.Card.{blank}
 
 -- what flows into a reach: none, or a feeder's card, what flows into that feeder, and the other feeders
 pub data Feeders : Type 0 where
   none : Feeders
   more : (card : Card) (up : Feeders) (rest : Feeders) → Feeders
-
--- the card that stands for a reach beyond the last one
-abbrev pub blank : Card
-blank =
-    record {
-      outlet = 0;
-      temperature = 0;
-      k1 = 0;
-      k2 = 0;
-      volume = 0;
-      inflow = 0;
-      «inflow_bod» = 0;
-      «inflow_oxygen» = 0;
-      load = 0;
-      dam = Absent;
-    }
 
 -- the card of reach i, numbered from 1
 abbrev pub cardOf : List Card → ℕ → Card
@@ -38,15 +22,15 @@ cardOf cards zero = blank
 cardOf cards (suc n) = getD cards n blank
 
 -- one more feeder if the test holds
-unfoldable pub joined : Bool → Card → Feeders → Feeders → Feeders
-joined true card up rest = more card up rest
-joined false card up rest = rest
+unfoldable pub joinedIf : Bool → Card → Feeders → Feeders → Feeders
+joinedIf true card up rest = more card up rest
+joinedIf false card up rest = rest
 
 -- the feeders of reach i among the first n reaches: those whose outlet it is
 unfoldable pub feedersAmong : List Card → ℕ → ℕ → Feeders
 feedersAmong cards zero i = none
 feedersAmong cards (suc n) i =
-    joined (eqb (getD cards n blank .outlet) i) (getD cards n blank) (feedersAmong cards n (suc n)) (feedersAmong cards n i)
+    joinedIf (eqb (getD cards n blank .outlet) i) (getD cards n blank) (feedersAmong cards n (suc n)) (feedersAmong cards n i)
 
 -- what flows into reach i
 abbrev pub above : List Card → ℕ → Feeders
@@ -128,17 +112,13 @@ checksFrom cards i (suc m) = reachChecks (cardOf cards i) (above cards i) i (che
 unfoldable pub flowCheck : List Card → Answer (List Card)
 flowCheck cards = checksFrom cards 1 (length cards)
 
--- a river file that was read without refusal goes on to the flow check
-unfoldable pub acceptFile : List ℕ → Answer (List Card)
-acceptFile file = after (readFile file) flowCheck
-
 -- the rule of check 9 as a fact
 unfoldable pub DamRule : Dam → Feeders → Type 0
 DamRule Absent up = Unit
 DamRule (Aerating share generating) up = (fed up ≡ true) × (generating ≤ flowOf up)
 
 -- what checks 7 to 11 ask of a reach with this card, with what flows into it
-pub record Sound (card : Card) (up : Feeders) : Type 0 where
+pub record ReachPasses (card : Card) (up : Feeders) : Type 0 where
   pub flowing : 0 < reachFlow card up
   pub bounded : reachFlow card up ≤ 100000000
   pub dam-rule : DamRule (card .dam) up
@@ -148,4 +128,4 @@ pub record Sound (card : Card) (up : Feeders) : Type 0 where
 
 -- a river passes the flow rules: each of its reaches does
 pub record Flows (cards : List Card) : Type 0 where
-  pub each : (i : ℕ) → i < length cards → Sound (cardOf cards (suc i)) (above cards (suc i))
+  pub each : (i : ℕ) → i < length cards → ReachPasses (cardOf cards (suc i)) (above cards (suc i))

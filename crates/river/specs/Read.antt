@@ -1,21 +1,18 @@
 -- Reading: the cards of a river file, or the first refusal in file order.
-use Prim.Native.Nat.{ℕ, zero, suc, _+_, _≤_}
-use mathlib.Core.Path.{_≡_}
 use mathlib.Core.List.{List, [], _∷_}
+use Prim.Native.Nat.{ℕ, zero, suc, _+_}
 use lib.ListN.{length, drop}
 use lib.Dec.{leb, eqb}
-use Rattle.river.specs.Bytes.{byteAt, twoAt, fourAt, marked}
-use Rattle.river.specs.Card.{river, countOk, inRange, outletOk, damInRange}
-use Rattle.river.specs.Refusal.{Answer, accepted, refused, refuse, need, choose, after}
 use Rattle.river.specs.declared.card.Card.{Card}
 use Rattle.river.specs.declared.card.Dam.{Dam}
 use Rattle.river.specs.declared.card.Dam.the-variants.{Absent, Aerating}
 use Rattle.river.specs.declared.refusal.Refusal.{Refusal}
 use Rattle.river.specs.declared.read.DamRead.{DamRead}
 use Rattle.river.specs.declared.read.Header.{Header}
-use Rattle.river.specs.declared.read.Outcome.{Outcome}
 use Rattle.river.specs.declared.read.Reach.{Reach}
-use Rattle.river.specs.declared.read.Reading.{Reading}
+use Rattle.river.specs.Bytes.{byteAt, twoAt, fourAt, marked}
+use Rattle.river.specs.Card.{countOk, inRange, outletOk, damInRange, sizeOf}
+use Rattle.river.specs.Refusal.{Answer, accepted, refused, refuse, need, choose, after}
 
 -- the header of a file: 1, 2, 3, with reach 0, or the reach count
 unfoldable pub readHeader : List ℕ → Answer ℕ
@@ -59,14 +56,6 @@ readReach n i s =
     (need (outletOk n i (byteAt s 2)) 5 i
     (after (readDam i s) (λ d. accepted (cardAt s d))))))
 
--- the length of a card's records
-abbrev pub sizeOfDam : Dam → ℕ
-sizeOfDam Absent = 26
-sizeOfDam (Aerating s g) = 34
-
-abbrev pub sizeOf : Card → ℕ
-sizeOf c = sizeOfDam (c .dam)
-
 -- the reaches from i on, of n, where m are due; 6, with reach 0, if bytes remain after the last record
 unfoldable pub readReaches : ℕ → ℕ → ℕ → List ℕ → Answer (List Card)
 readReaches n i zero s = need (eqb (length s) 0) 6 0 (accepted [])
@@ -91,13 +80,6 @@ abbrev pub reachOf : ℕ → Answer Card → Reach
 reachOf at (accepted c) = Reach.Read c (at + sizeOf c)
 reachOf at (refused r) = Reach.Refused r
 
-abbrev pub outcomeOf : Outcome → List Card → Answer (List Card)
-outcomeOf Outcome.Accepted cs = accepted cs
-outcomeOf (Outcome.Refused r) cs = refused r
-
-abbrev pub answerOf : Reading → Answer (List Card)
-answerOf r = outcomeOf (r .outcome) (river (r .cards))
-
 -- the refusal in an answer; number 0 where there is none
 abbrev pub headerRefusal : Header → Refusal
 headerRefusal (Header.Count n next) = refuse 0 0
@@ -106,13 +88,3 @@ headerRefusal (Header.Refused r) = r
 abbrev pub reachRefusal : Reach → Refusal
 reachRefusal (Reach.Read c next) = refuse 0 0
 reachRefusal (Reach.Refused r) = r
-
--- a reading yields an answer: the cards, or a refusal and no card
-pub record Yields (a : Answer (List Card)) (r : Reading) : Type 0 where
-  pub answer : answerOf r ≡ a
-  pub few : r .cards .count ≤ 128
-  pub none : {x : Refusal} → r .outcome ≡ Outcome.Refused x → r .cards .count ≡ 0
-
--- the reading of a file
-abbrev pub Reads : List ℕ → Reading → Type 0
-Reads file r = Yields (readFile file) r

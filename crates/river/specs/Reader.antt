@@ -1,29 +1,28 @@
 -- The reader's progress through a file.
-use Prim.Native.Nat.{ℕ, _+_, _-_, _≤_, _<_}
 use mathlib.Core.Path.{_≡_}
 use mathlib.Core.List.{List, _++_}
+use Prim.Native.Nat.{ℕ, _+_, _-_, _≤_, _<_}
 use lib.ListN.{take, drop}
-use Rattle.river.specs.Read.{readHeader, headerOf, readReach, reachOf, readReaches, readFile, Reads}
-use Rattle.river.specs.Refusal.{Answer, accepted, refused}
 use Rattle.river.specs.declared.card.Card.{Card}
 use Rattle.river.specs.declared.read.Header.{Header}
-use Rattle.river.specs.declared.read.Outcome.{Outcome}
+use Rattle.river.specs.declared.refusal.Outcome.{Outcome}
 use Rattle.river.specs.declared.read.Reach.{Reach}
-use Rattle.river.specs.declared.read.Reading.{Reading}
 use Rattle.river.specs.declared.reader.Progress.{Progress}
+use Rattle.river.specs.Read.{readHeader, headerOf, readReach, reachOf, readReaches, readFile}
+use Rattle.river.specs.Refusal.{Answer, accepted, refused}
 
 -- cards before those of an answer
-abbrev pub joined : List Card → Answer (List Card) → Answer (List Card)
-joined cs (accepted ds) = accepted (cs ++ ds)
-joined cs (refused r) = refused r
+abbrev pub withCards : List Card → Answer (List Card) → Answer (List Card)
+withCards cs (accepted ds) = accepted (cs ++ ds)
+withCards cs (refused r) = refused r
 
 -- the answer where an outcome and cards are found and an answer is still to come
 abbrev pub continued : Outcome → List Card → Answer (List Card) → Answer (List Card)
-continued Outcome.Accepted cs rest = joined cs rest
+continued Outcome.Accepted cs rest = withCards cs rest
 continued (Outcome.Refused r) cs rest = refused r
 
 -- reading a file goes on from a progress: the refusal that is found, or the cards that are read with those still to be read, make the file's answer
-pub record GoesOn (s : List ℕ) (p : Progress) : Type 0 where
+pub record ReadingGoesOn (s : List ℕ) (p : Progress) : Type 0 where
   pub few : p .count ≤ 128
   pub most : p .read ≤ p .count
   pub opened : p .read < p .count → p .outcome ≡ Outcome.Accepted
@@ -31,13 +30,9 @@ pub record GoesOn (s : List ℕ) (p : Progress) : Type 0 where
 
 -- a progress begins with a header's answer
 pub record Begins (h : Header) (p : Progress) : Type 0 where
-  pub goes : (s : List ℕ) → h ≡ headerOf (readHeader s) → GoesOn s p
+  pub goes : (s : List ℕ) → h ≡ headerOf (readHeader s) → ReadingGoesOn s p
 
 -- one reach more, from one progress to the next, with fewer reaches due
 pub record Takes (p : Progress) (x : Reach) (q : Progress) : Type 0 where
-  pub goes : (s : List ℕ) → GoesOn s p → x ≡ reachOf (p .next) (readReach (p .count) (p .read + 1) (drop (p .next) s)) → GoesOn s q
+  pub goes : (s : List ℕ) → ReadingGoesOn s p → x ≡ reachOf (p .next) (readReach (p .count) (p .read + 1) (drop (p .next) s)) → ReadingGoesOn s q
   pub fewer : q .count - q .read < p .count - p .read
-
--- a progress with no reach due ends, at a position of the file, in the file's reading
-pub record Ends (p : Progress) (s : List ℕ) (at : ℕ) (r : Reading) : Type 0 where
-  pub reads : GoesOn s p → at ≡ p .next → Reads s r

@@ -1,6 +1,7 @@
 -- Refusals, and answers that are a value or a refusal.
-use Prim.Native.Nat.{ℕ, _+_, _*_}
 use mathlib.Core.Bool.{Bool, true, false}
+use Prim.Native.Nat.{ℕ, _+_, _*_}
+use Rattle.river.specs.declared.refusal.Outcome.{Outcome}
 use Rattle.river.specs.declared.refusal.Refusal.{Refusal}
 
 -- an answer: what was asked for, or the refusal
@@ -31,3 +32,13 @@ module _ {A : Type 0} where
   unfoldable pub after : {B : Type 0} → Answer A → (A → Answer B) → Answer B
   after (accepted a) f = f a
   after (refused r) f = refused r
+
+  -- an outcome of the program as an answer: what was asked for, where it is accepted
+  abbrev pub outcomeOf : Outcome → A → Answer A
+  outcomeOf Outcome.Accepted a = accepted a
+  outcomeOf (Outcome.Refused r) a = refused r
+
+  -- an outcome as an answer: what comes later, where it is accepted
+  unfoldable pub goOn : Outcome → Answer A → Answer A
+  goOn Outcome.Accepted later = later
+  goOn (Outcome.Refused r) later = refused r

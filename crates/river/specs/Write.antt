@@ -1,18 +1,18 @@
 -- Writing: the file of a river, and what writing leaves in a buffer.
-use Prim.Native.Nat.{ℕ, suc}
 use mathlib.Core.Path.{_≡_}
 use mathlib.Core.List.{List, [], _∷_, _++_}
+use Prim.Native.Nat.{ℕ, suc}
 use lib.ListN.{length, drop}
 use lib.Dec.{leb}
-use Rattle.river.specs.Bytes.{twoBytes, fourBytes}
-use Rattle.river.specs.Card.{countOk, inRange, outletOk, damInRange}
-use Rattle.river.specs.Refusal.{Answer, accepted, refused, refuse, need, after}
 use Rattle.river.specs.declared.card.Card.{Card}
 use Rattle.river.specs.declared.card.Dam.{Dam}
 use Rattle.river.specs.declared.card.Dam.the-variants.{Absent, Aerating}
 use Rattle.river.specs.declared.refusal.Refusal.{Refusal}
 use Rattle.river.specs.declared.write.Check.{Check}
 use Rattle.river.specs.declared.write.Written.{Written}
+use Rattle.river.specs.Bytes.{twoBytes, fourBytes}
+use Rattle.river.specs.Card.{countOk, inRange, outletOk, damInRange}
+use Rattle.river.specs.Refusal.{Answer, accepted, refused, refuse, need, after}
 
 -- the `DM` record of a dam, if there is one
 abbrev pub encodeDam : Dam → List ℕ
@@ -63,9 +63,9 @@ writeAnswer n cs room =
     (λ _. need (leb (length (encode cs)) room) 12 0 (accepted (length (encode cs)))))
 
 -- the buffer that an answer leaves: the file at its start, and as it was after a refusal
-unfoldable pub bufferAfter : Answer ℕ → List Card → List ℕ → List ℕ
-bufferAfter (accepted l) cs before = encode cs ++ drop l before
-bufferAfter (refused r) cs before = before
+unfoldable pub bufferWritten : Answer ℕ → List Card → List ℕ → List ℕ
+bufferWritten (accepted l) cs before = encode cs ++ drop l before
+bufferWritten (refused r) cs before = before
 
 -- the answers of the program, case by case: a check's, and that of writing
 abbrev pub checkOf : Answer Unit → Check
@@ -83,4 +83,4 @@ writtenOf (Written.Refused r) = refused r
 -- what a write of n reaches' cards is: its answer and the whole buffer
 pub record Writes (n : ℕ) (cs : List Card) (before : List ℕ) (w : Written) (left : List ℕ) : Type 0 where
   pub answer : writtenOf w ≡ writeAnswer n cs (length before)
-  pub buffer : left ≡ bufferAfter (writtenOf w) cs before
+  pub buffer : left ≡ bufferWritten (writtenOf w) cs before

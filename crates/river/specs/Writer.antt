@@ -1,36 +1,35 @@
 -- The writer's progress through the cards that it is lent.
-use Prim.Native.Nat.{ℕ, _+_, _≤_, _<_}
 use mathlib.Core.Path.{_≡_}
 use mathlib.Core.List.{List}
+use Prim.Native.Nat.{ℕ, _+_, _≤_, _<_}
 use lib.ListN.{length}
-use Rattle.river.specs.Bytes.{Put}
-use Rattle.river.specs.Card.{countOk}
-use Rattle.river.specs.Read.{sizeOf}
-use Rattle.river.specs.Refusal.{Answer, accepted, refused, refuse, need}
-use Rattle.river.specs.Write.{encode, encodeCard, encodeHeader, checkFrom, checkOf}
 use Rattle.river.specs.declared.card.Card.{Card}
 use Rattle.river.specs.declared.refusal.Refusal.{Refusal}
 use Rattle.river.specs.declared.write.Check.{Check}
 use Rattle.river.specs.declared.write.Written.{Written}
 use Rattle.river.specs.declared.writer.Checking.{Checking}
 use Rattle.river.specs.declared.writer.Putting.{Putting}
+use Rattle.river.specs.Bytes.{Put}
+use Rattle.river.specs.Card.{countOk, sizeOf}
+use Rattle.river.specs.Refusal.{Answer, accepted, refused, refuse, need}
+use Rattle.river.specs.Write.{encode, encodeCard, encodeHeader, checkFrom, checkOf}
 
 -- a refusal, after which no card is due
 abbrev pub stoppedAt : Refusal → Checking
 stoppedAt r = record { check = Check.Refused r; due = 0; passed = 0; length = 4 }
 
 -- a card that is checked: one more has passed, or a refusal
-abbrev pub nextOf : Answer Unit → Checking → Card → Checking
-nextOf (accepted u) s c = record { check = Check.Passed; due = s .due; passed = s .passed + 1; length = s .length + sizeOf c }
-nextOf (refused r) s c = stoppedAt r
+abbrev pub nextChecking : Answer Unit → Checking → Card → Checking
+nextChecking (accepted u) s c = record { check = Check.Passed; due = s .due; passed = s .passed + 1; length = s .length + sizeOf c }
+nextChecking (refused r) s c = stoppedAt r
 
 -- the start of checking n cards: 3 for a count out of range
 abbrev pub startFrom : Answer Unit → ℕ → Checking
 startFrom (accepted u) n = record { check = Check.Passed; due = n; passed = 0; length = 4 }
 startFrom (refused r) n = stoppedAt r
 
-abbrev pub startOf : ℕ → Checking
-startOf n = startFrom (need (countOk n) 3 0 (accepted tt)) n
+abbrev pub startChecking : ℕ → Checking
+startChecking n = startFrom (need (countOk n) 3 0 (accepted tt)) n
 
 -- all cards are checked: 3, then each reach's refusals; where they pass, all are due, and their file's length is known
 pub record ChecksAll (cs : List Card) (s : Checking) : Type 0 where

@@ -1,11 +1,11 @@
 // Acceptance of a river file: reading, then the flow check.
 ghost use Rattle.river.specs.Accept.{Accepts};
 use crate::card::Cards;
+use crate::file::read_file;
 use crate::flow::FlowTable;
 use crate::flow::flow_check;
 use crate::flow::no_flows;
-use crate::read::Outcome;
-use crate::read::read_file;
+use crate::refusal::Outcome;
 
 // What reading and the flow check of a file yield: the cards and their flows if the river is accepted, or a refusal.
 pub struct Acceptance {

@@ -1,4 +1,6 @@
 // One reach of a river file.
+ghost use mathlib.Core.Path.{_≡_};
+ghost use Rattle.river.specs.Card.{sizeOfDam};
 
 // A dam is either none or an aeration share, in thousandths, with a generating flow, in litres a second.
 pub enum Dam {
@@ -24,4 +26,33 @@ pub struct Card {
 pub struct Cards {
     pub at: [Card; 128],
     pub count: usize,
+}
+
+// A card of zeros.
+pub fn blank() -> Card {
+    Card {
+        outlet: 0,
+        temperature: 0,
+        k1: 0,
+        k2: 0,
+        volume: 0,
+        inflow: 0,
+        inflow_bod: 0,
+        inflow_oxygen: 0,
+        load: 0,
+        dam: Dam::Absent,
+    }
+}
+
+// The length of the records of a reach with a dam.
+pub fn size_of(dam: Dam) -> usize
+    ensures { λ r. ⌜ r ≡ sizeOfDam dam ⌝ }
+{
+    match dam {
+        Dam::Absent => 26,
+        Dam::Aerating {
+            share: _,
+            generating: _,
+        } => 34,
+    }
 }

@@ -4,14 +4,14 @@ ghost use mathlib.Core.List.{List};
 ghost use Prim.Native.Nat.{ℕ, suc, _+_, _*_, _<_, _≤_, max};
 ghost use lib.Dec.{ltb, leb};
 ghost use lib.ListN.{length, set};
-ghost use Rattle.river.specs.Refusal.{Answer};
+ghost use Rattle.river.specs.Refusal.{Answer, goOn};
 ghost use Rattle.river.specs.Card.{Lawful, river};
 ghost use Rattle.river.specs.Flow.{damFits, checksOf, ownMass};
-ghost use Rattle.river.specs.Tables.{tableSum, tableMax, goOn, NextInput, NextChecked, FlowChecked};
+ghost use Rattle.river.specs.FlowTable.{tableSum, tableMax, NextInput, NextChecked, FlowChecked};
 use crate::card::Card;
 use crate::card::Cards;
 use crate::card::Dam;
-use crate::read::Outcome;
+use crate::refusal::Outcome;
 use crate::refusal::Refusal;
 
 // Tables of the reaches that passed: outlet, flow, undecayed BOD and depth.

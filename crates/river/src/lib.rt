@@ -2,6 +2,7 @@
 pub mod accept;
 pub mod bytes;
 pub mod card;
+pub mod file;
 pub mod flow;
 pub mod head;
 pub mod put;

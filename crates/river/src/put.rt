@@ -3,8 +3,8 @@ ghost use Prim.Native.Nat.{_+_, _≤_};
 ghost use mathlib.Core.List.{[], _∷_, _++_};
 ghost use lib.ListN.{length};
 ghost use Rattle.river.specs.Bytes.{Put, twoBytes, fourBytes};
-ghost use Rattle.river.specs.Read.{sizeOf, sizeOfDam};
 ghost use Rattle.river.specs.Write.{encodeCard, encodeDam, encodeHeader};
+ghost use Rattle.river.specs.Card.{sizeOfDam, sizeOf};
 use crate::card::Card;
 use crate::card::Dam;
 

@@ -3,22 +3,18 @@ ghost use mathlib.Core.Path.{_≡_};
 ghost use Prim.Native.Nat.{_+_, _≤_, _<_};
 ghost use lib.ListN.{drop};
 ghost use Rattle.river.specs.Refusal.{Answer, accepted, after};
-ghost use Rattle.river.specs.Read.{readHeader, headerOf, headerRefusal, cardAt, readDam, damOf, sizeOfDam, readReach, reachOf, reachRefusal, Yields, Reads};
+ghost use Rattle.river.specs.Read.{readHeader, headerOf, headerRefusal, cardAt, readDam, damOf, readReach, reachOf, reachRefusal};
 use crate::bytes::byte_at;
 use crate::bytes::four_at;
 use crate::bytes::marked;
 use crate::bytes::two_at;
 use crate::card::Card;
-use crate::card::Cards;
 use crate::card::Dam;
+use crate::card::size_of;
 use crate::range::count_ok;
 use crate::range::dam_in_range;
 use crate::range::in_range;
 use crate::range::outlet_ok;
-use crate::reader::Reader;
-use crate::reader::begin;
-use crate::reader::finish;
-use crate::reader::take;
 use crate::refusal::Refusal;
 
 // What reading the header finds: the reach count and the next position, or a refusal.
@@ -37,18 +33,6 @@ pub enum DamRead {
 pub enum Reach {
     Read { card: Card, next: usize },
     Refused(Refusal),
-}
-
-// The outcome of reading, and of the flow check.
-pub enum Outcome {
-    Accepted,
-    Refused(Refusal),
-}
-
-// What reading a file yields: the cards if it was accepted, or a refusal and no card.
-pub struct Reading {
-    pub outcome: Outcome,
-    pub cards: Cards,
 }
 
 // The header of a file: refusals 1, 2 and 3, or the reach count.
@@ -116,19 +100,6 @@ pub fn read_dam(s: &[u8], reach: u8) -> DamRead
         return DamRead::Refused(Refusal { number: 4, reach });
     }
     DamRead::Found(dam)
-}
-
-// The length of the records of a reach with a dam.
-pub fn size_of(dam: Dam) -> usize
-    ensures { λ r. ⌜ r ≡ sizeOfDam dam ⌝ }
-{
-    match dam {
-        Dam::Absent => 26,
-        Dam::Aerating {
-            share: _,
-            generating: _,
-        } => 34,
-    }
 }
 
 // The card at a position, whose `RE` record stands at the start, with its dam.
@@ -200,46 +171,4 @@ pub fn reach_refusal(answer: Reach) -> Refusal
             reach: 0,
         },
     }
-}
-
-// A card of zeros.
-pub fn blank() -> Card {
-    Card {
-        outlet: 0,
-        temperature: 0,
-        k1: 0,
-        k2: 0,
-        volume: 0,
-        inflow: 0,
-        inflow_bod: 0,
-        inflow_oxygen: 0,
-        load: 0,
-        dam: Dam::Absent,
-    }
-}
-
-// A refusal, and no card.
-pub fn refused(r: Refusal) -> Reading
-    ensures { λ x. ⌜ Yields (Answer.refused r) x ⌝ }
-{
-    let none = blank();
-    let at = [none; 128];
-    Reading {
-        outcome: Outcome::Refused(r),
-        cards: Cards { at, count: 0 },
-    }
-}
-
-// A river file, through a reader that moves on: the header, then card after card.
-pub fn read_file(file: &[u8]) -> Reading
-    ensures { λ r. ⌜ Reads (now (file .entry)) r ⌝ }
-{
-    let mut reader = Reader::new(file);
-    let mut p = begin(reader.header());
-    reader = reader.moved(p.next);
-    while p.read < p.count {
-        p = take(p, reader.next(p.count, p.read + 1));
-        reader = reader.moved(p.next);
-    }
-    finish(p, reader.file, reader.at)
 }

@@ -3,20 +3,16 @@ ghost use mathlib.Core.Path.{_≡_};
 ghost use Prim.Native.Nat.{_<_, _≤_};
 ghost use lib.ListN.{drop};
 ghost use Rattle.river.specs.Read.{readHeader, headerOf, readReach, reachOf};
-ghost use Rattle.river.specs.Reader.{Begins, Takes, Ends};
+ghost use Rattle.river.specs.Reader.{Begins, Takes};
 use crate::card::Card;
-use crate::card::Cards;
+use crate::card::blank;
 use crate::read::Header;
-use crate::read::Outcome;
 use crate::read::Reach;
-use crate::read::Reading;
-use crate::read::blank;
 use crate::read::header_refusal;
 use crate::read::reach_refusal;
 use crate::read::read_header;
 use crate::read::read_reach;
-use crate::read::refused;
-use crate::refusal::Refusal;
+use crate::refusal::Outcome;
 
 // A file, and how far it has been read.
 pub struct Reader<'a> {
@@ -115,33 +111,5 @@ pub fn take(p: Progress, reach: Reach) -> Progress
         count,
         read: read + 1,
         next,
-    }
-}
-
-// The end of reading, at a position of the file: the cards if no byte remains, or the refusal.
-pub fn finish(p: Progress, file: &[u8], at: usize) -> Reading
-    requires { ⌜ p .count ≤ p .read ⌝ }
-    ensures { λ r. ⌜ Ends p (now (file .entry)) at r ⌝ }
-{
-    let outcome = p.outcome;
-    match outcome {
-        Outcome::Refused(r) => refused(r),
-        Outcome::Accepted => {
-            if at < file.len() {
-                return refused(Refusal {
-                    number: 6,
-                    reach: 0,
-                });
-            }
-            let cards = p.at;
-            let n = p.count as usize;
-            Reading {
-                outcome,
-                cards: Cards {
-                    at: cards,
-                    count: n,
-                },
-            }
-        }
     }
 }

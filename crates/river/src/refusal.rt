@@ -8,6 +8,12 @@ pub struct Refusal {
     pub reach: u8,
 }
 
+// The outcome of reading, and of the flow check.
+pub enum Outcome {
+    Accepted,
+    Refused(Refusal),
+}
+
 // The result code of a refusal.
 pub fn code(r: Refusal) -> u32
     ensures { λ c. ⌜ c ≡ codeOf r ⌝ }

@@ -7,13 +7,13 @@ ghost use Rattle.river.specs.Card.{river};
 ghost use Rattle.river.specs.Write.{encode, checkCard, checkFrom, checkOf, checkRefusal, Writes};
 use crate::card::Card;
 use crate::card::Cards;
+use crate::card::size_of;
 use crate::put::put_card;
 use crate::put::put_header;
 use crate::range::count_ok;
 use crate::range::dam_in_range;
 use crate::range::in_range;
 use crate::range::outlet_ok;
-use crate::read::size_of;
 use crate::refusal::Refusal;
 
 // Whether cards may be written.

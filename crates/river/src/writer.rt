@@ -2,14 +2,14 @@
 ghost use mathlib.Core.Path.{_≡_};
 ghost use Prim.Native.Nat.{_+_, _*_, _≤_, _<_};
 ghost use lib.ListN.{length};
-ghost use Rattle.river.specs.Read.{sizeOf};
 ghost use Rattle.river.specs.Write.{checkCard, Writes};
-ghost use Rattle.river.specs.Writer.{stoppedAt, startOf, nextOf, ChecksAll, Heads, PutsNext};
+ghost use Rattle.river.specs.Writer.{stoppedAt, startChecking, nextChecking, ChecksAll, Heads, PutsNext};
+ghost use Rattle.river.specs.Card.{sizeOf};
 use crate::card::Card;
+use crate::card::size_of;
 use crate::put::put_card;
 use crate::put::put_header;
 use crate::range::count_ok;
-use crate::read::size_of;
 use crate::refusal::Refusal;
 use crate::write::Check;
 use crate::write::Written;
@@ -45,7 +45,7 @@ fn stopped(r: Refusal) -> Checking
 
 // So many cards are due, or 3.
 fn start(n: usize) -> Checking
-    ensures { λ s. ⌜ s ≡ startOf n ⌝ }
+    ensures { λ s. ⌜ s ≡ startChecking n ⌝ }
 {
     if !count_ok(n) {
         return stopped(Refusal {
@@ -64,7 +64,7 @@ fn start(n: usize) -> Checking
 // One card more.
 fn check_next(s: Checking, c: Card) -> Checking
     requires { ⌜ (s .passed < s .due) × (s .due ≤ 128) × (s .length ≤ 4 + 34 * s .passed) ⌝ }
-    ensures { λ t. ⌜ t ≡ nextOf (checkCard (s .due) (s .passed + 1) c) s c ⌝ }
+    ensures { λ t. ⌜ t ≡ nextChecking (checkCard (s .due) (s .passed + 1) c) s c ⌝ }
 {
     let due = s.due;
     let passed = s.passed;

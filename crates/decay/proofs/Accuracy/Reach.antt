@@ -7,7 +7,7 @@ use lib.Signed.{leZ-yes}
 use Rattle.decay.specs.Fraction.{Fraction, ofℕ, ofℤ, over, _+ᶠ_, -ᶠ_, _-ᶠ_, _*ᶠ_, _÷_, _≈_, _≼_}
 use Rattle.decay.specs.Exact.{power, factorial, exponent, S, F}
 use Rattle.decay.specs.Fixed.{small}
-use Rattle.decay.specs.Step.{Passed, exponentOf, stepOf}
+use Rattle.decay.specs.Step.{RatesPass, exponentOf, stepOf}
 use Rattle.decay.specs.Promise.{share}
 use Rattle.decay.proofs.Algebra.{≈-sym, ≈-trans, ring-by, _⋅_, _&_, none, quote, ≼-of-≈, ≼-trans, Nonneg, slack, number, _⊞_, _⊠_, multiple, certify, certify-times, positive-whole, ÷-cancel-pos, ofℕ-≈, Within}
 use Rattle.decay.proofs.Algebra.Identity.{replaced}
@@ -15,7 +15,7 @@ use Rattle.decay.proofs.Exponential.Terms.{e, e-zero, e-suc, e-nonneg, 
 use Rattle.decay.proofs.Exponential.Exponent.{exponent-nonneg, exponent-step, exponent-scaled}
 use Rattle.decay.proofs.Exponential.Used.{d, d-zero, d-suc, d-nonneg}
 use Rattle.decay.proofs.Exponential.Short.{S-short, F-short, d-small}
-use Rattle.decay.proofs.Shares.{exponent-small, step-sound}
+use Rattle.decay.proofs.step.Shares.{exponent-small, step-sound}
 use Rattle.decay.proofs.Accuracy.Units.{eps, eps-nonneg, share-nonneg, share-mono, share-one, share-is, Below, exponent-below}
 use Rattle.decay.proofs.Accuracy.Step.{Exponents, ExactTerms, Sum, lost-near, used-near}
 use Rattle.decay.proofs.Accuracy.Advance.{StepNear}
@@ -136,7 +136,7 @@ six-terms y =
 small-share-one : {n : ℕ} → n ≤ small → share n ≼ ofℕ 1
 small-share-one {n} h = ≼-trans (share-mono (le-trans h (lit≤ tt))) (≼-of-≈ share-one)
 
-module _ {N k1 k2 v Q : ℕ} (long : 40 ≤ N) (p : Passed k1 k2 v Q) where
+module _ {N k1 k2 v Q : ℕ} (long : 40 ≤ N) (p : RatesPass k1 k2 v Q) where
   abbrev y : Fraction
   y = exponent k1 v Q 1
 

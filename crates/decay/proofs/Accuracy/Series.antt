@@ -13,7 +13,7 @@ pub record Rough (e t : Fraction) : Type 0 where
   pub small : ofℕ 256 *ᶠ e ≼ ofℕ 1
 
 -- t lies below e by at most 65/64 of a unit, and e is at most 1/512
-pub record Near (e t : Fraction) : Type 0 where
+pub record TermNear (e t : Fraction) : Type 0 where
   pub low : t ≼ e
   pub high : ofℕ 64 *ᶠ e ≼ ofℕ 64 *ᶠ t +ᶠ ofℕ 65 *ᶠ eps
   pub small : ofℕ 512 *ᶠ e ≼ ofℕ 1
@@ -67,7 +67,7 @@ module _
     cancelled {a} {b} h =
         certify-times (suc n) (ofℕ (suc (suc n)) ∷ a ∷ b ∷ []) (slack h) (search quote depth 40 fits 9999) tt
 
-    pub next-near : Near e' t'
+    pub next-near : TermNear e' t'
     next-near = record { low = next-low; high = cancelled times-high; small = cancelled times-small }
 
 -- ---- the terms that the next ones are made from
@@ -81,7 +81,7 @@ rough-first {y} {q} b h =
       small = h;
     }
 
-pub rough-near : {e t : Fraction} → Nonneg t → Near e t → Rough e t
+pub rough-near : {e t : Fraction} → Nonneg t → TermNear e t → Rough e t
 rough-near {e} {t} p h =
     record {
       low = h .low;
@@ -90,7 +90,7 @@ rough-near {e} {t} p h =
           certify-times 1 (e ∷ t ∷ []) (slack (h .small) ⊞ number 1) (search quote depth 40 fits 9999) tt;
     }
 
-pub rough-both : {e t w v : Fraction} → Near e t → Near w v → Rough (e +ᶠ w) (t +ᶠ v)
+pub rough-both : {e t w v : Fraction} → TermNear e t → TermNear w v → Rough (e +ᶠ w) (t +ᶠ v)
 rough-both {e} {t} {w} {v} h k =
     record {
       low = certify (e ∷ t ∷ w ∷ v ∷ []) (slack (h .low) ⊞ slack (k .low)) (search quote depth 40 fits 9999) tt;

@@ -11,9 +11,9 @@ use Rattle.decay.specs.Fixed.{small}
 use Rattle.decay.specs.Step.{nextTerms, termsAt, seriesOf}
 use Rattle.decay.specs.Promise.{share}
 use Rattle.decay.proofs.Algebra.{≈-refl, ≈-sym, ≈-trans, +ᶠ-cong, *ᶠ-cong, ring, ring-by, _⋅_, _&_, none, quote, ≼-by, slack, number, _⊞_, _⊠_, multiple, certify}
-use Rattle.decay.proofs.Shares.{lost-sum, back-sum, back-lost}
+use Rattle.decay.proofs.step.Shares.{lost-sum, back-sum, back-lost}
 use Rattle.decay.proofs.Accuracy.Units.{eps, share-nonneg, share-sum, share-equal, Floor, term-floor, Below}
-use Rattle.decay.proofs.Accuracy.Series.{Rough, Near, next-near, rough-first, rough-near, rough-both}
+use Rattle.decay.proofs.Accuracy.Series.{Rough, TermNear, next-near, rough-first, rough-near, rough-both}
 
 rough-cong : {e e' t t' : Fraction} → e ≈ e' → t ≈ t' → Rough e t → Rough e' t'
 rough-cong {e} {e'} {t} {t'} p q h =
@@ -68,9 +68,9 @@ pub record Sum (X L : Fraction) (over under : ℕ) : Type 0 where
 four-terms :
     (e1 e2 e3 e4 t1 t2 t3 t4 L : Fraction) →
     Below e1 t1 →
-    Near e2 t2 →
-    Near e3 t3 →
-    Near e4 t4 →
+    TermNear e2 t2 →
+    TermNear e3 t3 →
+    TermNear e4 t4 →
     L +ᶠ t2 +ᶠ t4 ≈ t1 +ᶠ t3 →
     Sum (e1 -ᶠ e2 +ᶠ e3 -ᶠ e4) L 129 130
 four-terms e1 e2 e3 e4 t1 t2 t3 t4 L h1 h2 h3 h4 sum =
@@ -89,9 +89,9 @@ four-terms e1 e2 e3 e4 t1 t2 t3 t4 L h1 h2 h3 h4 sum =
 
 three-terms :
     (w2 w3 w4 v2 v3 v4 B : Fraction) →
-    Near w2 v2 →
-    Near w3 v3 →
-    Near w4 v4 →
+    TermNear w2 v2 →
+    TermNear w3 v3 →
+    TermNear w4 v4 →
     B +ᶠ v3 ≈ v2 +ᶠ v4 →
     Sum (w2 -ᶠ w3 +ᶠ w4) B 130 65
 three-terms w2 w3 w4 v2 v3 v4 B h2 h3 h4 sum =
@@ -147,7 +147,7 @@ module _ (Y Z : ℕ) (y z : Fraction) (e d : ℕ → Fraction) (x : Exponents Y 
   abbrev w : ℕ → Fraction
   w j = d j -ᶠ e j
 
-  next-lost : (i : ℕ) → Rough (e (suc i)) (t i) → Near (e (suc (suc i))) (t (suc i))
+  next-lost : (i : ℕ) → Rough (e (suc i)) (t i) → TermNear (e (suc (suc i))) (t (suc i))
   next-lost i h =
       next-near i y (share Y) (e (suc i)) (t i) (e (suc (suc i))) (t (suc i)) (x .near-y) (x .small-y) (share-nonneg Y) (share-nonneg ((termsAt Y Z i) .lost)) h (k .e-next (suc i)) (lost-floor Y Z i)
 
@@ -156,14 +156,14 @@ module _ (Y Z : ℕ) (y z : Fraction) (e d : ℕ → Fraction) (x : Exponents Y 
       rough-cong (≈-sym (k .e-first)) (rw (first-lost Y Z) (≈-refl (share Y))) (rough-first (x .near-y) (x .small-y))
   rough-lost (suc i) = rough-near (share-nonneg ((termsAt Y Z (suc i)) .lost)) (next-lost i (rough-lost i))
 
-  near-lost : (i : ℕ) → Near (e (suc (suc i))) (t (suc i))
+  near-lost : (i : ℕ) → TermNear (e (suc (suc i))) (t (suc i))
   near-lost i = next-lost i (rough-lost i)
 
   w-next : (n : ℕ) → ofℕ (suc n) *ᶠ w (suc n) ≈ z *ᶠ d n
   w-next n =
       ring-by (ofℕ (suc n) ∷ y ∷ z ∷ e n ∷ d n ∷ e (suc n) ∷ d (suc n) ∷ []) (ofℕ 1 ⋅ k .d-next n & ofℕ 1 ⋅ k .e-next n & none) (search quote depth 40 fits 9999) tt
 
-  next-back : (i : ℕ) → Rough (d (suc i)) (share ((termsAt Y Z i) .lost + (termsAt Y Z i) .back)) → Near (w (suc (suc i))) (v (suc i))
+  next-back : (i : ℕ) → Rough (d (suc i)) (share ((termsAt Y Z i) .lost + (termsAt Y Z i) .back)) → TermNear (w (suc (suc i))) (v (suc i))
   next-back i h =
       next-near i z (share Z) (d (suc i)) (share ((termsAt Y Z i) .lost + (termsAt Y Z i) .back)) (w (suc (suc i))) (v (suc i)) (x .near-z) (x .small-z) (share-nonneg Z) (share-nonneg ((termsAt Y Z i) .lost + (termsAt Y Z i) .back)) h (w-next (suc i)) (back-floor Y Z i)
 
@@ -175,7 +175,7 @@ module _ (Y Z : ℕ) (y z : Fraction) (e d : ℕ → Fraction) (x : Exponents Y 
       (≈-sym (share-sum ((termsAt Y Z (suc i)) .lost) ((termsAt Y Z (suc i)) .back)))
       (rough-both (near-lost i) (next-back i (rough-all i)))
 
-  near-back : (i : ℕ) → Near (w (suc (suc i))) (v (suc i))
+  near-back : (i : ℕ) → TermNear (w (suc (suc i))) (v (suc i))
   near-back i = next-back i (rough-all i)
 
   below-first : Below (e 1) (share Y)

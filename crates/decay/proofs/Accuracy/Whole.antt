@@ -4,13 +4,13 @@ use Prim.Native.Nat.{ℕ, _+_, _-_, _≤_}
 use native.Mathlib.Nat.{sub-add-cancel}
 use Rattle.decay.specs.Fraction.{Fraction, ofℕ, _+ᶠ_, -ᶠ_, _-ᶠ_, _*ᶠ_, _≈_}
 use Rattle.decay.specs.Fixed.{product}
-use Rattle.decay.specs.Factors.{Sound, nextOf}
+use Rattle.decay.specs.Factors.{SoundStep, nextFactors}
 use Rattle.decay.specs.Promise.{share}
 use Rattle.decay.specs.declared.step.Step.{Step}
 use Rattle.decay.specs.declared.factors.Factors.{Factors}
 use Rattle.decay.proofs.Algebra.{≈-sym, ≈-trans, quote, slack, _⊞_, multiple, certify}
 use Rattle.decay.proofs.Algebra.{Within}
-use Rattle.decay.proofs.Instants.{moved}
+use Rattle.decay.proofs.factors.Instants.{moved}
 use Rattle.decay.proofs.Accuracy.Units.{eps, eps-nonneg, share-sum, share-equal, Floor, product-floor}
 
 -- less q, where q is a floor of x
@@ -42,22 +42,22 @@ change A A' B Q X R Z whole more h k =
 share-less : (a q : ℕ) → q ≤ a → share (a - q) +ᶠ share q ≈ share a
 share-less a q h = ≈-trans (≈-sym (share-sum (a - q) q)) (share-equal (sub-add-cancel h))
 
-module _ (s : Step) (f : Factors) (h : Sound s) where
-  pub left-moves : Within (share ((nextOf s f) .left)) (share (f .left) -ᶠ share (f .left) *ᶠ share (s .lost)) eps
-  unfolding nextOf
+module _ (s : Step) (f : Factors) (h : SoundStep s) where
+  pub left-moves : Within (share ((nextFactors s f) .left)) (share (f .left) -ᶠ share (f .left) *ᶠ share (s .lost)) eps
+  unfolding nextFactors
   left-moves =
       let q = product (f .left) (s .lost) in
       lessen (share (f .left)) (share (f .left - q)) (share q) (share (f .left) *ᶠ share (s .lost)) (share-less (f .left) q (moved f h .lost-left)) (product-floor (f .left) (s .lost))
 
-  pub kept-moves : Within (share ((nextOf s f) .kept)) (share (f .kept) -ᶠ share (f .kept) *ᶠ share (s .filled)) eps
-  unfolding nextOf
+  pub kept-moves : Within (share ((nextFactors s f) .kept)) (share (f .kept) -ᶠ share (f .kept) *ᶠ share (s .filled)) eps
+  unfolding nextFactors
   kept-moves =
       let q = product (f .kept) (s .filled) in
       lessen (share (f .kept)) (share (f .kept - q)) (share q) (share (f .kept) *ᶠ share (s .filled)) (share-less (f .kept) q (moved f h .filled-kept)) (product-floor (f .kept) (s .filled))
 
   pub turned-moves :
-      Within (share ((nextOf s f) .turned)) (share (f .turned) -ᶠ share (f .turned) *ᶠ share (s .filled) +ᶠ share (f .left) *ᶠ share (s .used)) eps
-  unfolding nextOf
+      Within (share ((nextFactors s f) .turned)) (share (f .turned) -ᶠ share (f .turned) *ᶠ share (s .filled) +ᶠ share (f .left) *ᶠ share (s .used)) eps
+  unfolding nextFactors
   turned-moves =
       let q = product (f .turned) (s .filled) in
       let r = product (f .left) (s .used) in

@@ -1,13 +1,13 @@
 -- `decay_vectors::after` meets its contract: a step keeps the factors in range. The measure is the steps that are left. Assumes nothing.
 use Prim.Native.Nat.{_≤_, _-_}
 use native.Mathlib.Omega.{arith}
-use Rattle.decay.specs.Factors.{InRange}
-use Rattle.decay.proofs.Instants.{next-range}
+use Rattle.decay.specs.Factors.{AreShares}
+use Rattle.decay.proofs.factors.Instants.{next-range}
 use Rattle.decay_vectors.proofs.after.Statement.{statement}
 use Rattle.decay_vectors.proofs.after.Tie as tie
 
 abbrev Inv-loop : tie.InvT-loop
-Inv-loop s steps f₀ i₀ f i = InRange f × (i ≤ steps)
+Inv-loop s steps f₀ i₀ f i = AreShares f × (i ≤ steps)
 
 abbrev μ-loop : tie.MeasureT-loop
 μ-loop s steps f₀ i₀ f i = steps - i

@@ -1,6 +1,6 @@
 -- `decay_vectors::instants` meets its contract: the factors of the head are in range. Assumes nothing.
 use borrow.Author.Needs.{needs}
-use Rattle.decay.proofs.Instants.{start-range}
+use Rattle.decay.proofs.factors.Instants.{start-range}
 use Rattle.decay_vectors.proofs.instants.Statement.{statement}
 use Rattle.decay_vectors.proofs.instants.Tie as tie
 

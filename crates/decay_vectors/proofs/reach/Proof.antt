@@ -1,6 +1,6 @@
 -- `decay_vectors::reach` meets its contract: the shares of a step are sound. Assumes nothing.
 use borrow.Author.Needs.{needs}
-use Rattle.decay.proofs.Shares.{step-sound}
+use Rattle.decay.proofs.step.Shares.{step-sound}
 use Rattle.decay_vectors.proofs.reach.Statement.{statement}
 use Rattle.decay_vectors.proofs.reach.Tie as tie
 

@@ -1,8 +1,8 @@
 -- `factors::next` meets its contract: nothing that a step takes is more than what is there. Assumes nothing.
 use native.Mathlib.Omega.{arith}
 use borrow.Author.Needs.{needs}
-use Rattle.decay.specs.Factors.{nextOf}
-use Rattle.decay.proofs.Instants.{moved}
+use Rattle.decay.specs.Factors.{nextFactors}
+use Rattle.decay.proofs.factors.Instants.{moved}
 use Rattle.decay.proofs.factors.next.Statement.{statement}
 use Rattle.decay.proofs.factors.next.Tie as tie
 
@@ -31,7 +31,7 @@ sub-t13 : tie.Need-sub-t13
 sub-t13 c = let s = c .before .before .before .before in let m = moved (s .args .f) (s .pre .0) in omega arith
 
 returns : tie.Need-returns
-unfolding nextOf
+unfolding nextFactors
 returns c = cc
 
 pub next-spec : {M : Type 1} → statement M

@@ -5,7 +5,7 @@ use native.Mathlib.Omega.{arith}
 use borrow.Author.Needs.{needs}
 use lib.Dec.{lit<}
 use Rattle.decay.specs.Fixed.{one, quotient}
-use Rattle.decay.proofs.Digits.{Divided, divided-start, divided-next, divided-digits, divided-rest}
+use Rattle.decay.proofs.fixed.Digits.{Divided, divided-start, divided-next, divided-digits, divided-rest}
 use Rattle.decay.proofs.fixed.quotient.Statement.{statement}
 use Rattle.decay.proofs.fixed.quotient.Tie as tie
 

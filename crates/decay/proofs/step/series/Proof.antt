@@ -4,7 +4,7 @@ use borrow.Author.Needs.{needs}
 use lib.Dec.{lit<}
 use Rattle.decay.specs.Step.{nextTerms, termsAt, seriesOf}
 use Rattle.decay.specs.declared.step.Terms.{Terms}
-use Rattle.decay.proofs.Shares.{both-small, lost-falling, back-falling}
+use Rattle.decay.proofs.step.Shares.{both-small, lost-falling, back-falling}
 use Rattle.decay.proofs.step.series.Statement.{statement}
 use Rattle.decay.proofs.step.series.Tie as tie
 

@@ -3,7 +3,7 @@ use Prim.Native.Nat.{_≤_, zero-le}
 use borrow.Author.Needs.{needs}
 use Rattle.decay.specs.Fixed.{small}
 use Rattle.decay.specs.Step.{stepOf}
-use Rattle.decay.proofs.Shares.{exponent-small, back-lost}
+use Rattle.decay.proofs.step.Shares.{exponent-small, back-lost}
 use Rattle.decay.proofs.step.step_of.Statement.{statement}
 use Rattle.decay.proofs.step.step_of.Tie as tie
 

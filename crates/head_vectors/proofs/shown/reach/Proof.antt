@@ -3,8 +3,8 @@ use borrow.Author.Needs.{needs}
 use Prim.Native.Nat.{_-_, _/_}
 use native.Mathlib.Omega.{arith}
 use lib.ListN.{length-map}
-use Rattle.river.proofs.Heads.{reach-few}
-use Rattle.river.proofs.Feet.{flow-bounded, foot-carried}
+use Rattle.river.proofs.head.Heads.{reach-few}
+use Rattle.river.proofs.head.Feet.{flow-bounded, foot-carried}
 use Rattle.head_vectors.proofs.shown.reach.Statement.{statement}
 use Rattle.head_vectors.proofs.shown.reach.Tie as tie
 

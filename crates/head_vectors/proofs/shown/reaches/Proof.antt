@@ -6,9 +6,9 @@ use lib.ListN.{length}
 use native.Mathlib.Omega.{arith}
 use borrow.Author.Needs.{needs}
 use Rattle.river.specs.Card.{river}
-use Rattle.river.specs.Tables.{Carried}
-use Rattle.river.proofs.Feet.{carried-none}
+use Rattle.river.proofs.head.Feet.{carried-none}
 use Rattle.head_vectors.proofs.shown.reaches.Statement.{statement}
+use Rattle.river.specs.HeadTable.{Carried}
 use Rattle.head_vectors.proofs.shown.reaches.Tie as tie
 
 abbrev Inv-loop : tie.InvT-loop

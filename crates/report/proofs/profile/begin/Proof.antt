@@ -1,8 +1,8 @@
 -- `report::profile::begin` meets its contract: the factors of the head are shares, and its oxygen is the lowest so far.
 -- Assumes nothing.
 use borrow.Author.Needs.{needs}
-use Rattle.decay.proofs.Instants.{start-range}
-use Rattle.report.proofs.Walk.{walk-begins}
+use Rattle.decay.proofs.factors.Instants.{start-range}
+use Rattle.report.proofs.profile.Steps.{walk-begins}
 use Rattle.report.proofs.profile.begin.Statement.{statement}
 use Rattle.report.proofs.profile.begin.Tie as tie
 

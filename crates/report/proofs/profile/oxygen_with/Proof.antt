@@ -3,8 +3,8 @@
 use Prim.Native.Nat.{_-_, _+_}
 use borrow.Author.Needs.{needs}
 use native.Mathlib.Omega.{arith}
-use Rattle.decay.proofs.Digits.{share-below}
-use Rattle.report.proofs.Oxygen.{turned-below, holds-under, holds-over}
+use Rattle.decay.proofs.fixed.Digits.{share-below}
+use Rattle.report.proofs.profile.Oxygen.{turned-below, holds-under, holds-over}
 use Rattle.report.proofs.profile.oxygen_with.Statement.{statement}
 use Rattle.report.proofs.profile.oxygen_with.Tie as tie
 

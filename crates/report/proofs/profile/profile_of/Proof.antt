@@ -1,7 +1,7 @@
 -- `report::profile::profile_of` meets its contract, by the walk at the foot. Assumes nothing.
 use borrow.Author.Needs.{needs}
 use native.Mathlib.Omega.{arith}
-use Rattle.report.proofs.Walk.{walk-shares, walk-ends}
+use Rattle.report.proofs.profile.Steps.{walk-shares, walk-ends}
 use Rattle.report.proofs.profile.profile_of.Statement.{statement}
 use Rattle.report.proofs.profile.profile_of.Tie as tie
 

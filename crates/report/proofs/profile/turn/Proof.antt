@@ -1,8 +1,8 @@
 -- `report::profile::turn` meets its contract: the factors stay shares, and the lowest oxygen is that of this instant or as before.
 -- Assumes nothing.
 use borrow.Author.Needs.{needs}
-use Rattle.decay.proofs.Instants.{range, next-range}
-use Rattle.report.proofs.Walk.{walk-lower, walk-kept}
+use Rattle.decay.proofs.factors.Instants.{range, next-range}
+use Rattle.report.proofs.profile.Steps.{walk-lower, walk-kept}
 use Rattle.report.proofs.profile.turn.Statement.{statement}
 use Rattle.report.proofs.profile.turn.Tie as tie
 

@@ -1,6 +1,6 @@
 -- `report::record::complement` meets its contract. Assumes nothing.
 use borrow.Author.Needs.{needs}
-use Rattle.report.proofs.Bytes.{complement-below, complement-above}
+use Rattle.report.proofs.record.Encoding.{complement-below, complement-above}
 use Rattle.report.proofs.record.complement.Statement.{statement}
 use Rattle.report.proofs.record.complement.Tie as tie
 

@@ -6,9 +6,8 @@ use native.Mathlib.Omega.{arith}
 use lib.Dec.{ltb, leb}
 use borrow.Author.Needs.{needs}
 use borrow.Author.Tests.{lt-ltb, le-ltb, le-leb, lt-leb, not-true, not-false}
-use Rattle.river.specs.Refusal.{need}
+use Rattle.river.specs.Refusal.{need, goOn}
 use Rattle.river.specs.Flow.{checksOf, damFits}
-use Rattle.river.specs.Tables.{goOn}
 use Rattle.river.proofs.flow.check.Statement.{statement}
 use Rattle.river.proofs.flow.check.Tie as tie
 

@@ -5,8 +5,8 @@ use native.Mathlib.Numerals.{add-one}
 use native.Mathlib.Omega.{arith}
 use lib.Dec.{lit<}
 use lib.ListN.{length-map}
-use Rattle.river.proofs.Count.{card-of-river, card-in-range, own-mass-few}
-use Rattle.river.proofs.Checks.{index-few, flow-fits, mass-fits, small-flow, small-mass, small-depth, next-checked}
+use Rattle.river.proofs.flow.Count.{card-of-river, card-in-range, own-mass-few}
+use Rattle.river.proofs.flow.Checks.{index-few, flow-fits, mass-fits, small-flow, small-mass, small-depth, next-checked}
 use Rattle.river.proofs.flow.check_next.Statement.{statement}
 use Rattle.river.proofs.flow.check_next.Tie as tie
 

@@ -4,9 +4,9 @@ use mathlib.Core.Logic.{⊎-elim}
 use Prim.Native.Nat.{ℕ, _≤_, _-_}
 use native.Mathlib.Omega.{arith}
 use borrow.Author.Needs.{needs}
-use Rattle.river.specs.Tables.{tableMax}
-use Rattle.river.proofs.Table.{max-feeder, max-other}
+use Rattle.river.proofs.flow.Table.{max-feeder, max-other}
 use Rattle.river.proofs.flow.feeder_depth.Statement.{statement}
+use Rattle.river.specs.FlowTable.{tableMax}
 use Rattle.river.proofs.flow.feeder_depth.Tie as tie
 
 abbrev Inv-loop : tie.InvT-loop

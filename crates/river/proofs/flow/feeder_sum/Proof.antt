@@ -3,9 +3,9 @@ use mathlib.Core.Path.{_≡_, refl, ap, _∙_}
 use mathlib.Core.Logic.{⊎-elim}
 use Prim.Native.Nat.{ℕ, _+_, _≤_, _-_}
 use native.Mathlib.Omega.{arith}
-use Rattle.river.specs.Tables.{tableSum}
-use Rattle.river.proofs.Table.{sum-feeder, sum-other, sum-grows}
+use Rattle.river.proofs.flow.Table.{sum-feeder, sum-other, sum-grows}
 use Rattle.river.proofs.flow.feeder_sum.Statement.{statement}
+use Rattle.river.specs.FlowTable.{tableSum}
 use Rattle.river.proofs.flow.feeder_sum.Tie as tie
 
 abbrev Inv-loop : tie.InvT-loop

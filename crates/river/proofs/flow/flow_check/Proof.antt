@@ -5,7 +5,7 @@ use borrow.Author.Needs.{needs}
 use lib.ListN.{length}
 use mathlib.Core.Path.{_≡_}
 use Rattle.river.specs.Card.{river}
-use Rattle.river.proofs.FlowCheck.{Underway, at-start, next-input, at-refusal, at-next, at-end, refused-checked}
+use Rattle.river.proofs.flow.FlowCheck.{Underway, at-start, next-input, at-refusal, at-next, at-end, refused-checked}
 use Rattle.river.proofs.flow.flow_check.Statement.{statement}
 use Rattle.river.proofs.flow.flow_check.Tie as tie
 

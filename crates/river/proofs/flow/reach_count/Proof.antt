@@ -1,6 +1,6 @@
 -- `river::flow::reach_count` meets its contract: the array has 128 cards.
 use lib.ListN.{length-map}
-use Rattle.river.proofs.Count.{all-reaches, count-reaches}
+use Rattle.river.proofs.flow.Count.{all-reaches, count-reaches}
 use Rattle.river.proofs.flow.reach_count.Statement.{statement}
 use Rattle.river.proofs.flow.reach_count.Tie as tie
 

@@ -2,8 +2,8 @@
 use borrow.Author.Needs.{needs}
 use Prim.Native.Nat.{_-_}
 use native.Mathlib.Omega.{arith}
-use Rattle.river.proofs.HeadBounds.{share-small}
-use Rattle.river.proofs.Stored.{rise-stored, fall-stored}
+use Rattle.river.proofs.head.Bounds.{share-small}
+use Rattle.river.proofs.head.Stored.{rise-stored, fall-stored}
 use Rattle.river.proofs.head.aerate.Statement.{statement}
 use Rattle.river.proofs.head.aerate.Tie as tie
 

@@ -4,8 +4,8 @@ use mathlib.Core.Path.{refl, _∙_}
 use native.Mathlib.Nat.{mul-le-mul}
 use native.Mathlib.Omega.{arith}
 use Rattle.river.specs.Head.{belowDam, aerated}
-use Rattle.river.proofs.HeadBounds.{saturation-small, dam-numbers, weight-fits}
-use Rattle.river.proofs.Stored.{saturated-stored}
+use Rattle.river.proofs.head.Bounds.{saturation-small, dam-numbers, weight-fits}
+use Rattle.river.proofs.head.Stored.{saturated-stored}
 use Rattle.river.proofs.head.below_dam.Statement.{statement}
 use Rattle.river.proofs.head.below_dam.Tie as tie
 

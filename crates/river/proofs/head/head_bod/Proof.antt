@@ -2,7 +2,7 @@
 use borrow.Author.Needs.{needs}
 use native.Mathlib.Omega.{arith}
 use Rattle.river.specs.Head.{headBod}
-use Rattle.river.proofs.HeadBounds.{mixed-total, head-bod-small}
+use Rattle.river.proofs.head.Bounds.{mixed-total, head-bod-small}
 use Rattle.river.proofs.head.head_bod.Statement.{statement}
 use Rattle.river.proofs.head.head_bod.Tie as tie
 

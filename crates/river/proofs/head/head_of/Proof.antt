@@ -2,8 +2,8 @@
 use borrow.Author.Needs.{needs}
 use native.Mathlib.Nat.{le-of-lt}
 use native.Mathlib.Numerals.{add-one}
-use Rattle.river.proofs.Count.{card-of-river}
-use Rattle.river.proofs.Heads.{reach-few, sum-bod-fits, sum-oxygen-fits, inflow-within, bod-input, oxygen-input, head-made}
+use Rattle.river.proofs.flow.Count.{card-of-river}
+use Rattle.river.proofs.head.Heads.{reach-few, sum-bod-fits, sum-oxygen-fits, inflow-within, bod-input, oxygen-input, head-made}
 use Rattle.river.proofs.head.head_of.Statement.{statement}
 use Rattle.river.proofs.head.head_of.Tie as tie
 

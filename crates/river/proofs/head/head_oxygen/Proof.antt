@@ -4,8 +4,8 @@ use Prim.Native.Nat.{_+_, _*_, _≤_, _<_}
 use native.Mathlib.Nat.{mul-le-mul}
 use native.Mathlib.Omega.{arith}
 use Rattle.river.specs.Head.{headOxygen}
-use Rattle.river.proofs.HeadBounds.{mixed-fits}
-use Rattle.river.proofs.Stored.{mixed-stored}
+use Rattle.river.proofs.head.Bounds.{mixed-fits}
+use Rattle.river.proofs.head.Stored.{mixed-stored}
 use Rattle.river.proofs.head.head_oxygen.Statement.{statement}
 use Rattle.river.proofs.head.head_oxygen.Tie as tie
 

@@ -4,7 +4,7 @@ use mathlib.Core.Path.{refl}
 use native.Mathlib.Nat.{mul-le-mul}
 use native.Mathlib.Omega.{arith}
 use Rattle.river.specs.Saturation.{saturation, saturationThousandths}
-use Rattle.river.proofs.HeadBounds.{saturation-positive, saturation-small}
+use Rattle.river.proofs.head.Bounds.{saturation-positive, saturation-small}
 use Rattle.river.proofs.head.saturation.Statement.{statement}
 use Rattle.river.proofs.head.saturation.Tie as tie
 

@@ -3,7 +3,7 @@ use borrow.Author.Needs.{needs}
 use Prim.Native.Nat.{_≤_, _/_, _%_, _*_}
 use native.Mathlib.Nat.{mul-le-mul, mod-lt}
 use native.Mathlib.Omega.{arith}
-use Rattle.river.proofs.HeadBounds.{share-small, long-division}
+use Rattle.river.proofs.head.Bounds.{share-small, long-division}
 use Rattle.river.proofs.head.share_of.Statement.{statement}
 use Rattle.river.proofs.head.share_of.Tie as tie
 

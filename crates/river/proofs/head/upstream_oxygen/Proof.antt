@@ -5,9 +5,9 @@ use Prim.Native.Nat.{_/_, _<_}
 use native.Mathlib.Nat.{div-lt-iff-lt-mul}
 use native.Mathlib.Omega.{arith}
 use Rattle.river.specs.Head.{upstreamOxygen, belowDam}
-use Rattle.river.specs.Tables.{oxygenOf}
-use Rattle.river.proofs.Stored.{mean-stored}
+use Rattle.river.proofs.head.Stored.{mean-stored}
 use Rattle.river.proofs.head.upstream_oxygen.Statement.{statement}
+use Rattle.river.specs.Stored.{oxygenOf}
 use Rattle.river.proofs.head.upstream_oxygen.Tie as tie
 
 div-below-dam : tie.Need-div-below-dam

@@ -2,8 +2,8 @@
 -- Assumes nothing.
 use borrow.Author.Needs.{needs}
 use native.Mathlib.Omega.{arith}
-use Rattle.river.proofs.Puts.{chain}
-use Rattle.river.proofs.Steps.{size-big}
+use Rattle.river.proofs.bytes.Puts.{chain}
+use Rattle.river.proofs.read.Steps.{size-big}
 use Rattle.river.proofs.put.put_card.Statement.{statement}
 use Rattle.river.proofs.put.put_card.Tie as tie
 

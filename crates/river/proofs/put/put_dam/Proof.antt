@@ -2,7 +2,7 @@
 -- Assumes nothing.
 use borrow.Author.Needs.{needs}
 use native.Mathlib.Omega.{arith}
-use Rattle.river.proofs.Puts.{chain, put-none}
+use Rattle.river.proofs.bytes.Puts.{chain, put-none}
 use Rattle.river.proofs.put.put_dam.Statement.{statement}
 use Rattle.river.proofs.put.put_dam.Tie as tie
 

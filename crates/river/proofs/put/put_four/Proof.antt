@@ -1,7 +1,7 @@
 -- `river::put::put_four` meets its contract: two runs of bytes, one behind the other.
 -- Assumes nothing.
 use borrow.Author.Needs.{needs}
-use Rattle.river.proofs.Puts.{chain}
+use Rattle.river.proofs.bytes.Puts.{chain}
 use Rattle.river.proofs.put.put_four.Statement.{statement}
 use Rattle.river.proofs.put.put_four.Tie as tie
 

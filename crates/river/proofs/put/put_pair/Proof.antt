@@ -3,7 +3,7 @@
 use borrow.Author.Needs.{needs}
 use native.Mathlib.Omega.{arith}
 use lib.ListN.{length-set}
-use Rattle.river.proofs.Puts.{put-pair}
+use Rattle.river.proofs.bytes.Puts.{put-pair}
 use Rattle.river.proofs.put.put_pair.Statement.{statement}
 use Rattle.river.proofs.put.put_pair.Tie as tie
 

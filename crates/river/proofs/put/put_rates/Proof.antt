@@ -1,7 +1,7 @@
 -- `river::put::put_rates` meets its contract: runs of bytes, one behind the other.
 -- Assumes nothing.
 use borrow.Author.Needs.{needs}
-use Rattle.river.proofs.Puts.{chain}
+use Rattle.river.proofs.bytes.Puts.{chain}
 use Rattle.river.proofs.put.put_rates.Statement.{statement}
 use Rattle.river.proofs.put.put_rates.Tie as tie
 

@@ -3,7 +3,7 @@
 use borrow.Author.Needs.{needs}
 use denote.Ref.{now}
 use native.Mathlib.Omega.{arith}
-use Rattle.river.proofs.Steps.{size-small, card-refused, card-found}
+use Rattle.river.proofs.read.Steps.{size-small, card-refused, card-found}
 use Rattle.river.proofs.read.read_card.Statement.{statement}
 use Rattle.river.proofs.read.read_card.Tie as tie
 

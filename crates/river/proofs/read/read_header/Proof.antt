@@ -2,7 +2,7 @@
 -- Assumes nothing.
 use borrow.Author.Needs.{needs}
 use borrow.Author.Tests.{le-leb, lt-leb, not-true, not-false}
-use Rattle.river.proofs.Ranges.{true-countOk}
+use Rattle.river.proofs.range.Ranges.{true-countOk}
 use native.Mathlib.Omega.{arith}
 use mathlib.Core.Path.{sym, _∙_}
 use Rattle.river.specs.Read.{readHeader}

@@ -8,7 +8,7 @@ use denote.Ref.{now}
 use mathlib.Core.List.{List}
 use mathlib.Core.Path.{ap, _∙_}
 use Prim.Native.Nat.{ℕ}
-use Rattle.river.proofs.Numbers.{whole-tail}
+use Rattle.river.proofs.bytes.Numbers.{whole-tail}
 use Rattle.river.specs.Read.{readReach, reachOf}
 use Rattle.river.specs.Refusal.{need}
 use Rattle.river.proofs.read.read_reach.Statement.{statement}

@@ -4,8 +4,8 @@ use mathlib.Core.Path.{sym, ap, _∙_}
 use borrow.Author.Needs.{needs}
 use Rattle.river.specs.Read.{readHeader}
 use Rattle.river.specs.Refusal.{refused}
-use Rattle.river.proofs.Reaches.{begun, halted}
-use Rattle.river.proofs.Steps.{not-counted, file-refused}
+use Rattle.river.proofs.reader.Reaches.{begun, halted}
+use Rattle.river.proofs.read.Steps.{not-counted, file-refused}
 use Rattle.river.proofs.reader.begin.Statement.{statement}
 use Rattle.river.proofs.reader.begin.Tie as tie
 

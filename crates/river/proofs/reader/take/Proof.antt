@@ -5,8 +5,8 @@ use borrow.Author.Needs.{needs}
 use lib.ListN.{length}
 use native.Mathlib.Omega.{arith}
 use Rattle.river.specs.Refusal.{refused}
-use Rattle.river.proofs.Reaches.{one-more, stopped, halted}
-use Rattle.river.proofs.Steps.{is-read, not-read}
+use Rattle.river.proofs.reader.Reaches.{one-more, stopped, halted}
+use Rattle.river.proofs.read.Steps.{is-read, not-read}
 use Rattle.river.proofs.Tests.{mapped-length}
 use Rattle.river.proofs.reader.take.Statement.{statement}
 use Rattle.river.proofs.reader.take.Tie as tie

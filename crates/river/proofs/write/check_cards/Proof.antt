@@ -9,7 +9,7 @@ use lib.Seq.{length-take-le}
 use Rattle.river.proofs.Tests.{mapped-length}
 use Rattle.river.specs.Card.{river}
 use Rattle.river.specs.Write.{checkFrom, checkOf}
-use Rattle.river.proofs.Passes.{Checked, from, check-start, check-more, check-stop, check-end}
+use Rattle.river.proofs.write.Passes.{Checked, from, check-start, check-more, check-stop, check-end}
 use Rattle.river.proofs.write.check_cards.Statement.{statement}
 use Rattle.river.proofs.write.check_cards.Tie as tie
 

@@ -11,7 +11,7 @@ use Rattle.river.specs.Card.{river}
 use Rattle.river.specs.Write.{encode}
 use Rattle.river.specs.declared.card.Card.{Card}
 use Rattle.river.proofs.Tests.{mapped-length}
-use Rattle.river.proofs.Passes.{Measured, from, measure-start, measure-more, measure-end}
+use Rattle.river.proofs.write.Passes.{Measured, from, measure-start, measure-more, measure-end}
 use Rattle.river.proofs.write.file_length.Statement.{statement}
 use Rattle.river.proofs.write.file_length.Tie as tie
 

@@ -8,12 +8,11 @@ use mathlib.Core.Path.{_≡_, sym, ap, subst, _∙_}
 use lib.ListN.{length, getD, take, drop}
 use lib.Seq.{length-take-le}
 use Rattle.river.specs.Bytes.{Put}
-use Rattle.river.specs.Card.{river}
+use Rattle.river.specs.Card.{river, blank}
 use Rattle.river.specs.Write.{encode, encodeHeader}
 use Rattle.river.specs.declared.card.Card.{Card}
-use Rattle.river.specs.Flow.{blank}
 use Rattle.river.proofs.Tests.{mapped-length}
-use Rattle.river.proofs.Passes.{Placed, from, place-start, place-more, place-room, place-end, length-encode}
+use Rattle.river.proofs.write.Passes.{Placed, from, place-start, place-more, place-room, place-end, length-encode}
 use Rattle.river.proofs.write.put_file.Statement.{statement}
 use Rattle.river.proofs.write.put_file.Tie as tie
 

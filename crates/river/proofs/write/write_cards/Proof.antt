@@ -8,8 +8,8 @@ use borrow.Author.Tests.{not-true, not-false}
 use denote.Ref.{now}
 use native.Mathlib.Omega.{arith}
 use Rattle.river.specs.Card.{river, countOk}
-use Rattle.river.proofs.Ranges.{true-countOk}
-use Rattle.river.proofs.Writing.{refuses-count, refuses-card, refuses-room, writes}
+use Rattle.river.proofs.range.Ranges.{true-countOk}
+use Rattle.river.proofs.write.Writing.{refuses-count, refuses-card, refuses-room, writes}
 use Rattle.river.proofs.write.write_cards.Statement.{statement}
 use Rattle.river.proofs.write.write_cards.Tie as tie
 

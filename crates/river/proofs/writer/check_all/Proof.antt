@@ -45,11 +45,11 @@ use denote.Triple.Walked.{says, Stays, stay-none-slice, walkOf, goes-none-slice,
 use denote.Exit.{yes}
 use denote.Triple.Clauses.{ensured, lasts}
 use Rattle.river.specs.Write.{checkCard}
-use Rattle.river.specs.Writer.{startOf, nextOf, ChecksAll}
+use Rattle.river.specs.Writer.{startChecking, nextChecking, ChecksAll}
 use Rattle.river.specs.declared.card.Card.{Card}
 use Rattle.river.specs.declared.writer.Checking.{Checking}
-use Rattle.river.proofs.Lent.{from-on, none, bytes-fit, below, Checks, starts, near, next, all-checked, fewer}
-use Rattle.river.proofs.Locals.{type-of}
+use Rattle.river.proofs.writer.Lent.{from-on, none, bytes-fit, below, Checks, starts, near, next, all-checked, fewer}
+use Rattle.river.proofs.Walks.Locals.{type-of}
 use Rattle.river.proofs.card.Card as Cd
 use Rattle.river.proofs.card.Card.Laws as Cd′
 use Rattle.river.proofs.writer.Checking as Ck
@@ -89,11 +89,11 @@ module _ {M : Type 1} (𝓤 : URA M) (H : Heap 𝓤) (A : Atoms 𝓤) (mem : Mem
     goes : Triple 𝓤 (C #river·check-next) CheckNext
 
   -- what each says of its result
-  start-said : (n : ℕ) (r : Checking) → ent 𝓤 (ensured 𝓤 H A start.ended (start.clauses 𝓤 H A mem run) tt (n, tt) tt r) (fact 𝓤 (r ≡ startOf n))
-  start-said n r = exE 𝓤 _ (λ ws. snd∗ 𝓤 (sem 𝓤 H A (lasts start.ended tt (n, tt) ws)) (fact 𝓤 (r ≡ startOf n)))
+  start-said : (n : ℕ) (r : Checking) → ent 𝓤 (ensured 𝓤 H A start.ended (start.clauses 𝓤 H A mem run) tt (n, tt) tt r) (fact 𝓤 (r ≡ startChecking n))
+  start-said n r = exE 𝓤 _ (λ ws. snd∗ 𝓤 (sem 𝓤 H A (lasts start.ended tt (n, tt) ws)) (fact 𝓤 (r ≡ startChecking n)))
 
   abbrev After : Checking → Card → Checking
-  After s c = nextOf (checkCard (s .due) (s .passed + 1) c) s c
+  After s c = nextChecking (checkCard (s .due) (s .passed + 1) c) s c
 
   next-said : (s : Checking) (c : Card) (r : Checking) → ent 𝓤 (ensured 𝓤 H A check-next.ended (check-next.clauses 𝓤 H A mem run) tt (s, (c, tt)) tt r) (fact 𝓤 (r ≡ After s c))
   next-said s c r = exE 𝓤 _ (λ ws. snd∗ 𝓤 (sem 𝓤 H A (lasts check-next.ended tt (s, (c, tt)) ws)) (fact 𝓤 (r ≡ After s c)))
@@ -255,7 +255,7 @@ module _ {M : Type 1} (𝓤 : URA M) (H : Heap 𝓤) (A : Atoms 𝓤) (W : Given
       use0 W (raw (Start 𝓤 H A mem run .pre to-start)) (goes-start (room .0)) $
       calls-at ! fm (Start 𝓤 H A mem run) (known .begins) to-start (and-then ! (load ! (from ! (stop !)) (look ! 11 refl)) (no-more !)) (λ w.
       use1 W (later (some (λ (r : Checking). (‵ ftrue ⊛ ‵ (Ck.the-row .own r (w ∷ []))) ⊛ raw (ensured 𝓤 H A start.ended (start.clauses 𝓤 H A mem run) tt (n, tt) tt r)))) (id⊢ 𝓤 _) $ await ! tt $ pick ! (λ r.
-      split ! $ move ! (1 ∷ []) $ use1 W (raw (fact 𝓤 (r ≡ startOf n))) (start-said 𝓤 H A mem run n r) $ heard ! (r ≡ startOf n) (λ d. split ! $ drop ! $
+      split ! $ move ! (1 ∷ []) $ use1 W (raw (fact 𝓤 (r ≡ startChecking n))) (start-said 𝓤 H A mem run n r) $ heard ! (r ≡ startChecking n) (λ d. split ! $ drop ! $
       peeks ! Ck.the-row (Is Ck.the-row) (shows 𝓤 H A Ck.the-row) r (w ∷ []) (λ isr.
       let s : State = record { at = r; checks = subst (Checks ys) (sym d) (starts ys); sound = subst (Is Ck.the-row r) (spelled r w isr) isr } in
       land ! (from ! (stop !)) (init ! 15 refl (LL.lawful Ck.the-type Ck′.the-laws 𝓤 H A W .typed r _ isr .0)) $ rewrite ! 15 (λ (u : Val). ‵ (fat fullShare (τ 2) l₂ 0 u)) (ap only (spelled r w isr)) refl $ drop ! $

@@ -5,11 +5,11 @@ use mathlib.Core.Path.{sym, ap, _∙_}
 use native.Mathlib.Omega.{arith}
 use Rattle.river.specs.Refusal.{Answer}
 use Rattle.river.specs.Write.{checkCard}
-use Rattle.river.specs.Writer.{nextOf}
+use Rattle.river.specs.Writer.{nextChecking}
 use Rattle.river.specs.declared.write.Check.{Check}
 use Rattle.river.specs.declared.writer.Checking.{Checking}
-use Rattle.river.proofs.Passes.{passed-check, refused-check}
-use Rattle.river.proofs.Steps.{size-small}
+use Rattle.river.proofs.write.Passes.{passed-check, refused-check}
+use Rattle.river.proofs.read.Steps.{size-small}
 use borrow.Author.Needs.{needs}
 use Rattle.river.proofs.writer.check_next.Statement.{statement}
 use Rattle.river.proofs.writer.check_next.Tie as tie
@@ -56,7 +56,7 @@ returns c =
     let d = start .args .c in
     let called = c .before .before .before .before in
     let is = refused-check (checkCard (s .due) (s .passed + 1) d) (sym (called .check-card .ensures) ∙ c .before .before .r .given .1) in
-    c .stopped .ensures ∙ ap (λ (x : Answer Unit). nextOf x s d) (sym is)
+    c .stopped .ensures ∙ ap (λ (x : Answer Unit). nextChecking x s d) (sym is)
 
 returns-2 : tie.Need-returns-2
 returns-2 c =
@@ -65,7 +65,7 @@ returns-2 c =
     let d = start .args .c in
     let called = c .before .before .before .before in
     let is = passed-check (checkCard (s .due) (s .passed + 1) d) (sym (called .check-card .ensures) ∙ c .before .before .enum-told .given .1) in
-    ap (made s) (c .before .size-of .ensures) ∙ ap (λ (x : Answer Unit). nextOf x s d) (sym is)
+    ap (made s) (c .before .size-of .ensures) ∙ ap (λ (x : Answer Unit). nextChecking x s d) (sym is)
 
 pub check-next-spec : {M : Type 1} → statement M
 check-next-spec =

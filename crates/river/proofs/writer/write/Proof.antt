@@ -44,16 +44,15 @@ use denote.Triple.Table.{entered, cited}
 use denote.Triple.Walked.{says, Stays, stay-none-slice, stay-slice, walkOf, goes-none-slice, goes-slice, Walks, ends-at, walked, walk-meets}
 use denote.Exit.{yes}
 use denote.Triple.Clauses.{ensured, lasts}
-use Rattle.river.specs.Read.{sizeOf}
 use Rattle.river.specs.Write.{Writes}
 use Rattle.river.specs.Writer.{ChecksAll, Heads, PutsNext}
 use Rattle.river.specs.declared.card.Card.{Card}
 use Rattle.river.specs.declared.write.Written.{Written}
 use Rattle.river.specs.declared.writer.Checking.{Checking}
 use Rattle.river.specs.declared.writer.Putting.{Putting}
-use Rattle.river.proofs.Again.{LentAgain, lends-again, comes-back}
-use Rattle.river.proofs.Lent.{from-on, none, bytes-fit, below, Puts, begins, room, more as one-more, ends, put-fewer}
-use Rattle.river.proofs.Locals.{type-of}
+use Rattle.river.proofs.Walks.Again.{LentAgain, lends-again, comes-back}
+use Rattle.river.proofs.writer.Lent.{from-on, none, bytes-fit, below, Puts, begins, room, more as one-more, ends, put-fewer}
+use Rattle.river.proofs.Walks.Locals.{type-of}
 use Rattle.river.proofs.card.Card as Cd
 use Rattle.river.proofs.card.Card.Laws as Cd′
 use Rattle.river.proofs.write.Written as Wr
@@ -79,6 +78,7 @@ use Rattle.river.proofs.writer.answer.Symbol as answer-def
 use Rattle.river.proofs.writer.answer.Symbol.{name as #river·answer}
 use Rattle.river.proofs.writer.answer.Met as answer-thm
 use Rattle.river.proofs.writer.write.Key.{name as #river·write}
+use Rattle.river.specs.Card.{sizeOf}
 use Rattle.river.proofs.writer.write as write
 use Rattle.river.proofs.writer.write.Statement as stated
 use Rattle.river.proofs.writer.write.Code as code

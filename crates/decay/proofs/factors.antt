@@ -1,0 +1,2 @@
+-- Laws of the factors of an instant.
+pub mod Instants

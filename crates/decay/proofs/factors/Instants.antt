@@ -1,0 +1,95 @@
+-- Laws of the factors at every instant: they are shares of one, BOD left never rises, and a rate of 0 or no volume keeps them.
+-- Assumes nothing.
+use mathlib.Core.Path.{_≡_, refl}
+use Prim.Native.Nat.{ℕ, zero, suc, _*_, _≤_}
+use native.Mathlib.Nat.{le-trans, sub-le, mul-zero, zero-div}
+use native.Mathlib.Omega.{arith}
+use Rattle.decay.specs.Fixed.{one, product}
+use Rattle.decay.specs.Step.{RatesPass, stepOf}
+use Rattle.decay.specs.Factors.{SoundStep, AreShares, headFactors, nextFactors, factorsAt}
+use Rattle.decay.specs.declared.step.Step.{Step}
+use Rattle.decay.specs.declared.factors.Factors.{Factors}
+use Rattle.decay.proofs.Exponential.Tail.{UpTo, here, further, upTo}
+use Rattle.decay.proofs.fixed.Digits.{product-small, product-mono}
+use Rattle.decay.proofs.step.Shares.{step-loses-nothing, step-fills-nothing}
+
+-- what one step takes and gives, in range
+pub record Moved (s : Step) (f : Factors) : Type 0 where
+  pub lost-left : product (f .left) (s .lost) ≤ f .left
+  pub used-lost : product (f .left) (s .used) ≤ product (f .left) (s .lost)
+  pub filled-turned : product (f .turned) (s .filled) ≤ f .turned
+  pub filled-kept : product (f .kept) (s .filled) ≤ f .kept
+
+pub moved : {s : Step} (f : Factors) → SoundStep s → Moved s f
+moved {s} f h =
+    record {
+      lost-left = omega (arith, product-small (f .left) (s .lost) (h .lost-small));
+      used-lost = product-mono {a = f .left} {b = s .used} {c = f .left} {d = s .lost} (omega arith) (h .used-lost);
+      filled-turned = omega (arith, product-small (f .turned) (s .filled) (h .filled-small));
+      filled-kept = omega (arith, product-small (f .kept) (s .filled) (h .filled-small));
+    }
+
+pub start-range : AreShares headFactors
+unfolding headFactors
+start-range = omega arith
+
+pub next-range : {s : Step} {f : Factors} → SoundStep s → AreShares f → AreShares (nextFactors s f)
+unfolding nextFactors
+next-range {s} {f} h r = let m = moved f h in omega arith
+
+pub range : {s : Step} → SoundStep s → (m : ℕ) → AreShares (factorsAt s m)
+unfolding factorsAt
+range h zero = start-range
+range {s} h (suc m) = next-range h (range h m)
+
+-- BOD left never rises from an instant to the next
+pub left-falls : (s : Step) (m : ℕ) → (factorsAt s (suc m)) .left ≤ (factorsAt s m) .left
+unfolding factorsAt nextFactors
+left-falls s m = sub-le ((factorsAt s m) .left) (product ((factorsAt s m) .left) (s .lost))
+
+-- nor to any later one
+left-falls-to : (s : Step) {m n : ℕ} → UpTo m n → (factorsAt s n) .left ≤ (factorsAt s m) .left
+left-falls-to s here = omega arith
+left-falls-to s (further {N = n} u) = le-trans (left-falls s n) (left-falls-to s u)
+
+pub left-never-rises : (s : Step) {m n : ℕ} → m ≤ n → (factorsAt s n) .left ≤ (factorsAt s m) .left
+left-never-rises s h = left-falls-to s (upTo h)
+
+product-zero : (a b : ℕ) → b ≡ 0 → product a b ≡ 0
+unfolding product
+product-zero a b h = rw (h, mul-zero) (zero-div one)
+
+bod-kept : (s : Step) → s .lost ≡ 0 → s .used ≡ 0 → (m : ℕ) → ((factorsAt s m) .left ≡ one) × ((factorsAt s m) .turned ≡ 0)
+unfolding factorsAt nextFactors headFactors
+bod-kept s h k zero = (refl, refl)
+bod-kept s h k (suc m) =
+    let f = factorsAt s m in
+    let t = bod-kept s h k m in
+    omega (arith, product-zero (f .left) (s .lost) h, product-zero (f .left) (s .used) k)
+
+deficit-kept : (s : Step) → s .filled ≡ 0 → (m : ℕ) → (factorsAt s m) .kept ≡ one
+unfolding factorsAt nextFactors headFactors
+deficit-kept s h zero = refl
+deficit-kept s h (suc m) =
+    let f = factorsAt s m in
+    omega (arith, deficit-kept s h m, product-zero (f .kept) (s .filled) h)
+
+-- a rate k1 of 0, or no volume, keeps all BOD at every instant
+pub bod-tie :
+    (k1 k2 volume flow : ℕ) →
+    RatesPass k1 k2 volume flow →
+    k1 * volume ≡ 0 →
+    (m : ℕ) →
+    ((factorsAt (stepOf k1 k2 volume flow) m) .left ≡ one) × ((factorsAt (stepOf k1 k2 volume flow) m) .turned ≡ 0)
+bod-tie k1 k2 volume flow p h =
+    let z = step-loses-nothing k1 k2 volume flow p h in
+    bod-kept (stepOf k1 k2 volume flow) (z .0) (z .1)
+
+-- a rate k2 of 0, or no volume, keeps all of the head's deficit at every instant
+pub deficit-tie :
+    (k1 k2 volume flow : ℕ) →
+    RatesPass k1 k2 volume flow →
+    k2 * volume ≡ 0 →
+    (m : ℕ) →
+    (factorsAt (stepOf k1 k2 volume flow) m) .kept ≡ one
+deficit-tie k1 k2 volume flow p h = deficit-kept (stepOf k1 k2 volume flow) (step-fills-nothing k1 k2 volume flow p h)

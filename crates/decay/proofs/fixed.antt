@@ -1,0 +1,2 @@
+-- Laws of fixed-point numbers.
+pub mod Digits

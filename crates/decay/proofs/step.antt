@@ -1,0 +1,2 @@
+-- Laws of a step's shares.
+pub mod Shares

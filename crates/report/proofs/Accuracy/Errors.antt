@@ -1,0 +1,129 @@
+-- How errors pass from the feeders' feet to a head and along a reach, in fractions.
+-- A head adds 5 units of rounding: two for BOD (mean, mixing) and three for oxygen (mean, dam with saturation, mixing).
+-- An instant adds 5 units (three roundings, saturation at both ends of the formula) and what the factors are off by.
+use mathlib.Core.List.{[], _∷_}
+use Rattle.decay.specs.Fraction.{Fraction, _≈_, _≼_, ofℕ, _+ᶠ_, -ᶠ_, _-ᶠ_, _*ᶠ_, _÷_}
+use Rattle.decay.proofs.Algebra.{quote, ring, certify, certify-by, certify-over, slack, number, Nonneg, _⊞_, _⊠_, multiple, _⋅_, _&_, none as no-equations, ≈-sym, Positive, positive-nonneg, ÷-cancel-pos, Small, Within, small, near, sized, _⊞ˢ_, _⊠ˢ_, small-minus, small-by, bound-nonneg}
+use Rattle.report.proofs.Facts.Floor.{Rounded}
+use Rattle.report.proofs.Facts.Head.{Dammed}
+use Rattle.report.proofs.Facts.Instant.{Floored, Shares}
+
+-- two figures b and o lie near exact ones, with errors that together are at most e
+pub record Near (b bx o ox e : Fraction) : Type 0 where
+  pub bod-error : Fraction
+  pub oxygen-error : Fraction
+  pub bod-near : Within b bx bod-error
+  pub oxygen-near : Within o ox oxygen-error
+  pub together : bod-error +ᶠ oxygen-error ≼ e
+
+-- ---- to a head
+
+-- a rounded quotient strays by its divisor more than what is divided
+rounded-near : (D q t qx tx e : Fraction) → Nonneg D → Within t tx e → Rounded D q t → D *ᶠ qx ≈ tx → Within (D *ᶠ q) (D *ᶠ qx) (e +ᶠ D)
+rounded-near D q t qx tx e p w r x =
+    record {
+      high = certify (D ∷ q ∷ t ∷ qx ∷ tx ∷ e ∷ []) (slack (w .high) ⊞ slack (r .low) ⊞ p ⊞ multiple (ofℕ 1) (≈-sym x)) (search quote depth 40 fits 9999) tt;
+      low = certify (D ∷ q ∷ t ∷ qx ∷ tx ∷ e ∷ []) (slack (w .low) ⊞ slack (r .high) ⊞ multiple (ofℕ 1) x) (search quote depth 40 fits 9999) tt;
+    }
+
+-- a dam takes water and error the same part of the way, and rounds once; its saturation is rounded too
+dam-near : (Qu v vx cs csx σ w wx d : Fraction) → Nonneg Qu → Nonneg d → cs ≼ csx → csx ≼ cs +ᶠ ofℕ 1 → Dammed v cs σ w → wx ≈ vx +ᶠ (csx -ᶠ vx) *ᶠ σ → Within (Qu *ᶠ v) (Qu *ᶠ vx) (d +ᶠ Qu) → Within (Qu *ᶠ w) (Qu *ᶠ wx) (d +ᶠ Qu +ᶠ Qu)
+dam-near Qu v vx cs csx σ w wx d p pd hl hh dam x n =
+    record {
+      high = certify (Qu ∷ v ∷ vx ∷ cs ∷ csx ∷ σ ∷ w ∷ wx ∷ d ∷ []) (p ⊠ slack (dam .low) ⊞ slack (dam .part-of-one) ⊠ slack (n .high) ⊞ dam .part ⊠ (p ⊠ slack hl) ⊞ dam .part ⊠ (pd ⊞ p) ⊞ p ⊞ multiple Qu (≈-sym x)) (search quote depth 40 fits 9999) tt;
+      low = certify (Qu ∷ v ∷ vx ∷ cs ∷ csx ∷ σ ∷ w ∷ wx ∷ d ∷ []) (p ⊠ slack (dam .high) ⊞ slack (dam .part-of-one) ⊠ slack (n .low) ⊞ dam .part ⊠ (p ⊠ slack hh) ⊞ dam .part ⊠ pd ⊞ multiple Qu x) (search quote depth 40 fits 9999) tt;
+    }
+
+-- the same water added to both
+plus-same : (a ax W e : Fraction) → Within a ax e → Within (a +ᶠ W) (ax +ᶠ W) e
+plus-same a ax W e n =
+    near (a ∷ ax ∷ W ∷ e ∷ []) no-equations (small n) (number 0) (search quote depth 40 fits 9999) tt (search quote depth 40 fits 9999) tt
+
+-- times Q within e is within e / Q
+over-flow : (Q a b e : Fraction) → Positive Q → Within (Q *ᶠ a) (Q *ᶠ b) e → Within a b (e ÷ Q)
+over-flow Q a b e p n =
+    record {
+      high = certify-over Q p (Q ∷ a ∷ b ∷ e ∷ (e ÷ Q) ∷ []) (ofℕ 1 ⋅ ÷-cancel-pos e p & no-equations) (slack (n .high)) (search quote depth 40 fits 9999) tt;
+      low = certify-over Q p (Q ∷ a ∷ b ∷ e ∷ (e ÷ Q) ∷ []) (ofℕ 1 ⋅ ÷-cancel-pos e p & no-equations) (slack (n .low)) (search quote depth 40 fits 9999) tt;
+    }
+
+-- the steps of a head, reported and exact
+pub record HeadSteps (Qu Q inflow s t u v w h c sx tx ux vx wx hx cx W₁ W₂ W₃ cs csx σ : Fraction) : Type 0 where
+  pub flowing : Positive Q
+  pub inflowing : Nonneg inflow
+  pub upstream : Nonneg Qu
+  pub flows : Q ≈ Qu +ᶠ inflow
+  pub saturation-low : cs ≼ csx
+  pub saturation-high : csx ≼ cs +ᶠ ofℕ 1
+  pub bod-mean : Rounded Qu u s
+  pub oxygen-mean : Rounded Qu v t
+  pub dam : Dammed v cs σ w
+  pub bod-mixed : Rounded Q h (Qu *ᶠ u +ᶠ W₁ +ᶠ W₂)
+  pub oxygen-mixed : Rounded Q c (Qu *ᶠ w +ᶠ W₃)
+  pub exact-bod-mean : Qu *ᶠ ux ≈ sx
+  pub exact-oxygen-mean : Qu *ᶠ vx ≈ tx
+  pub exact-dam : wx ≈ vx +ᶠ (csx -ᶠ vx) *ᶠ σ
+  pub exact-bod-mixed : Q *ᶠ hx ≈ Qu *ᶠ ux +ᶠ W₁ +ᶠ W₂
+  pub exact-oxygen-mixed : Q *ᶠ cx ≈ Qu *ᶠ wx +ᶠ W₃
+
+-- from the feeders' feet, off by Qu × a together, to the head, off by a + 5
+pub head-near : {Qu Q inflow s t u v w h c sx tx ux vx wx hx cx W₁ W₂ W₃ cs csx σ : Fraction} (a : Fraction) → Nonneg a → HeadSteps Qu Q inflow s t u v w h c sx tx ux vx wx hx cx W₁ W₂ W₃ cs csx σ → Near s sx t tx (Qu *ᶠ a) → Near h hx c cx (a +ᶠ ofℕ 5)
+head-near {Qu} {Q} {inflow} {s} {t} {u} {v} {w} {h} {c} {sx} {tx} {ux} {vx} {wx} {hx} {cx} {W₁} {W₂} {W₃} {cs} {csx} {σ} a pa k n =
+    let d = n .bod-error in
+    let e = n .oxygen-error in
+    let Q≥0 = positive-nonneg (k .flowing) in
+    record {
+      bod-error = (d +ᶠ Qu +ᶠ Q) ÷ Q;
+      oxygen-error = (e +ᶠ Qu +ᶠ Qu +ᶠ Q) ÷ Q;
+      bod-near = over-flow Q h hx (d +ᶠ Qu +ᶠ Q) (k .flowing) (rounded-near Q h (Qu *ᶠ u +ᶠ W₁ +ᶠ W₂) hx (Qu *ᶠ ux +ᶠ W₁ +ᶠ W₂) (d +ᶠ Qu) Q≥0 (plus-same (Qu *ᶠ u +ᶠ W₁) (Qu *ᶠ ux +ᶠ W₁) W₂ (d +ᶠ Qu) (plus-same (Qu *ᶠ u) (Qu *ᶠ ux) W₁ (d +ᶠ Qu) (rounded-near Qu u s ux sx d (k .upstream) (n .bod-near) (k .bod-mean) (k .exact-bod-mean)))) (k .bod-mixed) (k .exact-bod-mixed));
+      oxygen-near = over-flow Q c cx (e +ᶠ Qu +ᶠ Qu +ᶠ Q) (k .flowing) (rounded-near Q c (Qu *ᶠ w +ᶠ W₃) cx (Qu *ᶠ wx +ᶠ W₃) (e +ᶠ Qu +ᶠ Qu) Q≥0 (plus-same (Qu *ᶠ w) (Qu *ᶠ wx) W₃ (e +ᶠ Qu +ᶠ Qu) (dam-near Qu v vx cs csx σ w wx e (k .upstream) (bound-nonneg (small (n .oxygen-near))) (k .saturation-low) (k .saturation-high) (k .dam) (k .exact-dam) (rounded-near Qu v t vx tx e (k .upstream) (n .oxygen-near) (k .oxygen-mean) (k .exact-oxygen-mean)))) (k .oxygen-mixed) (k .exact-oxygen-mixed));
+      together = certify-over Q (k .flowing) (Q ∷ Qu ∷ inflow ∷ a ∷ d ∷ e ∷ ((d +ᶠ Qu +ᶠ Q) ÷ Q) ∷ ((e +ᶠ Qu +ᶠ Qu +ᶠ Q) ÷ Q) ∷ []) (ofℕ 1 ⋅ ÷-cancel-pos (d +ᶠ Qu +ᶠ Q) (k .flowing) & ofℕ 1 ⋅ ÷-cancel-pos (e +ᶠ Qu +ᶠ Qu +ᶠ Q) (k .flowing) & (a +ᶠ ofℕ 3) ⋅ k .flows & no-equations) (slack (n .together) ⊞ (pa ⊞ number 3) ⊠ k .inflowing) (search quote depth 40 fits 9999) tt;
+    }
+
+-- ---- along a reach
+
+floored-small : {f x : Fraction} → Floored f x → Small (f -ᶠ x) (ofℕ 1)
+floored-small {f} {x} h =
+    record {
+      high = certify (f ∷ x ∷ []) (slack (h .low) ⊞ number 1) (search quote depth 40 fits 9999) tt;
+      low = certify (f ∷ x ∷ []) (slack (h .high)) (search quote depth 40 fits 9999) tt;
+    }
+
+-- an exact share is little larger than the reported one
+share-small : {p S e : Fraction} → Nonneg p → Within p S e → Small S (p +ᶠ e)
+share-small {p} {S} {e} h w =
+    small-by (ring (p ∷ S ∷ []) (search quote depth 40 fits 9999) tt) (sized h ⊞ˢ small-minus (small w))
+
+-- an instant, reported and exact: shares, exact shares and their distances, head figures, and the three rounded parts
+pub record InstantSteps (p g r S₁ F S₂ e₁ e₂ ε L c cs csx B G R D : Fraction) : Type 0 where
+  pub shares : Shares p g r
+  pub left-near : Within p S₁ e₁
+  pub turned-near : Within g F e₂
+  pub kept-near : Within r S₂ ε
+  pub factors-near : e₁ +ᶠ e₂ ≼ ε
+  pub bod-floored : Floored B (p *ᶠ L)
+  pub turned-floored : Floored G (g *ᶠ L)
+  pub kept-floored : Floored R (r *ᶠ (cs -ᶠ c))
+  pub head-bod : Nonneg L
+  pub head-deficit : Small (cs -ᶠ c) D
+  pub saturation-near : Within cs csx (ofℕ 1)
+
+-- from a head whose figures are off by `off` together
+pub instant-near : {p g r S₁ F S₂ e₁ e₂ ε L c cs csx B G R D : Fraction} (Lx cx off : Fraction) → InstantSteps p g r S₁ F S₂ e₁ e₂ ε L c cs csx B G R D → Near L Lx c cx off
+    → Near B (Lx *ᶠ S₁) (cs -ᶠ G -ᶠ R) (csx -ᶠ F *ᶠ Lx -ᶠ S₂ *ᶠ (csx -ᶠ cx)) (ofℕ 5 +ᶠ ε +ᶠ ε *ᶠ (L +ᶠ D) +ᶠ (ofℕ 1 +ᶠ ε) *ᶠ off)
+instant-near {p} {g} {r} {S₁} {F} {S₂} {e₁} {e₂} {ε} {L} {c} {cs} {csx} {B} {G} {R} {D} Lx cx off k n =
+    let d = n .bod-error in
+    let e = n .oxygen-error in
+    let pε = bound-nonneg (small (k .kept-near)) in
+    record {
+      bod-error = ofℕ 1 +ᶠ e₁ *ᶠ L +ᶠ (p +ᶠ e₁) *ᶠ d;
+      oxygen-error = ofℕ 1 +ᶠ ofℕ 1 +ᶠ e₂ *ᶠ L +ᶠ (g +ᶠ e₂) *ᶠ d +ᶠ ofℕ 1 +ᶠ ε *ᶠ D +ᶠ (r +ᶠ ε) *ᶠ (ofℕ 1 +ᶠ e);
+      bod-near = near (p ∷ S₁ ∷ e₁ ∷ L ∷ Lx ∷ B ∷ d ∷ []) no-equations (floored-small (k .bod-floored) ⊞ˢ small (k .left-near) ⊠ˢ sized (k .head-bod) ⊞ˢ share-small (k .shares .left-part) (k .left-near) ⊠ˢ small (n .bod-near)) (number 0) (search quote depth 40 fits 9999) tt (search quote depth 40 fits 9999) tt;
+      oxygen-near = near (g ∷ r ∷ F ∷ S₂ ∷ e₂ ∷ ε ∷ L ∷ Lx ∷ c ∷ cx ∷ cs ∷ csx ∷ G ∷ R ∷ D ∷ d ∷ e ∷ []) no-equations (small (k .saturation-near) ⊞ˢ small-minus (floored-small (k .turned-floored)) ⊞ˢ small-minus (small (k .turned-near)) ⊠ˢ sized (k .head-bod) ⊞ˢ small-minus (share-small (k .shares .turned-part) (k .turned-near)) ⊠ˢ small (n .bod-near) ⊞ˢ small-minus (floored-small (k .kept-floored)) ⊞ˢ small-minus (small (k .kept-near)) ⊠ˢ k .head-deficit ⊞ˢ small-minus (share-small (k .shares .kept-part) (k .kept-near)) ⊠ˢ (small (k .saturation-near) ⊞ˢ small-minus (small (n .oxygen-near)))) (number 0) (search quote depth 40 fits 9999) tt (search quote depth 40 fits 9999) tt;
+      together = certify (p ∷ g ∷ r ∷ e₁ ∷ e₂ ∷ ε ∷ L ∷ D ∷ d ∷ e ∷ off ∷ []) (slack (k .shares .kept-of-one) ⊠ (number 1 ⊞ bound-nonneg (small (n .oxygen-near))) ⊞ slack (k .factors-near) ⊠ (k .head-bod ⊞ bound-nonneg (small (n .bod-near))) ⊞ slack (k .shares .bod-of-one) ⊠ bound-nonneg (small (n .bod-near)) ⊞ (number 1 ⊞ pε) ⊠ slack (n .together)) (search quote depth 40 fits 9999) tt;
+    }
+
+-- what a reach adds: 18 units, while the error carried is at most 2,304 units
+pub reach-adds : (ε L a : Fraction) → Nonneg ε → ofℕ 268435456 *ᶠ ε ≈ ofℕ 1 → L ≼ ofℕ 1000000000 → a ≼ ofℕ 2304 → ofℕ 5 +ᶠ ε +ᶠ ε *ᶠ (L +ᶠ ofℕ 1020000000) +ᶠ (ofℕ 1 +ᶠ ε) *ᶠ (a +ᶠ ofℕ 5) ≼ a +ᶠ ofℕ 18
+reach-adds ε L a p e hL ha =
+    certify-by (ε ∷ L ∷ a ∷ []) (ofℕ 8 ⋅ e & no-equations) (p ⊠ (slack hL ⊞ slack ha ⊞ number 127481338)) (search quote depth 40 fits 9999) tt

@@ -1,0 +1,5 @@
+-- The program and the exact recurrence as inequalities and equations of fractions.
+pub mod Floor
+pub mod Head
+pub mod Instant
+pub mod Exact

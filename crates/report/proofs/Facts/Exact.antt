@@ -1,0 +1,72 @@
+-- The exact recurrence as equations of fractions: each mean, the dam and each mixing times the flow that it is divided by.
+use mathlib.Core.Bool.{Bool, true, false}
+use mathlib.Core.List.{[], _∷_}
+use Prim.Native.Nat.{ℕ, _+_, _*_, _-_, _<_}
+use lib.Dec.{lit<}
+use Rattle.decay.specs.Fraction.{Fraction, _≈_, _≼_, ofℕ, _+ᶠ_, -ᶠ_, _-ᶠ_, _*ᶠ_, _÷_}
+use Rattle.decay.proofs.Algebra.{ring, ring-by, quote, _⋅_, _&_, none as no-equations, ≈-trans, positive-whole, ÷-cancel-pos, ÷-reciprocal, floor-low, floor-high}
+use Rattle.decay.proofs.Algebra.Rational.{*ᶠ-comm}
+use Rattle.river.specs.declared.card.Dam.{Dam}
+use Rattle.river.specs.declared.card.Dam.the-variants.{Absent, Aerating}
+use Rattle.river.specs.declared.card.Card.{Card}
+use Rattle.river.specs.Flow.{Feeders, more, fed, flowOf}
+use Rattle.river.specs.Saturation.{saturation, saturationThousandths}
+use Rattle.report.specs.Recurrence.{exactSaturation, exactMean, exactAerated, exactBelowDam, exactMixedBod, exactMixedOxygen, exactBodSum, exactOxygenSum}
+use Rattle.report.proofs.Forest.{AllAccepted, no-more, one-more}
+use Rattle.report.proofs.Facts.Head.{feeders-flow, damPart}
+
+-- rounded saturation lies less than a unit below saturation
+pub saturation-low : (T : ℕ) → ofℕ (saturation T) ≼ exactSaturation T
+unfolding saturation exactSaturation
+saturation-low T = floor-low (saturationThousandths T) (lit< tt)
+
+pub saturation-high : (T : ℕ) → exactSaturation T ≼ ofℕ (saturation T) +ᶠ ofℕ 1
+unfolding saturation exactSaturation
+saturation-high T = floor-high (saturationThousandths T) (lit< tt)
+
+-- a quotient times its divisor
+times : (total : Fraction) (d : ℕ) → 0 < d → ofℕ d *ᶠ (total ÷ ofℕ d) ≈ total
+times total d p = ≈-trans (*ᶠ-comm (ofℕ d) (total ÷ ofℕ d)) (÷-cancel-pos total (positive-whole p))
+
+-- a mean times Qu is the sum
+mean-fed : (Qu : ℕ) (sum : Fraction) → 0 < Qu → ofℕ Qu *ᶠ exactMean true Qu sum ≈ sum
+unfolding exactMean
+mean-fed Qu sum p = times sum Qu p
+
+module _ (N : ℕ) where
+  pub exact-bod-mean : {up : Feeders} → AllAccepted up → ofℕ (flowOf up) *ᶠ exactMean (fed up) (flowOf up) (exactBodSum N up) ≈ exactBodSum N up
+  unfolding fed flowOf exactMean exactBodSum
+  exact-bod-mean no-more = ring [] (search quote depth 40 fits 9999) tt
+  exact-bod-mean (one-more {card} {up} {rest} own above others) =
+      mean-fed (flowOf (more card up rest)) (exactBodSum N (more card up rest)) (feeders-flow (one-more own above others))
+
+  pub exact-oxygen-mean : {up : Feeders} → AllAccepted up → ofℕ (flowOf up) *ᶠ exactMean (fed up) (flowOf up) (exactOxygenSum N up) ≈ exactOxygenSum N up
+  unfolding fed flowOf exactMean exactOxygenSum
+  exact-oxygen-mean no-more = ring [] (search quote depth 40 fits 9999) tt
+  exact-oxygen-mean (one-more {card} {up} {rest} own above others) =
+      mean-fed (flowOf (more card up rest)) (exactOxygenSum N (more card up rest)) (feeders-flow (one-more own above others))
+
+-- a dam takes its part of the way to saturation
+exact-aerated : (dam : Dam) (Cs : Fraction) (Qu : ℕ) (C : Fraction) → exactAerated dam Cs Qu C ≈ C +ᶠ (Cs -ᶠ C) *ᶠ damPart true dam Qu
+unfolding exactAerated damPart
+exact-aerated Absent Cs Qu C = ring (Cs ∷ C ∷ []) (search quote depth 40 fits 9999) tt
+exact-aerated (Aerating share generating) Cs Qu C = quotient (ofℕ (share * (Qu - generating))) (ofℕ (1000 * Qu))
+  where
+    quotient : (n d : Fraction) → C +ᶠ (Cs -ᶠ C) *ᶠ n ÷ d ≈ C +ᶠ (Cs -ᶠ C) *ᶠ (n ÷ d)
+    quotient n d =
+        ring-by (Cs ∷ C ∷ n ∷ (n ÷ d) ∷ ((Cs -ᶠ C) *ᶠ n ÷ d) ∷ (ofℕ 1 ÷ d) ∷ []) (ofℕ 1 ⋅ ÷-reciprocal ((Cs -ᶠ C) *ᶠ n) d & (Cs -ᶠ C) ⋅ ÷-reciprocal n d & no-equations) (search quote depth 40 fits 9999) tt
+
+pub exact-below-dam : (card : Card) (t : Bool) (Qu : ℕ) (C : Fraction) → exactBelowDam card t Qu C ≈ C +ᶠ (exactSaturation (card .temperature) -ᶠ C) *ᶠ damPart t (card .dam) Qu
+unfolding exactBelowDam damPart
+exact-below-dam card false Qu C =
+    ring (exactSaturation (card .temperature) ∷ C ∷ []) (search quote depth 40 fits 9999) tt
+exact-below-dam card true Qu C = exact-aerated (card .dam) (exactSaturation (card .temperature)) Qu C
+
+-- mixing times Q
+pub exact-bod-mixed : (card : Card) (Qu : ℕ) (upstream : Fraction) → 0 < Qu + card .inflow → ofℕ (Qu + card .inflow) *ᶠ exactMixedBod card Qu upstream ≈ ofℕ Qu *ᶠ upstream +ᶠ ofℕ (1000 * card .inflow * card .«inflow_bod») +ᶠ ofℕ (1000000 * card .load)
+unfolding exactMixedBod
+exact-bod-mixed card Qu upstream p = times (ofℕ Qu *ᶠ upstream +ᶠ ofℕ (1000 * card .inflow * card .«inflow_bod») +ᶠ ofℕ (1000000 * card .load)) (Qu + card .inflow) p
+
+pub exact-oxygen-mixed : (card : Card) (Qu : ℕ) (upstream : Fraction) → 0 < Qu + card .inflow → ofℕ (Qu + card .inflow) *ᶠ exactMixedOxygen card Qu upstream ≈ ofℕ Qu *ᶠ upstream +ᶠ ofℕ (1000 * card .inflow * card .«inflow_oxygen»)
+unfolding exactMixedOxygen
+exact-oxygen-mixed card Qu upstream p = times (ofℕ Qu *ᶠ upstream +ᶠ ofℕ (1000 * card .inflow * card .«inflow_oxygen»)) (Qu + card .inflow) p

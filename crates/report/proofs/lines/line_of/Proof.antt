@@ -1,0 +1,72 @@
+-- `report::lines::line_of` meets its contract: the profile starts in range, and its figures fit the record. Assumes nothing.
+use borrow.Author.Needs.{needs}
+use native.Mathlib.Omega.{arith}
+use Rattle.report.proofs.lines.Lines.{start-range, start-sound, foot-below, critical-within, line-figures}
+use Rattle.report.proofs.lines.line_of.Statement.{statement}
+use Rattle.report.proofs.lines.line_of.Tie as tie
+
+step-of-requires : tie.Need-step-of-requires
+step-of-requires c κs = search needs
+
+saturation-requires : tie.Need-saturation-requires
+saturation-requires c κs = search needs
+
+cast-t9 : tie.Need-cast-t9
+cast-t9 c = search needs
+
+cast-t10 : tie.Need-cast-t10
+cast-t10 c = search needs
+
+cast-t11 : tie.Need-cast-t11
+cast-t11 c = search needs
+
+-- the shares of the step, and the ranges of the start
+profile-of-requires : tie.Need-profile-of-requires
+profile-of-requires c κs =
+    let s = c .before .before .before .before in (
+      start-sound (c .before .before .before .step-of .ensures) (s .pre .0 .0),
+      start-range (s .args .card .temperature) (s .pre .1 .0) (s .pre .1 .1) (omega arith) (s .pre .0 .1) (c .before .before .saturation .ensures),
+    )
+
+cast-t12 : tie.Need-cast-t12
+cast-t12 c =
+    let s = c .before .before .before .before .before .before in
+    record {
+      fits =
+          let sound = start-sound (c .before .before .before .before .before .step-of .ensures) (s .pre .0 .0) in
+          let r = start-range (s .args .card .temperature) (s .pre .1 .0) (s .pre .1 .1) (omega arith) (s .pre .0 .1) (c .before .before .before .before .saturation .ensures) in
+          omega (arith, foot-below sound r (c .before .profile-of .ensures));
+    }
+
+cast-t13 : tie.Need-cast-t13
+cast-t13 c = omega (arith, critical-within (c .before .before .profile-of .ensures))
+
+cast-t14 : tie.Need-cast-t14
+cast-t14 c = search needs
+
+cast-t15 : tie.Need-cast-t15
+cast-t15 c = search needs
+
+returns : tie.Need-returns
+returns c =
+    let s = c .before .before .before .before .before .before .before .before .before in
+    line-figures (s .args .card) (s .args .flow) (s .args .depth) (s .args .head .bod) (s .args .head .oxygen) _ _ _
+    (c .before .before .before .before .before .before .before .before .step-of .ensures)
+    (c .before .before .before .before .before .before .before .saturation .ensures)
+    (c .before .before .before .before .profile-of .ensures)
+
+pub line-of-spec : {M : Type 1} → statement M
+line-of-spec =
+    tie.close
+    (tie.spec
+    step-of-requires
+    saturation-requires
+    cast-t9
+    cast-t10
+    cast-t11
+    profile-of-requires
+    cast-t12
+    cast-t13
+    cast-t14
+    cast-t15
+    returns)

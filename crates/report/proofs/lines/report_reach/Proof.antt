@@ -1,0 +1,60 @@
+-- `report::lines::report_reach` meets its contract: the record put in place is that of the reach, and its foot is entered.
+-- Assumes nothing.
+use mathlib.Core.Path.{_≡_}
+use lib.ListN.{length}
+use native.Mathlib.Omega.{arith}
+use borrow.Author.Needs.{needs}
+use Rattle.report.proofs.lines.Feet.{reach-flow-small, line-flow, feet-next}
+use Rattle.report.proofs.lines.report_reach.Statement.{statement}
+use Rattle.report.proofs.lines.report_reach.Tie as tie
+
+line-at-requires : tie.Need-line-at-requires
+line-at-requires c κs = search needs
+
+put-record-requires : tie.Need-put-record-requires
+put-record-requires c κs = search needs
+
+cast-put-foot : tie.Need-cast-put-foot
+cast-put-foot c = search needs
+
+put-foot-requires : tie.Need-put-foot-requires
+put-foot-requires c κs =
+    let s = c .before .before .before .before .before .before .before in
+    let p = s .pre .0 in (
+      omega (arith, p .0 .lawful .few, p .2),
+      omega (arith, reach-flow-small (p .0) (p .1) (p .2), line-flow (c .before .before .before .before .before .line-at .ensures)),
+    )
+
+same-length : tie.Need-same-length
+same-length c = search needs
+
+-- the tables of feet have 128 places
+bod-long : (s : tie.Start) → length (s .args .feet .bod) ≡ 128
+bod-long s = search needs
+
+oxygen-long : (s : tie.Start) → length (s .args .feet .oxygen) ≡ 128
+oxygen-long s = search needs
+
+returns : tie.Need-returns
+returns c =
+    let s = c .before .before .before .before .before .before .before .before in
+    let p = s .pre .0 in
+    let of = c .before .before .before .before .before .before .line-at .ensures in (
+      feet-next _ (c .put-foot .result) (p .0) (p .1) (p .2) of
+          (omega (arith, c .before .before .before .before .before .before .line-at .ok))
+          (omega (arith, bod-long s, p .2, p .0 .lawful .few))
+          (omega (arith, oxygen-long s, p .2, p .0 .lawful .few))
+          (c .put-foot .ensures .0) (c .put-foot .ensures .1),
+      rw (of .figures) at (c .before .before .before .before .put-record .ensures),
+    )
+
+pub report-reach-spec : {M : Type 1} → statement M
+report-reach-spec =
+    tie.close
+    (tie.spec
+    line-at-requires
+    put-record-requires
+    cast-put-foot
+    put-foot-requires
+    same-length
+    returns)

@@ -1,0 +1,2 @@
+-- Laws of a record.
+pub mod Encoding

@@ -1,0 +1,95 @@
+// The report of an accepted river, reach by reach.
+use crate::profile;
+use crate::profile::Start;
+use crate::record;
+use crate::record::Line;
+use decay::step;
+use river::card::Card;
+use river::card::Cards;
+use river::flow;
+use river::flow::FlowTable;
+use river::head;
+use river::head::FootTable;
+use river::head::Head;
+ghost use mathlib.Core.Path.{_≡_};
+ghost use mathlib.Core.List.{_++_};
+ghost use Prim.Native.Nat.{suc, _+_, _*_, _≤_, _<_};
+ghost use lib.ListN.{length, drop};
+ghost use lib.Seq.{paste};
+ghost use Rattle.decay.specs.Step.{RatesPass};
+ghost use Rattle.river.specs.Card.{river};
+ghost use Rattle.report.specs.Program.{figuresAt, figuresBelow};
+ghost use Rattle.report.specs.Record.{figuresIn, encodeRecord};
+ghost use Rattle.report.specs.Lines.{Ready, FeetOf, LineOf};
+ghost use Rattle.report.specs.Report.{reportOf};
+ghost use Rattle.river.specs.Stored.{oxygenOf};
+
+// The figures of a reach with this card, flow and depth, below this head.
+pub fn line_of(card: Card, flow: u32, depth: u8, head: Head) -> Line
+    requires { ⌜ RatesPass (card .k1) (card .k2) (card .volume) flow × (card .temperature ≤ 35) ⌝ }
+    requires { ⌜ (head .bod ≤ 1000000000) × (1000000000 ≤ head .oxygen) ⌝ }
+    ensures { λ r. ⌜ figuresIn r ≡ figuresBelow card depth flow (head .bod) (oxygenOf (head .oxygen)) ⌝ }
+{
+    let step = step::step_of(card.k1, card.k2, card.volume, flow);
+    let saturation = head::saturation(card.temperature);
+    let start = Start {
+        bod: head.bod as u64,
+        oxygen: head.oxygen as u64,
+        saturation: saturation as u64,
+    };
+    let profile = profile::profile_of(step, start);
+    Line {
+        depth,
+        flow,
+        head_bod: head.bod,
+        foot_bod: profile.foot_bod as u32,
+        head_oxygen: head.oxygen,
+        critical_instant: profile.critical_instant as u16,
+        critical_oxygen: profile.critical_oxygen as u32,
+        foot_oxygen: profile.foot_oxygen as u32,
+    }
+}
+
+// The figures of reach i + 1.
+pub fn line_at(cards: Cards, flows: FlowTable, feet: FootTable, i: usize) -> Line
+    requires { ⌜ Ready (river cards) flows × FeetOf (river cards) feet i × (i < length (river cards)) ⌝ }
+    ensures { λ r. ⌜ LineOf (river cards) i r ⌝ }
+{
+    let head = head::head_of(cards, flows, feet, i);
+    let card = cards.at[i];
+    let flow = flows.flow[i] as u32;
+    let depth = flows.depth[i];
+    line_of(card, flow, depth, head)
+}
+
+// Puts the record of reach i + 1 in its place, and enters its foot.
+pub fn report_reach(
+    cards: Cards,
+    flows: FlowTable,
+    feet: FootTable,
+    i: usize,
+    report: &mut [u8],
+) -> FootTable
+    requires { ⌜ Ready (river cards) flows × FeetOf (river cards) feet i × (i < length (river cards)) ⌝ }
+    requires { ⌜ 29 * i + 29 ≤ length (now report) ⌝ }
+    ensures { λ r. ⌜ FeetOf (river cards) r (i + 1) ⌝ }
+    ensures { λ _. ⌜ now (report .exit) ≡ paste (now (report .entry)) (29 * i) (encodeRecord (figuresAt (river cards) (suc i))) 29 ⌝ }
+{
+    let line = line_at(cards, flows, feet, i);
+    record::put_record(report, i, line);
+    head::put_foot(feet, i, line.flow as u64, line.foot_bod, line.foot_oxygen)
+}
+
+// Puts the records of all reaches in their places.
+pub fn report_all(cards: Cards, flows: FlowTable, report: &mut [u8])
+    requires { ⌜ Ready (river cards) flows × (29 * length (river cards) ≤ length (now report)) ⌝ }
+    ensures { λ _. ⌜ now (report .exit) ≡ reportOf (river cards) ++ drop (29 * length (river cards)) (now (report .entry)) ⌝ }
+{
+    let count = flow::reach_count(cards);
+    let mut feet = head::no_feet();
+    let mut i: usize = 0;
+    while i < count {
+        feet = report_reach(cards, flows, feet, i, report);
+        i = i + 1;
+    }
+}

@@ -1,0 +1,3 @@
+-- What the proofs by hand share.
+pub mod Again
+pub mod Locals

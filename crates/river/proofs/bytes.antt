@@ -1,0 +1,3 @@
+-- Laws of numbers as bytes.
+pub mod Numbers
+pub mod Puts

@@ -1,0 +1,5 @@
+-- Laws of flows and of the flow check.
+pub mod Table
+pub mod Checks
+pub mod Count
+pub mod FlowCheck

@@ -1,0 +1,34 @@
+-- How many reaches the river of an array of 128 cards and a count has, and which card each has.
+use mathlib.Core.Path.{_≡_, sym}
+use Prim.Native.Nat.{ℕ, _<_, _≤_}
+use native.Mathlib.Nat.{mul-le-mul}
+use native.Mathlib.Omega.{arith}
+use lib.ListN.{length, getD, length-take}
+use lib.Seq.{getD-take}
+use Rattle.river.specs.declared.card.Cards.{Cards}
+use Rattle.river.specs.Card.{Lawful, FieldsInRange, river, blank}
+use Rattle.river.specs.Flow.{ownMass}
+use Rattle.river.proofs.flow.Checks.{lawful-at}
+
+module _ (cs : Cards) (full : length (cs .at) ≡ 128) where
+  pub all-reaches : 128 < cs .count → 128 ≡ length (river cs)
+  all-reaches h = rw (length-take (cs .count) (cs .at), full) (omega arith)
+
+  pub count-reaches : cs .count ≤ 128 → cs .count ≡ length (river cs)
+  count-reaches h = rw (length-take (cs .count) (cs .at), full) (omega arith)
+
+-- the card of a reach in the array is that of the river
+pub card-of-river : (cs : Cards) (i : ℕ) → i < length (river cs) → getD (cs .at) i blank ≡ getD (river cs) i blank
+card-of-river cs i h =
+    let k : i < cs .count = omega (arith, rw length-take at h) in
+    sym (getD-take (cs .count) (cs .at) i blank k)
+
+-- and is in range
+pub card-in-range : (cs : Cards) (i : ℕ) → Lawful (river cs) → i < length (river cs) → FieldsInRange (getD (cs .at) i blank)
+card-in-range cs i h l = rw (card-of-river cs i l) (lawful-at h i l .in-range)
+
+-- what a reach itself takes in is bounded
+pub own-mass-few : (cs : Cards) (i : ℕ) → Lawful (river cs) → i < length (river cs) → {own : ℕ} → own ≡ ownMass (getD (cs .at) i blank) → own ≤ 104294967296000
+own-mass-few cs i h l e =
+    let k = lawful-at h i l in
+    rw (e, card-of-river cs i l) (omega (arith, mul-le-mul (k .in-range .inflow) (k .in-range .inflow-bod), k .load))

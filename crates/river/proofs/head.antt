@@ -1,0 +1,6 @@
+-- Laws of the head of a reach.
+pub mod Bounds
+pub mod Offset
+pub mod Stored
+pub mod Heads
+pub mod Feet

@@ -1,0 +1,2 @@
+-- Laws of the tests that reading and writing share.
+pub mod Ranges

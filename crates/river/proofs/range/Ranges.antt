@@ -1,0 +1,81 @@
+-- The tests of cards hold exactly for the ranges of specs/.
+-- Assumes nothing.
+use Prim.Native.Nat.{ℕ, _≤_, _<_}
+use mathlib.Core.Path.{_≡_, refl}
+use mathlib.Core.Bool.{Bool, true, false, _&&_, cond}
+use native.Mathlib.Omega.{arith}
+use lib.Dec.{leb, ltb, eqb}
+use borrow.Author.Tests.{le-leb, leb-true, ltb-true, eq-eqb, eqb-true, ne-eqb}
+use Rattle.river.specs.Card.{FieldsInRange, LawfulDam, inRange, damInRange, countOk, outletOk}
+use Rattle.river.specs.declared.card.Card.{Card}
+use Rattle.river.specs.declared.card.Dam.{Dam}
+use Rattle.river.specs.declared.card.Dam.the-variants.{Absent, Aerating}
+use Rattle.river.proofs.Answers.{both, both-true}
+
+pub inRange-true : (c : Card) → FieldsInRange c → inRange c ≡ true
+unfolding inRange
+inRange-true c h =
+    both (le-leb _ _ (h .temperature))
+    (both (le-leb _ _ (h .k1))
+    (both (le-leb _ _ (h .k2))
+    (both (le-leb _ _ (h .volume))
+    (both (le-leb _ _ (h .inflow)) (both (le-leb _ _ (h .inflow-bod)) (le-leb _ _ (h .inflow-oxygen)))))))
+
+pub true-inRange : (c : Card) → inRange c ≡ true → FieldsInRange c
+unfolding inRange
+true-inRange c e =
+    let a = both-true e in
+    let b = both-true (a .right) in
+    let d = both-true (b .right) in
+    let f = both-true (d .right) in
+    let g = both-true (f .right) in
+    let h = both-true (g .right) in
+    record {
+      temperature = leb-true _ _ (a .left);
+      k1 = leb-true _ _ (b .left);
+      k2 = leb-true _ _ (d .left);
+      volume = leb-true _ _ (f .left);
+      inflow = leb-true _ _ (g .left);
+      inflow-bod = leb-true _ _ (h .left);
+      inflow-oxygen = leb-true _ _ (h .right);
+    }
+
+pub damInRange-true : (d : Dam) → LawfulDam d → damInRange d ≡ true
+unfolding damInRange
+damInRange-true Absent h = refl
+damInRange-true (Aerating s g) h = both (le-leb _ _ (h .share)) (le-leb _ _ (h .generating))
+
+pub true-damInRange : (d : Dam) → damInRange d ≡ true → LawfulDam d
+unfolding damInRange
+true-damInRange Absent e = tt
+true-damInRange (Aerating s g) e =
+    let t = both-true e in record { share = leb-true _ _ (t .left); generating = leb-true _ _ (t .right) }
+
+pub countOk-true : (n : ℕ) → 1 ≤ n → n ≤ 128 → countOk n ≡ true
+unfolding countOk
+countOk-true n p q = both (le-leb _ _ p) (le-leb _ _ q)
+
+pub true-countOk : (n : ℕ) → countOk n ≡ true → (1 ≤ n) × (n ≤ 128)
+unfolding countOk
+true-countOk n e = let t = both-true e in (leb-true _ _ (t .left), leb-true _ _ (t .right))
+
+-- the last reach has outlet 0
+pub last-outlet : (n o : ℕ) → outletOk n n o ≡ true → o ≡ 0
+unfolding outletOk
+last-outlet n o e = eqb-true _ _ (rw (eq-eqb n n refl) at e)
+
+-- any other reach flows into a larger one
+pub later-outlet : (n i o : ℕ) → i < n → outletOk n i o ≡ true → (i < o) × (o ≤ n)
+unfolding outletOk
+later-outlet n i o h e =
+    let t = both-true (rw (ne-eqb i n (omega arith)) at e) in
+    (ltb-true _ _ (t .left), leb-true _ _ (t .right))
+
+-- an outlet is a byte
+pub outlet-below : (n i o : ℕ) → n ≤ 128 → outletOk n i o ≡ true → o < 256
+unfolding outletOk
+outlet-below n i o h e = go (eqb i n) e
+  where
+    go : (b : Bool) → cond b (eqb o 0) (ltb i o && leb o n) ≡ true → o < 256
+    go true t = omega (arith, eqb-true o 0 t)
+    go false t = omega (arith, leb-true o n (both-true {a = ltb i o} {b = leb o n} t .right))

@@ -1,0 +1,3 @@
+-- Laws of reading a record.
+pub mod Steps
+pub mod Records

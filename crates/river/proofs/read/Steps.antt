@@ -1,0 +1,98 @@
+-- The answers of the functions that read, case by case: what each says about the definition that it answers for.
+-- Assumes nothing.
+use Prim.Native.Nat.{ℕ, _+_, _≤_}
+use mathlib.Core.Path.{_≡_, ap, sym, _∙_}
+use mathlib.Core.List.{List}
+use native.Mathlib.Omega.{arith}
+use lib.ListN.{drop}
+use Rattle.river.specs.Bytes.{twoAt}
+use Rattle.river.specs.Read.{headerOf, damOf, reachOf, headerRefusal, reachRefusal, readHeader, readReaches, readFile, readDam, cardAt}
+use Rattle.river.specs.Refusal.{Answer, accepted, refused, after}
+use Rattle.river.specs.declared.card.Card.{Card}
+use Rattle.river.specs.declared.card.Dam.{Dam}
+use Rattle.river.specs.declared.card.Dam.the-variants.{Absent, Aerating}
+use Rattle.river.specs.declared.read.DamRead.{DamRead}
+use Rattle.river.specs.declared.read.Header.{Header}
+use Rattle.river.specs.declared.refusal.Outcome.{Outcome}
+use Rattle.river.specs.declared.read.Reach.{Reach}
+use Rattle.river.specs.declared.refusal.Refusal.{Refusal}
+use Rattle.river.proofs.Answers.{after-accepted, after-refused, passed}
+use Rattle.river.proofs.range.Ranges.{true-countOk}
+use Rattle.river.specs.Card.{sizeOfDam, sizeOf}
+
+-- two constructors are not equal
+pub clash : {P : Type 0} → _≡_ {A = ℕ} 0 1 → P
+clash z = absurd (let h : ⊥ = omega arith in h)
+
+found : (x : Answer Dam) {d : Dam} → damOf x ≡ DamRead.Found d → x ≡ accepted d
+found (accepted d) e = cc
+found (refused r) e = clash (cc)
+
+not-found : (x : Answer Dam) {r : Refusal} → damOf x ≡ DamRead.Refused r → x ≡ refused r
+not-found (accepted d) e = clash (cc)
+not-found (refused r) e = cc
+
+pub counted : (x : Answer ℕ) {n next : ℕ} → headerOf x ≡ Header.Count n next → (x ≡ accepted n) × (next ≡ 4)
+counted (accepted m) e = (cc, cc)
+counted (refused r) e = clash (cc)
+
+pub not-counted : (x : Answer ℕ) {h : Header} {r : Refusal} → h ≡ headerOf x → h ≡ Header.Refused r → x ≡ refused (headerRefusal h)
+not-counted (accepted m) e f = clash (cc)
+not-counted (refused r) e f = rw e
+
+pub record IsRead (at : ℕ) (x : Answer Card) (c : Card) (next : ℕ) : Type 0 where
+  pub card : x ≡ accepted c
+  pub place : next ≡ at + sizeOf c
+
+pub is-read : (at : ℕ) (x : Answer Card) {c : Card} {next : ℕ} → reachOf at x ≡ Reach.Read c next → IsRead at x c next
+is-read at (accepted d) {c} {next} e =
+    let same : d ≡ c = cc in
+    let place : at + sizeOf d ≡ next = cc in
+    record { card = ap accepted same; place = sym place ∙ ap (λ (x : Card). at + sizeOf x) same }
+is-read at (refused r) e = clash (cc)
+
+pub not-read : (at : ℕ) (x : Answer Card) {a : Reach} {r : Refusal} → a ≡ reachOf at x → a ≡ Reach.Refused r → x ≡ refused (reachRefusal a)
+not-read at (accepted c) e f = clash (cc)
+not-read at (refused r) e f = rw e
+
+pub no-refusal : {P : Type 0} {r : Refusal} → Outcome.Accepted ≡ Outcome.Refused r → P
+no-refusal e = clash (cc)
+
+-- a file by its header
+pub header-few : (s : List ℕ) {n : ℕ} → readHeader s ≡ accepted n → n ≤ 128
+unfolding readHeader
+header-few s {n} e =
+    let p = passed _ _ _ _ (passed _ _ _ _ (passed _ _ _ _ e .rest) .rest) in
+    let same : twoAt s 2 ≡ n = cc (p .rest) in
+    rw same at (true-countOk (twoAt s 2) (p .test) .1)
+
+pub file-reaches : (s : List ℕ) {n next : ℕ} → headerOf (readHeader s) ≡ Header.Count n next
+    → readFile s ≡ readReaches n 1 n (drop next s)
+unfolding readFile
+file-reaches s {n} e =
+    let h = counted (readHeader s) e in
+    after-accepted _ _ (h .0) ∙ ap (λ (k : ℕ). readReaches n 1 n (drop k s)) (sym (h .1))
+
+pub file-refused : (s : List ℕ) {r : Refusal} → readHeader s ≡ refused r → readFile s ≡ refused r
+unfolding readFile
+file-refused s e = after-refused _ _ e
+
+pub size-small : (d : Dam) → sizeOfDam d ≤ 34
+size-small Absent = omega arith
+size-small (Aerating s g) = omega arith
+
+pub size-big : (d : Dam) → 26 ≤ sizeOfDam d
+size-big Absent = omega arith
+size-big (Aerating s g) = omega arith
+
+-- the card of a reach whose `RE` record has passed
+module _ (at i : ℕ) (s : List ℕ) where
+  pub card-refused : {a : DamRead} {r : Refusal} → a ≡ damOf (readDam i s) → a ≡ DamRead.Refused r
+      → Reach.Refused r ≡ reachOf at (after (readDam i s) (λ d. accepted (cardAt s d)))
+  card-refused p q = sym (ap (reachOf at) (after-refused _ _ (not-found (readDam i s) (sym p ∙ q))))
+
+  pub card-found : {a : DamRead} {d : Dam} {c : Card} {k : ℕ} → a ≡ damOf (readDam i s) → a ≡ DamRead.Found d → c ≡ cardAt s d → k ≡ sizeOfDam d
+      → Reach.Read c (at + k) ≡ reachOf at (after (readDam i s) (λ d. accepted (cardAt s d)))
+  unfolding cardAt
+  card-found p q e f =
+      rw (e, f) (sym (ap (reachOf at) (after-accepted _ _ (found (readDam i s) (sym p ∙ q)))))

@@ -1,0 +1,3 @@
+-- Laws of writing.
+pub mod Passes
+pub mod Writing

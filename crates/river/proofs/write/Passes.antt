@@ -1,0 +1,157 @@
+-- The loops of writing: over the cards to check them, to measure their file and to put it into a buffer.
+-- Assumes nothing.
+use Prim.Native.Nat.{ℕ, _+_, _*_, _≤_, _<_}
+use mathlib.Core.Path.{_≡_, refl, ap, sym, subst, _∙_}
+use mathlib.Core.List.{List, [], _∷_, _++_, append-assoc, append-nil}
+use native.Mathlib.Numerals.{add-one}
+use native.Mathlib.Omega.{arith}
+use lib.ListN.{length, getD, take, drop, length-append, take-append-drop, drop-of-length-le}
+use lib.Seq.{drop-cons, take-add, take-all, getD-take, length-take-le}
+use Rattle.river.specs.Bytes.{Put}
+use Rattle.river.specs.Refusal.{Answer, accepted, refused}
+use Rattle.river.specs.Write.{encode, encodeCard, encodeCards, encodeHeader, checkCard, checkFrom, checkOf}
+use Rattle.river.specs.declared.card.Card.{Card}
+use Rattle.river.specs.declared.refusal.Refusal.{Refusal}
+use Rattle.river.specs.declared.write.Check.{Check}
+use Rattle.river.proofs.Answers.{after-accepted, after-refused}
+use Rattle.river.proofs.bytes.Puts.{chain}
+use Rattle.river.proofs.read.Records.{length-encodeCard}
+use Rattle.river.proofs.read.Steps.{clash, size-small}
+use Rattle.river.specs.Card.{sizeOf}
+
+-- the cards of a list from i on: the card at i, and the others
+pub from : (at : List Card) (n i : ℕ) (d : Card) → i < n → n ≤ length at → drop i (take n at) ≡ getD at i d ∷ drop (i + 1) (take n at)
+from at n i d h k =
+    drop-cons (take n at) i d (omega (arith, length-take-le n at k)) ∙
+    (λ j. getD-take n at i d h j ∷ drop (sym (add-one i) j) (take n at))
+
+-- Checking.
+
+pub passed-check : (x : Answer Unit) → checkOf x ≡ Check.Passed → x ≡ accepted tt
+passed-check (accepted u) e = refl
+passed-check (refused r) e = clash (cc)
+
+pub refused-check : (x : Answer Unit) {r : Refusal} → checkOf x ≡ Check.Refused r → x ≡ refused r
+refused-check (accepted u) e = clash (cc)
+refused-check (refused r) e = cc
+
+-- i cards of n have passed
+pub record Checked (n : ℕ) (cs : List Card) (i : ℕ) : Type 0 where
+  pub most : i ≤ n
+  pub rest : checkFrom n 1 cs ≡ checkFrom n (i + 1) (drop i cs)
+
+module _ (n : ℕ) (cs : List Card) where
+  pub check-start : Checked n cs 0
+  check-start = record { most = omega arith; rest = refl }
+
+  module _ {i : ℕ} (p : Checked n cs i) where
+    pub check-more : {c : Card} {a : Check} → i < n → drop i cs ≡ c ∷ drop (i + 1) cs → a ≡ checkOf (checkCard n (i + 1) c) → a ≡ Check.Passed
+        → Checked n cs (i + 1)
+    unfolding checkFrom
+    check-more {c} less e f g =
+        record {
+          most = omega arith;
+          rest =
+              p .rest ∙
+              ap (checkFrom n (i + 1)) e ∙
+              after-accepted _ _ (passed-check (checkCard n (i + 1) c) (sym f ∙ g)) ∙
+              ap (λ (k : ℕ). checkFrom n k (drop (i + 1) cs)) (sym (add-one (i + 1)));
+        }
+
+    pub check-stop : {c : Card} {a : Check} {r : Refusal} → drop i cs ≡ c ∷ drop (i + 1) cs → a ≡ checkOf (checkCard n (i + 1) c)
+        → a ≡ Check.Refused r → a ≡ checkOf (checkFrom n 1 cs)
+    unfolding checkFrom
+    check-stop {c} {a} {r} e f g =
+        let all : checkFrom n 1 cs ≡ refused r =
+        p .rest ∙ ap (checkFrom n (i + 1)) e ∙ after-refused _ _ (refused-check (checkCard n (i + 1) c) (sym f ∙ g))
+        in
+        g ∙ sym (ap checkOf all)
+
+    pub check-end : n ≤ i → length cs ≡ n → Check.Passed ≡ checkOf (checkFrom n 1 cs)
+    unfolding checkFrom
+    check-end h l =
+        let done : length cs ≤ i = omega arith in
+        sym (ap checkOf (p .rest ∙ ap (checkFrom n (i + 1)) (drop-of-length-le cs done)))
+
+-- Measuring.
+
+pub length-encode : (cs : List Card) → length (encode cs) ≡ 4 + length (encodeCards cs)
+unfolding encode
+length-encode cs = omega arith
+
+-- the sum of the first i cards' sizes, and of the header's
+pub record Measured (cs : List Card) (i total : ℕ) : Type 0 where
+  pub near : total ≤ 4 + 34 * i
+  pub rest : total + length (encodeCards (drop i cs)) ≡ length (encode cs)
+
+module _ (cs : List Card) where
+  pub measure-start : Measured cs 0 4
+  measure-start = record { near = omega arith; rest = sym (length-encode cs) }
+
+  module _ {i total : ℕ} (p : Measured cs i total) where
+    pub measure-more : {c : Card} {k : ℕ} → drop i cs ≡ c ∷ drop (i + 1) cs → k ≡ sizeOf c → Measured cs (i + 1) (total + k)
+    measure-more {c} {k} e f =
+        let l : length (encodeCards (drop i cs)) ≡ length (encodeCard c) + length (encodeCards (drop (i + 1) cs)) =
+        ap (λ (x : List Card). length (encodeCards x)) e ∙ length-append (encodeCard c) (encodeCards (drop (i + 1) cs))
+        in
+        record {
+          near = omega (arith, size-small (c .dam), p .near);
+          rest = omega (arith, p .rest, length-encodeCard c);
+        }
+
+    pub measure-end : length cs ≤ i → total ≡ length (encode cs)
+    measure-end h =
+        let l : length (encodeCards (drop i cs)) ≡ 0 = ap (λ (x : List Card). length (encodeCards x)) (drop-of-length-le cs h) in
+        omega (arith, p .rest)
+
+-- Putting.
+
+encodeCards-append : (a b : List Card) → encodeCards (a ++ b) ≡ encodeCards a ++ encodeCards b
+encodeCards-append [] b = refl
+encodeCards-append (c ∷ a) b =
+    ap (λ (x : List ℕ). encodeCard c ++ x) (encodeCards-append a b) ∙
+    sym (append-assoc (encodeCard c) (encodeCards a) (encodeCards b))
+
+-- the first i cards stand in a buffer from a place on
+pub record Placed (cs : List Card) (before : List ℕ) (start i : ℕ) (left : List ℕ) (next : ℕ) : Type 0 where
+  pub put : Put before start (encodeCards (take i cs)) left next
+  pub same : length left ≡ length before
+
+module _ (cs : List Card) (before : List ℕ) (start : ℕ) where
+  pub place-start : Placed cs before start 0 before start
+  place-start = record { put = record { buffer = refl; place = omega arith }; same = refl }
+
+  module _ {i : ℕ} {left : List ℕ} {next : ℕ} (p : Placed cs before start i left next) where
+    pub place-more : {c : Card} {after : List ℕ} {k : ℕ} → drop i cs ≡ c ∷ drop (i + 1) cs → Put left next (encodeCard c) after k
+        → length after ≡ length left → Placed cs before start (i + 1) after k
+    place-more {c} {after} {k} e q l =
+        record {
+          put = subst (λ (x : List ℕ). Put before start x after k) bytes (chain (p .put) q);
+          same = l ∙ p .same;
+        }
+      where
+        more : take (i + 1) cs ≡ take i cs ++ (c ∷ [])
+        more = take-add i 1 cs ∙ ap (λ (x : List Card). take i cs ++ take 1 x) e
+
+        bytes : encodeCards (take i cs) ++ encodeCard c ≡ encodeCards (take (i + 1) cs)
+        bytes =
+            ap (λ (x : List ℕ). encodeCards (take i cs) ++ x) (sym (append-nil (encodeCard c))) ∙
+            sym (encodeCards-append (take i cs) (c ∷ [])) ∙
+            ap encodeCards (sym more)
+
+    pub place-room : {c : Card} → drop i cs ≡ c ∷ drop (i + 1) cs → start ≡ 4 → length (encode cs) ≤ length before → next + sizeOf c ≤ length left
+    place-room {c} e f h =
+        let all : length (encodeCards cs) ≡ length (encodeCards (take i cs)) + length (encodeCards (drop i cs)) =
+        ap (λ (x : List Card). length (encodeCards x)) (sym (take-append-drop i cs)) ∙
+        ap (λ (x : List ℕ). length x) (encodeCards-append (take i cs) (drop i cs)) ∙
+        length-append (encodeCards (take i cs)) (encodeCards (drop i cs))
+        in
+        let rest : length (encodeCards (drop i cs)) ≡ length (encodeCard c) + length (encodeCards (drop (i + 1) cs)) =
+        ap (λ (x : List Card). length (encodeCards x)) e ∙ length-append (encodeCard c) (encodeCards (drop (i + 1) cs))
+        in
+        omega (arith, p .put .place, p .same, length-encode cs, length-encodeCard c)
+
+    pub place-end : {first : List ℕ} → length cs ≤ i → Put first 0 (encodeHeader (length cs)) before start → Put first 0 (encode cs) left next
+    unfolding encode
+    place-end h q =
+        chain q (subst (λ (x : List Card). Put before start (encodeCards x) left next) (take-all i cs h) (p .put))

@@ -1,0 +1,2 @@
+-- Laws of the writer that is lent the cards.
+pub mod Lent
