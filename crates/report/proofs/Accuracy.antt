@@ -16,9 +16,9 @@ use Rattle.decay.proofs.Algebra.{quote, certify, slack, number, Nonneg, _⊞_, 
 use Rattle.decay.proofs.Algebra.Rational.{*ᶠ-comm}
 use Rattle.river.specs.declared.card.Card.{Card}
 use Rattle.river.specs.Flow.{Feeders, more, fed, flowOf, reachFlow, deepest, reachDepth}
-use Rattle.river.specs.Saturation.{saturation}
+use Rattle.river.specs.Saturation.{saturationOf}
 use Rattle.river.specs.Head.{upstreamBod, upstreamOxygen, belowDam, headBod, headOxygen}
-use Rattle.river.proofs.head.Bounds.{saturation-small}
+use Rattle.river.proofs.head.Bounds.{saturation-of-small}
 use Rattle.report.specs.Program.{bodSum, oxygenSum, bodAtHead, oxygenAtHead, bodAt, oxygenAt, bodAlong, oxygenAlong, bodWith, factorsAlong, foot}
 use Rattle.report.specs.Recurrence.{exactSaturation, exactMean, exactBelowDam, exactHeadBod, exactHeadOxygen, exactBodSum, exactOxygenSum, exactBodAtHead, exactOxygenAtHead, exactBodAlong, exactOxygenAlong, exactBodAt, exactOxygenAt}
 use Rattle.report.proofs.Forest.{AcceptedReach, AllAccepted, no-more, one-more, rates-pass}
@@ -67,11 +67,11 @@ deficit-small cs c k p h low high hk =
       low = certify (cs ∷ c ∷ k ∷ []) (p ⊞ slack high ⊞ slack hk ⊞ number 999999872) (search quote depth 40 fits 9999) tt;
     }
 
-rounded-saturation : (T : ℕ) → Within (ofℕ (saturation T)) (exactSaturation T) (ofℕ 1)
-rounded-saturation T =
+rounded-saturation : (card : Card) → Within (ofℕ (saturationOf card)) (exactSaturation card) (ofℕ 1)
+rounded-saturation card =
     record {
-      high = certify (ofℕ (saturation T) ∷ exactSaturation T ∷ []) (slack (saturation-low T) ⊞ number 1) (search quote depth 40 fits 9999) tt;
-      low = certify (ofℕ (saturation T) ∷ exactSaturation T ∷ []) (slack (saturation-high T)) (search quote depth 40 fits 9999) tt;
+      high = certify (ofℕ (saturationOf card) ∷ exactSaturation card ∷ []) (slack (saturation-low card) ⊞ number 1) (search quote depth 40 fits 9999) tt;
+      low = certify (ofℕ (saturationOf card) ∷ exactSaturation card ∷ []) (slack (saturation-high card)) (search quote depth 40 fits 9999) tt;
     }
 
 -- the depth of a feeder's foot is at most that of all feeders together
@@ -106,14 +106,14 @@ module _ (N : ℕ) (long : 40 ≤ N) where
       let vx = exactMean (fed up) Qu (exactOxygenSum N up) in
       let wx = exactBelowDam card (fed up) Qu vx in
       let flowing = own .flows .flowing in
-      let steps : HeadSteps (ofℕ Qu) (ofℕ (Qu + card .inflow)) (ofℕ (card .inflow)) (ofℕ (bodSum up)) (ofℤ (oxygenSum up)) (ofℕ u) (ofℤ v) (ofℤ w) (ofℕ (bodAtHead card up)) (ofℤ (oxygenAtHead card up)) (exactBodSum N up) (exactOxygenSum N up) ux vx wx (exactBodAtHead N card up) (exactOxygenAtHead N card up) (ofℕ (1000 * card .inflow * card .«inflow_bod»)) (ofℕ (1000000 * card .load)) (ofℕ (1000 * card .inflow * card .«inflow_oxygen»)) (ofℕ (saturation (card .temperature))) (exactSaturation (card .temperature)) (damPart (fed up) (card .dam) Qu) =
+      let steps : HeadSteps (ofℕ Qu) (ofℕ (Qu + card .inflow)) (ofℕ (card .inflow)) (ofℕ (bodSum up)) (ofℤ (oxygenSum up)) (ofℕ u) (ofℤ v) (ofℤ w) (ofℕ (bodAtHead card up)) (ofℤ (oxygenAtHead card up)) (exactBodSum N up) (exactOxygenSum N up) ux vx wx (exactBodAtHead N card up) (exactOxygenAtHead N card up) (ofℕ (1000 * card .inflow * card .«inflow_bod»)) (ofℕ (1000000 * card .load)) (ofℕ (1000 * card .inflow * card .«inflow_oxygen»)) (ofℕ (saturationOf card)) (exactSaturation card) (damPart (fed up) (card .dam) Qu) =
       record {
         flowing = positive-whole flowing;
         inflowing = number (card .inflow);
         upstream = number Qu;
         flows = ofℕ-+ Qu (card .inflow);
-        saturation-low = saturation-low (card .temperature);
-        saturation-high = saturation-high (card .temperature);
+        saturation-low = saturation-low card;
+        saturation-high = saturation-high card;
         bod-mean = bod-mean above;
         oxygen-mean = oxygen-mean above;
         dam = below-dam card above (own .dam) v;
@@ -134,8 +134,8 @@ module _ (N : ℕ) (long : 40 ≤ N) where
       let f = factorsAlong card Q m in
       let L = bodAtHead card up in
       let C = oxygenAtHead card up in
-      let Cs = saturation (card .temperature) in
-      let Csx = exactSaturation (card .temperature) in
+      let Cs = saturationOf card in
+      let Csx = exactSaturation card in
       let S₁ = S N (exponent (card .k1) (card .volume) Q m) in
       let F₁ = F N (card .k1) (card .k2) (card .volume) Q m in
       let S₂ = S N (exponent (card .k2) (card .volume) Q m) in
@@ -152,8 +152,8 @@ module _ (N : ℕ) (long : 40 ≤ N) where
         turned-floored = product-floored (f .turned) L;
         kept-floored = kept-floored f Cs C;
         head-bod = number L;
-        head-deficit = deficit-small (ofℕ Cs) (ofℤ C) (ofℕ (20000000 + deepest up)) (number Cs) (ofℕ-mono (saturation-small (card .temperature) (own .fields .temperature))) (range .oxygen-low) (range .oxygen-high) (ofℕ-mono (omega arith));
-        saturation-near = rounded-saturation (card .temperature);
+        head-deficit = deficit-small (ofℕ Cs) (ofℤ C) (ofℕ (20000000 + deepest up)) (number Cs) (ofℕ-mono (saturation-of-small card (own .fields .temperature))) (range .oxygen-low) (range .oxygen-high) (ofℕ-mono (omega arith));
+        saturation-near = rounded-saturation card;
       }
       in
       near-weaken (reach-adds ε (ofℕ L) (ofℕ (18 * deepest up)) ε-nonneg ε-equation (range .bod-range) (ofℕ-mono (omega arith)))

@@ -9,7 +9,7 @@ use Rattle.river.specs.declared.card.Dam.{Dam}
 use Rattle.river.specs.declared.card.Dam.the-variants.{Absent, Aerating}
 use Rattle.river.specs.Card.{LawfulDam}
 use Rattle.river.specs.Flow.{Feeders, none, more, joinedIf, feedersAmong, above, fed, flowOf, massOf, deepest, DamRule}
-use Rattle.river.specs.Saturation.{saturation, saturationThousandths}
+use Rattle.river.specs.Saturation.{saturation, saturationThousandths, saturationOf}
 use Rattle.river.specs.Head.{floor, upstreamBod, upstreamOxygen, aerated, belowDam, headBod, headOxygen}
 use Rattle.river.proofs.Bench.{first, second, two, Rows as FlowRows, bench as flow-bench}
 use Rattle.report.specs.Program.{figuresAt, bodSum, oxygenSum, bodAtHead, oxygenAtHead, bodAt, oxygenAt, foot}
@@ -80,7 +80,7 @@ head-2 =
     (ap (headBod (second Absent) true 3000) (foot-1 .0), ap (headOxygen (second Absent) true 3000) (foot-1 .1))
 
 head-weir : (bodAtHead (second weir) feeders ≡ 9000000) × (oxygenAtHead (second weir) feeders ≡ pos 6755451)
-unfolding bodAtHead oxygenAtHead fed flowOf headBod headOxygen upstreamBod upstreamOxygen belowDam aerated floor saturation saturationThousandths
+unfolding bodAtHead oxygenAtHead fed flowOf headBod headOxygen upstreamBod upstreamOxygen belowDam aerated floor saturation saturationThousandths saturationOf
 head-weir =
     (ap (headBod (second weir) true 3000) (foot-1 .0), ap (headOxygen (second weir) true 3000) (foot-1 .1))
 
@@ -89,7 +89,7 @@ abbrev upstream : Feeders → ℤ
 upstream up = upstreamOxygen (fed up) (flowOf up) (oxygenSum up)
 
 below-weir : belowDam (second weir) (fed feeders) (flowOf feeders) (upstream feeders) ≡ pos 8340602
-unfolding fed flowOf upstreamOxygen belowDam aerated floor saturation saturationThousandths
+unfolding fed flowOf upstreamOxygen belowDam aerated floor saturation saturationThousandths saturationOf
 below-weir =
     ap (λ (sum : ℤ). belowDam (second weir) true 3000 (upstreamOxygen true 3000 sum)) (foot-1 .1)
 

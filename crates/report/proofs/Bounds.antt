@@ -13,9 +13,9 @@ use Rattle.decay.specs.Promise.{share}
 use Rattle.decay.proofs.Algebra.{Nonneg, quote, slack, number, _⊞_, _⊠_, multiple, certify, ≈-refl, ≈-sym, ≈-trans, ≼-trans, ≼-of-≈, ≼-by, ≼-refl, +ᶠ-cong, *ᶠ-cong, ofℤ-+, ofℤ-*, Positive, positive-whole, positive-nonneg, certify-over, none as no-equations, ofℕ-reflect, ofℤ-reflect, ofℕ-mono, ofℕ-+, ofℕ-*}
 use Rattle.river.specs.declared.card.Card.{Card}
 use Rattle.river.specs.Flow.{Feeders, more, fed, flowOf, reachFlow, massOf, reachMass, deepest, reachDepth}
-use Rattle.river.specs.Saturation.{saturation}
+use Rattle.river.specs.Saturation.{saturationOf, SaturationInRange}
 use Rattle.river.specs.Head.{upstreamBod, upstreamOxygen, belowDam, headBod, headOxygen}
-use Rattle.river.proofs.head.Bounds.{saturation-small}
+use Rattle.river.proofs.head.Bounds.{saturation-of-small}
 use Rattle.report.specs.Program.{bodSum, oxygenSum, bodAtHead, oxygenAtHead, bodAt, oxygenAt, bodAlong, oxygenAlong, bodWith, factorsAlong, foot}
 use Rattle.report.proofs.Facts.Floor.{Rounded}
 use Rattle.report.proofs.Forest.{AcceptedReach, AllAccepted, no-more, one-more}
@@ -95,8 +95,8 @@ bounded-by {bod} {oxygen} {Q} {mass} {deep} {k} {mass′} {deep′} {k′} hm hd
       oxygen-above = certify (oxygen ∷ Q ∷ k ∷ k′ ∷ []) (slack (b .oxygen-above) ⊞ pQ ⊠ slack hk) (search quote depth 40 fits 9999) tt;
     }
 
-saturation-below : (T d : ℕ) → T ≤ 35 → ofℕ (saturation T) ≼ ofℕ (20000000 + d)
-saturation-below T d h = ofℕ-mono (omega (arith, saturation-small T h))
+saturation-below : (card : Card) (d : ℕ) → SaturationInRange card → ofℕ (saturationOf card) ≼ ofℕ (20000000 + d)
+saturation-below card d h = ofℕ-mono (omega (arith, saturation-of-small card h))
 
 head-in-bounds : {card : Card} {up : Feeders} → AcceptedReach card up → AllAccepted up → FeetBounded up → HeadBounded card up
 unfolding bodAtHead oxygenAtHead headBod headOxygen
@@ -114,8 +114,8 @@ head-in-bounds {card} {up} own above b =
     (≼-by (≈-sym (ofℕ-+₄ (3 * deepest up * Qu) Qu Qu (Qu + i))) (ofℕ-mono (deeper (deepest up) Qu i)) (≈-refl (ofℕ (3 * reachDepth up * reachFlow card up))))
     (≼-refl (ofℕ k))
     (number (reachFlow card up))
-    (head-bounded (ofℕ Qu) (ofℕ (Qu + i)) (ofℕ i) (ofℕ (bodSum up)) (ofℤ (oxygenSum up)) (ofℕ u) (ofℤ v) (ofℤ (belowDam card (fed up) Qu v)) (ofℕ (bodAtHead card up)) (ofℤ (oxygenAtHead card up)) (ofℕ W₁) (ofℕ W₂) (ofℕ W₃) (ofℕ (saturation (card .temperature))) (damPart (fed up) (card .dam) Qu) (ofℕ (1000 * massOf up)) (ofℕ (3 * deepest up * Qu)) (ofℕ k)
-    (number Qu) (number (3 * deepest up * Qu)) (number (saturation (card .temperature))) (saturation-below (card .temperature) (deepest up) (own .fields .temperature)) (number W₃)
+    (head-bounded (ofℕ Qu) (ofℕ (Qu + i)) (ofℕ i) (ofℕ (bodSum up)) (ofℤ (oxygenSum up)) (ofℕ u) (ofℤ v) (ofℤ (belowDam card (fed up) Qu v)) (ofℕ (bodAtHead card up)) (ofℤ (oxygenAtHead card up)) (ofℕ W₁) (ofℕ W₂) (ofℕ W₃) (ofℕ (saturationOf card)) (damPart (fed up) (card .dam) Qu) (ofℕ (1000 * massOf up)) (ofℕ (3 * deepest up * Qu)) (ofℕ k)
+    (number Qu) (number (3 * deepest up * Qu)) (number (saturationOf card)) (saturation-below card (deepest up) (own .fields .temperature)) (number W₃)
     (≼-by (≈-refl (ofℕ W₃)) (ofℕ-mono (oxygen-in i (card .«inflow_oxygen») (deepest up) (own .fields .inflow-oxygen))) (ofℕ-* i k))
     (ofℕ-+ Qu i) (bod-mean above) (oxygen-mean above) (below-dam card above (own .dam) v) (bod-mixed card Qu u (own .flows .flowing)) (oxygen-mixed card Qu (belowDam card (fed up) Qu v) (own .flows .flowing)) b)
   where
@@ -144,13 +144,13 @@ instant-in-bounds {card} {up} own b m =
     let f = factorsAlong card Q m in
     let L = bodAtHead card up in
     let C = oxygenAtHead card up in
-    let Cs = saturation (card .temperature) in
+    let Cs = saturationOf card in
     let k = 20000000 + deepest up in
     let deep = 3 * reachDepth up * Q in
     bounded-by (≼-refl (ofℕ (1000 * reachMass card up))) (≼-refl (ofℕ deep)) (≼-by (≈-sym (ofℕ-+ k 1)) (ofℕ-mono (one-more-unit (deepest up))) (≈-refl (ofℕ (20000000 + reachDepth up)))) (number Q)
     (bounded-at (*ᶠ-cong (≈-refl (ofℕ Q)) (≈-sym (oxygen-parts f Cs L C)))
     (instant-bounded (ofℕ Q) (ofℕ L) (ofℤ C) (ofℕ Cs) (share (f .left)) (share (f .turned)) (share (f .kept)) (ofℕ (product (f .left) L)) (ofℕ (product (f .turned) L)) (ofℤ (keptDeficit f Cs C)) (ofℕ (1000 * reachMass card up)) (ofℕ deep) (ofℕ k)
-    (number Q) (number L) (number deep) (number Cs) (saturation-below (card .temperature) (deepest up) (own .fields .temperature)) (shares-in-range f (factors-range own m)) (number (product (f .turned) L)) (product-floored (f .left) L) (product-floored (f .turned) L) (kept-floored f Cs C) b))
+    (number Q) (number L) (number deep) (number Cs) (saturation-below card (deepest up) (own .fields .temperature)) (shares-in-range f (factors-range own m)) (number (product (f .turned) L)) (product-floored (f .left) L) (product-floored (f .turned) L) (kept-floored f Cs C) b))
   where
     one-more-unit : (d : ℕ) → 20000000 + d + 1 ≤ 20000000 + (1 + d)
     one-more-unit d = omega arith

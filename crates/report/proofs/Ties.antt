@@ -12,7 +12,7 @@ use Rattle.decay.proofs.factors.Instants.{range, bod-tie, deficit-tie}
 use Rattle.decay.specs.declared.factors.Factors.{Factors}
 use Rattle.river.specs.declared.card.Card.{Card}
 use Rattle.river.specs.Flow.{Feeders, reachFlow, reachDepth}
-use Rattle.river.specs.Saturation.{saturation}
+use Rattle.river.specs.Saturation.{saturationOf}
 use Rattle.report.specs.Program.{bodWith, oxygenWith, factorsAlong, bodAlong, oxygenAlong, bodAt, oxygenAt, bodAtHead, oxygenAtHead, figuresOf, foot}
 use Rattle.report.proofs.Lowest.{lowest-constant}
 use Rattle.report.proofs.Forest.{AcceptedReach, rates-pass}
@@ -53,7 +53,7 @@ module _ {card : Card} {up : Feeders} (a : AcceptedReach card up) where
   pub reach-oxygen-stays : card .k1 * card .volume ≡ 0 → card .k2 * card .volume ≡ 0 → (m : ℕ) → oxygenAt card up m ≡ oxygenAtHead card up
   unfolding oxygenAt oxygenAlong factorsAlong
   reach-oxygen-stays h k m =
-      oxygen-stays _ (saturation (card .temperature)) (bodAtHead card up) (oxygenAtHead card up) (bod-tie (card .k1) (card .k2) (card .volume) (reachFlow card up) (rates-pass a) h m .1) (deficit-tie (card .k1) (card .k2) (card .volume) (reachFlow card up) (rates-pass a) k m)
+      oxygen-stays _ (saturationOf card) (bodAtHead card up) (oxygenAtHead card up) (bod-tie (card .k1) (card .k2) (card .volume) (reachFlow card up) (rates-pass a) h m .1) (deficit-tie (card .k1) (card .k2) (card .volume) (reachFlow card up) (rates-pass a) k m)
 
   -- and then the figures are those of the head, and the head is critical
   pub still-figures :

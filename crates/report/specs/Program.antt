@@ -11,7 +11,7 @@ use Rattle.decay.specs.Promise.{factorsOf}
 use Rattle.decay.specs.declared.factors.Factors.{Factors}
 use Rattle.river.specs.declared.card.Card.{Card}
 use Rattle.river.specs.Flow.{Feeders, none, more, fed, flowOf, reachFlow, reachDepth, cardOf, above}
-use Rattle.river.specs.Saturation.{saturation}
+use Rattle.river.specs.Saturation.{saturationOf}
 use Rattle.river.specs.Head.{floor, headBod, headOxygen}
 use Rattle.report.specs.Record.{Figures}
 
@@ -33,7 +33,7 @@ unfoldable pub bodAlong : Card → (Q L m : ℕ) → ℕ
 bodAlong card Q L m = bodWith (factorsAlong card Q m) L
 
 unfoldable pub oxygenAlong : Card → (Q L : ℕ) (C : ℤ) (m : ℕ) → ℤ
-oxygenAlong card Q L C m = oxygenWith (factorsAlong card Q m) (saturation (card .temperature)) L C
+oxygenAlong card Q L C m = oxygenWith (factorsAlong card Q m) (saturationOf card) L C
 
 -- the sum over the feeders of Q × foot BOD
 unfoldable pub bodSum : Feeders → ℕ

@@ -10,9 +10,9 @@ use Rattle.river.specs.declared.card.Card.{Card}
 use Rattle.river.specs.Flow.{Feeders, none, more, fed, flowOf, reachFlow}
 use Rattle.river.specs.Saturation.{saturationThousandths}
 
--- saturation, unrounded
-unfoldable pub exactSaturation : (temperature : ℕ) → Fraction
-exactSaturation temperature = ofℕ (saturationThousandths temperature) ÷ ofℕ 1_000
+-- saturation of a reach, unrounded
+unfoldable pub exactSaturation : Card → Fraction
+exactSaturation card = ofℕ (saturationThousandths (card .temperature)) ÷ ofℕ 1_000
 
 -- 1. upstream BOD or oxygen: the flow-weighted mean of the feeders' exact foot values, 0 without feeders
 unfoldable pub exactMean : (fed : Bool) (Qu : ℕ) (sum : Fraction) → Fraction
@@ -28,7 +28,7 @@ exactAerated (Aerating share generating) Cs Qu C =
 -- 2. the dam of a reach, skipped without feeders
 unfoldable pub exactBelowDam : Card → (fed : Bool) (Qu : ℕ) (C : Fraction) → Fraction
 exactBelowDam card false Qu C = C
-exactBelowDam card true Qu C = exactAerated (card .dam) (exactSaturation (card .temperature)) Qu C
+exactBelowDam card true Qu C = exactAerated (card .dam) (exactSaturation card) Qu C
 
 -- 3. mixing with inflow and load
 unfoldable pub exactMixedBod : Card → (Qu : ℕ) (upstream : Fraction) → Fraction
@@ -55,7 +55,7 @@ module _ (N : ℕ) where
   -- oxygen at instant m, with head oxygen C too: Cs − F × L − S(x2) × (Cs − C)
   unfoldable pub exactOxygenAlong : Card → (Q : ℕ) (L C : Fraction) (m : ℕ) → Fraction
   exactOxygenAlong card Q L C m =
-      let Cs = exactSaturation (card .temperature) in
+      let Cs = exactSaturation card in
       Cs -ᶠ F N (card .k1) (card .k2) (card .volume) Q m *ᶠ L -ᶠ S N (exponent (card .k2) (card .volume) Q m) *ᶠ (Cs -ᶠ C)
 
   -- the sum over the feeders of Q × exact foot BOD

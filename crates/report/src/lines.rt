@@ -22,16 +22,17 @@ ghost use Rattle.report.specs.Program.{figuresAt, figuresBelow};
 ghost use Rattle.report.specs.Record.{figuresIn, encodeRecord};
 ghost use Rattle.report.specs.Lines.{Ready, FeetOf, LineOf};
 ghost use Rattle.report.specs.Report.{reportOf};
+ghost use Rattle.river.specs.Saturation.{SaturationInRange};
 ghost use Rattle.river.specs.Stored.{oxygenOf};
 
 // The figures of a reach with this card, flow and depth, below this head.
 pub fn line_of(card: Card, flow: u32, depth: u8, head: Head) -> Line
-    requires { ⌜ RatesPass (card .k1) (card .k2) (card .volume) flow × (card .temperature ≤ 35) ⌝ }
+    requires { ⌜ RatesPass (card .k1) (card .k2) (card .volume) flow × SaturationInRange card ⌝ }
     requires { ⌜ (head .bod ≤ 1000000000) × (1000000000 ≤ head .oxygen) ⌝ }
     ensures { λ r. ⌜ figuresIn r ≡ figuresBelow card depth flow (head .bod) (oxygenOf (head .oxygen)) ⌝ }
 {
     let step = step::step_of(card.k1, card.k2, card.volume, flow);
-    let saturation = head::saturation(card.temperature);
+    let saturation = head::saturation_of(card);
     let start = Start {
         bod: head.bod as u64,
         oxygen: head.oxygen as u64,

@@ -9,7 +9,7 @@ use Rattle.river.specs.declared.card.Card.{Card}
 use Rattle.river.specs.Refusal.{accepted, refused, refuse, need, after}
 use Rattle.river.specs.Read.{readFile, readHeader}
 use Rattle.river.specs.Flow.{fed, above, flowOf, massOf, deepest, feedersAmong, joinedIf, flowAt, depthAt, damFits, flowCheck, checksFrom, reachChecks, checksOf}
-use Rattle.river.specs.Saturation.{saturation, saturationThousandths}
+use Rattle.river.specs.Saturation.{saturation, saturationThousandths, saturationOf}
 use Rattle.river.specs.Head.{floor, upstreamBod, upstreamOxygen, aerated, belowDam, headBod, headOxygen}
 use Rattle.river.specs.Accept.{acceptFile}
 
@@ -70,7 +70,7 @@ pub record Rows : Type 0 where
   pub empty-file : acceptFile [] ≡ refused (refuse 1 0)
 
 pub bench : Rows
-unfolding saturation saturationThousandths flowCheck checksFrom reachChecks checksOf need damFits fed flowOf massOf deepest feedersAmong joinedIf headBod headOxygen upstreamBod upstreamOxygen belowDam aerated floor acceptFile readFile readHeader after
+unfolding saturation saturationThousandths saturationOf flowCheck checksFrom reachChecks checksOf need damFits fed flowOf massOf deepest feedersAmong joinedIf headBod headOxygen upstreamBod upstreamOxygen belowDam aerated floor acceptFile readFile readHeader after
 bench =
     record {
       saturation-0 = refl;

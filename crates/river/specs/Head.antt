@@ -6,7 +6,7 @@ use lib.IntN.{ℤ, pos, negsuc, _+ℤ_, _-ℤ_, _*ℤ_}
 use Rattle.river.specs.declared.card.Dam.{Dam}
 use Rattle.river.specs.declared.card.Dam.the-variants.{Absent, Aerating}
 use Rattle.river.specs.declared.card.Card.{Card}
-use Rattle.river.specs.Saturation.{saturation}
+use Rattle.river.specs.Saturation.{saturationOf}
 
 -- a signed number over a positive one, rounded down: −(n + 1) over d is −(n / d + 1)
 unfoldable pub floor : ℤ → ℕ → ℤ
@@ -29,10 +29,10 @@ aerated Absent saturated Qu C = C
 aerated (Aerating share generating) saturated Qu C =
     C +ℤ floor ((pos saturated -ℤ C) *ℤ pos (share * (Qu - generating))) (1000 * Qu)
 
--- 2. the dam of a reach, skipped without feeders; saturation is that at the reach's own temperature
+-- 2. the dam of a reach, skipped without feeders; saturation is the reach's own
 unfoldable pub belowDam : Card → (fed : Bool) (Qu : ℕ) → ℤ → ℤ
 belowDam card false Qu C = C
-belowDam card true Qu C = aerated (card .dam) (saturation (card .temperature)) Qu C
+belowDam card true Qu C = aerated (card .dam) (saturationOf card) Qu C
 
 -- 3. mixing with inflow and load
 abbrev pub mixedBod : Card → (Qu upstream : ℕ) → ℕ

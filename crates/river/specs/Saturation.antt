@@ -1,5 +1,6 @@
--- Saturation of oxygen at a temperature in degrees C, by the polynomial of document 01.
-use Prim.Native.Nat.{ℕ, _+_, _*_, _-_, _/_}
+-- Saturation of oxygen: at a temperature in degrees C, by the polynomial of document 01, and of a reach, by its card.
+use Prim.Native.Nat.{ℕ, _+_, _*_, _-_, _/_, _≤_}
+use Rattle.river.specs.declared.card.Card.{Card}
 
 -- exact saturation, in thousandths of a unit: 14.652 − 0.41022 T + 0.007991 T² − 0.000077774 T³ mg/L, which is above zero from 0 to 35 degrees
 unfoldable pub saturationThousandths : ℕ → ℕ
@@ -8,3 +9,11 @@ saturationThousandths T = 14652000000 + 7991000 * (T * T) - (410220000 * T + 777
 -- saturation rounded to a unit
 unfoldable pub saturation : ℕ → ℕ
 saturation T = saturationThousandths T / 1000
+
+-- saturation of a reach, for its dam too: that at its own temperature
+unfoldable pub saturationOf : Card → ℕ
+saturationOf card = saturation (card .temperature)
+
+-- what saturation asks of a card: a temperature from 0 to 35 degrees
+abbrev pub SaturationInRange : Card → Type 0
+SaturationInRange card = card .temperature ≤ 35

@@ -6,6 +6,7 @@ ghost use lib.ListN.{set};
 ghost use lib.IntN.{pos, subℕ, _+ℤ_, _-ℤ_, _*ℤ_};
 ghost use Rattle.river.specs.Flow.{ownMass};
 ghost use Rattle.river.specs.Saturation as Sat;
+ghost use Rattle.river.specs.Saturation.{saturationOf, SaturationInRange};
 ghost use Rattle.river.specs.Head.{floor, upstreamBod, upstreamOxygen, belowDam, headBod, headOxygen};
 ghost use Rattle.river.specs.Card.{river};
 ghost use Rattle.river.specs.Stored.{oxygenOf};
@@ -36,6 +37,14 @@ pub fn saturation(temperature: u8) -> u32
     let t = temperature as u64;
     let square = t * t;
     ((14652000000 + 7991000 * square - (410220000 * t + 77774 * (square * t))) / 1000) as u32
+}
+
+// Saturation of a reach in units.
+pub fn saturation_of(card: Card) -> u32
+    requires { ⌜ SaturationInRange card ⌝ }
+    ensures { λ r. ⌜ r ≡ saturationOf card ⌝ }
+{
+    saturation(card.temperature)
 }
 
 // The floor of a * b / d by long division in two chunks of 16 bits of a.
@@ -72,7 +81,7 @@ fn below_dam(card: Card, qu: u64, oxygen: u32) -> u32
         Dam::Absent => oxygen,
         Dam::Aerating { share, generating } => aerate(
             oxygen,
-            2147483648 + saturation(card.temperature),
+            2147483648 + saturation_of(card),
             (share as u64) * (qu - generating as u64),
             1000 * qu,
         ),

@@ -10,19 +10,19 @@ use Rattle.river.specs.declared.card.Dam.{Dam}
 use Rattle.river.specs.declared.card.Dam.the-variants.{Absent, Aerating}
 use Rattle.river.specs.declared.card.Card.{Card}
 use Rattle.river.specs.Flow.{Feeders, more, fed, flowOf}
-use Rattle.river.specs.Saturation.{saturation, saturationThousandths}
+use Rattle.river.specs.Saturation.{saturation, saturationThousandths, saturationOf}
 use Rattle.report.specs.Recurrence.{exactSaturation, exactMean, exactAerated, exactBelowDam, exactMixedBod, exactMixedOxygen, exactBodSum, exactOxygenSum}
 use Rattle.report.proofs.Forest.{AllAccepted, no-more, one-more}
 use Rattle.report.proofs.Facts.Head.{feeders-flow, damPart}
 
 -- rounded saturation lies less than a unit below saturation
-pub saturation-low : (T : ℕ) → ofℕ (saturation T) ≼ exactSaturation T
-unfolding saturation exactSaturation
-saturation-low T = floor-low (saturationThousandths T) (lit< tt)
+pub saturation-low : (card : Card) → ofℕ (saturationOf card) ≼ exactSaturation card
+unfolding saturationOf saturation exactSaturation
+saturation-low card = floor-low (saturationThousandths (card .temperature)) (lit< tt)
 
-pub saturation-high : (T : ℕ) → exactSaturation T ≼ ofℕ (saturation T) +ᶠ ofℕ 1
-unfolding saturation exactSaturation
-saturation-high T = floor-high (saturationThousandths T) (lit< tt)
+pub saturation-high : (card : Card) → exactSaturation card ≼ ofℕ (saturationOf card) +ᶠ ofℕ 1
+unfolding saturationOf saturation exactSaturation
+saturation-high card = floor-high (saturationThousandths (card .temperature)) (lit< tt)
 
 -- a quotient times its divisor
 times : (total : Fraction) (d : ℕ) → 0 < d → ofℕ d *ᶠ (total ÷ ofℕ d) ≈ total
@@ -56,11 +56,11 @@ exact-aerated (Aerating share generating) Cs Qu C = quotient (ofℕ (share * (Qu
     quotient n d =
         ring-by (Cs ∷ C ∷ n ∷ (n ÷ d) ∷ ((Cs -ᶠ C) *ᶠ n ÷ d) ∷ (ofℕ 1 ÷ d) ∷ []) (ofℕ 1 ⋅ ÷-reciprocal ((Cs -ᶠ C) *ᶠ n) d & (Cs -ᶠ C) ⋅ ÷-reciprocal n d & no-equations) (search quote depth 40 fits 9999) tt
 
-pub exact-below-dam : (card : Card) (t : Bool) (Qu : ℕ) (C : Fraction) → exactBelowDam card t Qu C ≈ C +ᶠ (exactSaturation (card .temperature) -ᶠ C) *ᶠ damPart t (card .dam) Qu
+pub exact-below-dam : (card : Card) (t : Bool) (Qu : ℕ) (C : Fraction) → exactBelowDam card t Qu C ≈ C +ᶠ (exactSaturation card -ᶠ C) *ᶠ damPart t (card .dam) Qu
 unfolding exactBelowDam damPart
 exact-below-dam card false Qu C =
-    ring (exactSaturation (card .temperature) ∷ C ∷ []) (search quote depth 40 fits 9999) tt
-exact-below-dam card true Qu C = exact-aerated (card .dam) (exactSaturation (card .temperature)) Qu C
+    ring (exactSaturation card ∷ C ∷ []) (search quote depth 40 fits 9999) tt
+exact-below-dam card true Qu C = exact-aerated (card .dam) (exactSaturation card) Qu C
 
 -- mixing times Q
 pub exact-bod-mixed : (card : Card) (Qu : ℕ) (upstream : Fraction) → 0 < Qu + card .inflow → ofℕ (Qu + card .inflow) *ᶠ exactMixedBod card Qu upstream ≈ ofℕ Qu *ᶠ upstream +ᶠ ofℕ (1000 * card .inflow * card .«inflow_bod») +ᶠ ofℕ (1000000 * card .load)

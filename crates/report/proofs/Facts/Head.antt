@@ -12,7 +12,7 @@ use Rattle.river.specs.declared.card.Dam.the-variants.{Absent, Aerating}
 use Rattle.river.specs.declared.card.Card.{Card}
 use Rattle.river.specs.Card.{LawfulDam}
 use Rattle.river.specs.Flow.{Feeders, more, fed, flowOf}
-use Rattle.river.specs.Saturation.{saturation}
+use Rattle.river.specs.Saturation.{saturationOf}
 use Rattle.river.specs.Head.{floor, upstreamBod, upstreamOxygen, aerated, belowDam, mixedBod, mixedOxygen}
 use Rattle.report.specs.Program.{bodSum, oxygenSum}
 use Rattle.report.proofs.Facts.Floor.{Rounded, floor-rounded, ofℤ-sub}
@@ -115,11 +115,11 @@ aerated-dammed (Aerating share generating) saturated Qu C p h =
     part-dammed saturated (share * (Qu - generating)) (1000 * Qu) C (omega arith) (mul-le-mul (h .share) (omega arith))
 
 -- oxygen below the dam of an accepted reach
-pub below-dam : (card : Card) {up : Feeders} → AllAccepted up → LawfulDam (card .dam) → (C : ℤ) → Dammed (ofℤ C) (ofℕ (saturation (card .temperature))) (damPart (fed up) (card .dam) (flowOf up)) (ofℤ (belowDam card (fed up) (flowOf up) C))
+pub below-dam : (card : Card) {up : Feeders} → AllAccepted up → LawfulDam (card .dam) → (C : ℤ) → Dammed (ofℤ C) (ofℕ (saturationOf card)) (damPart (fed up) (card .dam) (flowOf up)) (ofℤ (belowDam card (fed up) (flowOf up) C))
 unfolding fed belowDam damPart
-below-dam card no-more h C = unchanged (ofℤ C) (ofℕ (saturation (card .temperature)))
+below-dam card no-more h C = unchanged (ofℤ C) (ofℕ (saturationOf card))
 below-dam card (one-more {card = feeder} {up} {rest} own above others) h C =
-    aerated-dammed (card .dam) (saturation (card .temperature)) (flowOf (more feeder up rest)) C (feeders-flow (one-more own above others)) h
+    aerated-dammed (card .dam) (saturationOf card) (flowOf (more feeder up rest)) C (feeders-flow (one-more own above others)) h
 
 -- sums of naturals, embedded
 pub ofℕ-+₃ : (a b c : ℕ) → ofℕ (a + b + c) ≈ ofℕ a +ᶠ ofℕ b +ᶠ ofℕ c

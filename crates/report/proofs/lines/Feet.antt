@@ -16,6 +16,7 @@ use Rattle.river.specs.declared.card.Card.{Card}
 use Rattle.river.specs.declared.flow.FlowTable.{FlowTable}
 use Rattle.river.specs.declared.head.FootTable.{FootTable}
 use Rattle.river.specs.declared.head.Head.{Head}
+use Rattle.river.specs.Saturation.{SaturationInRange}
 use Rattle.river.specs.Card.{Lawful, blank}
 use Rattle.river.specs.Flow.{feedersAmong, fed, flowOf, reachFlow, flowAt, massAt, depthAt, Flows}
 use Rattle.river.specs.Head.{headBod, headOxygen}
@@ -140,8 +141,8 @@ module _ {cards : List Card} {flows : FlowTable} {feet : FootTable} {i : ℕ} (r
   pub reach-passed : {card : Card} {flow : ℕ} → card ≡ getD cards i blank → flow ≡ flowAt cards (suc i) → RatesPass (card .k1) (card .k2) (card .volume) flow
   reach-passed ec ef = rw (ec, ef) (rates-pass (reach-accepted cards (ready .lawful) (ready .sound) i l))
 
-  pub reach-temperature : {card : Card} → card ≡ getD cards i blank → card .temperature ≤ 35
-  reach-temperature ec = rw ec (reach-accepted cards (ready .lawful) (ready .sound) i l .fields .temperature)
+  pub reach-saturation : {card : Card} → card ≡ getD cards i blank → SaturationInRange card
+  reach-saturation ec = rw ec (reach-accepted cards (ready .lawful) (ready .sound) i l .fields .temperature)
 
   pub reach-flow-small : flowAt cards (suc i) ≤ 100000000
   reach-flow-small = reach-accepted cards (ready .lawful) (ready .sound) i l .flows .bounded

@@ -10,8 +10,8 @@ use Rattle.decay.proofs.fixed.Digits.{share-below}
 use Rattle.decay.proofs.factors.Instants.{range}
 use Rattle.decay.proofs.step.Shares.{step-sound}
 use Rattle.river.specs.declared.card.Card.{Card}
-use Rattle.river.specs.Saturation.{saturation}
-use Rattle.river.proofs.head.Bounds.{saturation-small}
+use Rattle.river.specs.Saturation.{saturationOf, SaturationInRange}
+use Rattle.river.proofs.head.Bounds.{saturation-of-small}
 use Rattle.report.specs.Program.{bodWith, factorsAlong, bodAlong, oxygenAlong, foot, figuresBelow}
 use Rattle.report.specs.Profile.{StartInRange, Profiled, oxygenAfter}
 use Rattle.report.specs.Record.{figuresIn}
@@ -22,15 +22,15 @@ use Rattle.river.specs.Stored.{oxygenOf}
 
 -- the ranges of a start, and the shares of its step
 pub start-range :
-    {bod oxygen saturated : ℕ} (T : ℕ) →
+    {bod oxygen saturated : ℕ} (card : Card) →
     bod ≤ 1000000000 →
     1000000000 ≤ oxygen →
     oxygen < 4294967296 →
-    T ≤ 35 →
-    saturated ≡ saturation T →
+    SaturationInRange card →
+    saturated ≡ saturationOf card →
     StartInRange (record { bod = bod; oxygen = oxygen; saturation = saturated })
-start-range T b l h t e =
-    record { bod = b; low = l; high = h; saturation = rw e (omega (arith, saturation-small T t)) }
+start-range card b l h t e =
+    record { bod = b; low = l; high = h; saturation = rw e (omega (arith, saturation-of-small card t)) }
 
 pub start-sound : {step : Step} {k1 k2 volume flow : ℕ} → step ≡ stepOf k1 k2 volume flow → RatesPass k1 k2 volume flow → SoundStep step
 start-sound e p = rw e (step-sound _ _ _ _ p)
@@ -52,7 +52,7 @@ critical-within {step} {start} profiled =
 module _ (card : Card) (flow depth bod oxygen saturated : ℕ) (step : Step) (p : Profile) where
   pub line-figures :
       step ≡ stepOf (card .k1) (card .k2) (card .volume) flow →
-      saturated ≡ saturation (card .temperature) →
+      saturated ≡ saturationOf card →
       Profiled step (record { bod = bod; oxygen = oxygen; saturation = saturated }) p →
       figuresIn (record {
         depth = depth;
@@ -66,5 +66,5 @@ module _ (card : Card) (flow depth bod oxygen saturated : ℕ) (step : Step) (p 
       }) ≡ figuresBelow card depth flow bod (oxygenOf oxygen)
   unfolding bodAlong oxygenAlong factorsAlong
   line-figures e s made =
-      let m : Profiled (stepOf (card .k1) (card .k2) (card .volume) flow) (record { bod = bod; oxygen = oxygen; saturation = saturation (card .temperature) }) p = rw (e, s) at made in
+      let m : Profiled (stepOf (card .k1) (card .k2) (card .volume) flow) (record { bod = bod; oxygen = oxygen; saturation = saturationOf card }) p = rw (e, s) at made in
       cc (m .foot-bod, m .foot-oxygen .is, m .critical-instant, m .critical-oxygen .is)

@@ -8,7 +8,7 @@ use Rattle.river.specs.declared.card.Dam.{Dam}
 use Rattle.river.specs.declared.card.Dam.the-variants.{Aerating}
 use Rattle.river.specs.declared.card.Card.{Card}
 use Rattle.river.specs.Flow.{ownMass}
-use Rattle.river.specs.Saturation.{saturation, saturationThousandths}
+use Rattle.river.specs.Saturation.{saturation, saturationThousandths, saturationOf, SaturationInRange}
 use Rattle.river.specs.Head.{upstreamBod, headBod}
 use Rattle.river.specs.HeadTable.{DamWithin}
 
@@ -20,6 +20,10 @@ saturation-positive T h = omega (arith, mul-le-mul-left (T * T) h)
 pub saturation-small : (T : ℕ) → T ≤ 35 → saturation T ≤ 14652000
 unfolding saturation saturationThousandths
 saturation-small T h = omega (arith, mul-le-mul-right T h)
+
+pub saturation-of-small : (card : Card) → SaturationInRange card → saturationOf card ≤ 14652000
+unfolding saturationOf
+saturation-of-small card h = saturation-small (card .temperature) h
 
 -- a share is at most the whole
 pub share-small : (a b d : ℕ) → b ≤ d → a * b / d ≤ a

@@ -5,7 +5,7 @@ use Rattle.river.proofs.flow.Count.{card-of-river}
 use Rattle.report.proofs.lines.Feet.{
   head-input,
   reach-passed,
-  reach-temperature,
+  reach-saturation,
   reach-flow-small,
   head-small,
   head-low,
@@ -44,7 +44,7 @@ line-of-requires c κs =
     let p = s .pre in
     let e = card-of-river (s .args .t1) (s .args .i) (p .2) in
     let of = c .before .before .before .head-of .ensures in (
-      (reach-passed (p .0) (p .1) (p .2) e (p .0 .tabled .flow (s .args .i) (p .2)), reach-temperature (p .0) (p .1) (p .2) e),
+      (reach-passed (p .0) (p .1) (p .2) e (p .0 .tabled .flow (s .args .i) (p .2)), reach-saturation (p .0) (p .1) (p .2) e),
       (head-small (p .0) (p .1) (p .2) of, head-low (p .0) (p .1) (p .2) of),
     )
 

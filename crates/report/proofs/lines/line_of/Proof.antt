@@ -8,8 +8,8 @@ use Rattle.report.proofs.lines.line_of.Tie as tie
 step-of-requires : tie.Need-step-of-requires
 step-of-requires c κs = search needs
 
-saturation-requires : tie.Need-saturation-requires
-saturation-requires c κs = search needs
+saturation-of-requires : tie.Need-saturation-of-requires
+saturation-of-requires c κs = search needs
 
 cast-t9 : tie.Need-cast-t9
 cast-t9 c = search needs
@@ -25,7 +25,7 @@ profile-of-requires : tie.Need-profile-of-requires
 profile-of-requires c κs =
     let s = c .before .before .before .before in (
       start-sound (c .before .before .before .step-of .ensures) (s .pre .0 .0),
-      start-range (s .args .card .temperature) (s .pre .1 .0) (s .pre .1 .1) (omega arith) (s .pre .0 .1) (c .before .before .saturation .ensures),
+      start-range (s .args .card) (s .pre .1 .0) (s .pre .1 .1) (omega arith) (s .pre .0 .1) (c .before .before .saturation-of .ensures),
     )
 
 cast-t12 : tie.Need-cast-t12
@@ -34,7 +34,7 @@ cast-t12 c =
     record {
       fits =
           let sound = start-sound (c .before .before .before .before .before .step-of .ensures) (s .pre .0 .0) in
-          let r = start-range (s .args .card .temperature) (s .pre .1 .0) (s .pre .1 .1) (omega arith) (s .pre .0 .1) (c .before .before .before .before .saturation .ensures) in
+          let r = start-range (s .args .card) (s .pre .1 .0) (s .pre .1 .1) (omega arith) (s .pre .0 .1) (c .before .before .before .before .saturation-of .ensures) in
           omega (arith, foot-below sound r (c .before .profile-of .ensures));
     }
 
@@ -52,7 +52,7 @@ returns c =
     let s = c .before .before .before .before .before .before .before .before .before in
     line-figures (s .args .card) (s .args .flow) (s .args .depth) (s .args .head .bod) (s .args .head .oxygen) _ _ _
     (c .before .before .before .before .before .before .before .before .step-of .ensures)
-    (c .before .before .before .before .before .before .before .saturation .ensures)
+    (c .before .before .before .before .before .before .before .saturation-of .ensures)
     (c .before .before .before .before .profile-of .ensures)
 
 pub line-of-spec : {M : Type 1} → statement M
@@ -60,7 +60,7 @@ line-of-spec =
     tie.close
     (tie.spec
     step-of-requires
-    saturation-requires
+    saturation-of-requires
     cast-t9
     cast-t10
     cast-t11

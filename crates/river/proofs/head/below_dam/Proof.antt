@@ -4,7 +4,7 @@ use mathlib.Core.Path.{refl, _∙_}
 use native.Mathlib.Nat.{mul-le-mul}
 use native.Mathlib.Omega.{arith}
 use Rattle.river.specs.Head.{belowDam, aerated}
-use Rattle.river.proofs.head.Bounds.{saturation-small, dam-numbers, weight-fits}
+use Rattle.river.proofs.head.Bounds.{saturation-of-small, dam-numbers, weight-fits}
 use Rattle.river.proofs.head.Stored.{saturated-stored}
 use Rattle.river.proofs.head.below_dam.Statement.{statement}
 use Rattle.river.proofs.head.below_dam.Tie as tie
@@ -15,13 +15,13 @@ enum-told c = search needs
 enum-known-dam : tie.Need-enum-known-dam
 enum-known-dam c = search needs
 
-saturation-requires : tie.Need-saturation-requires
-saturation-requires c κs = search needs
+saturation-of-requires : tie.Need-saturation-of-requires
+saturation-of-requires c κs = search needs
 
 add-aerate : tie.Need-add-aerate
 add-aerate c =
     let start = c .before .before .before .before in
-    omega (arith, saturation-small (start .args .card .temperature) (start .pre .fields .temperature))
+    omega (arith, saturation-of-small (start .args .card) (start .pre .fields .temperature))
 
 cast-aerate : tie.Need-cast-aerate
 cast-aerate c = search needs
@@ -56,7 +56,7 @@ returns c = rw (c .enum-told .given .1)
 returns-2 : tie.Need-returns-2
 unfolding belowDam aerated
 returns-2 c =
-    c .aerate .ensures ∙ rw (saturated-stored, c .before .saturation .ensures, c .before .before .before .dam .given .1)
+    c .aerate .ensures ∙ rw (saturated-stored, c .before .saturation-of .ensures, c .before .before .before .dam .given .1)
 
 pub below-dam-spec : {M : Type 1} → statement M
 below-dam-spec =
@@ -64,7 +64,7 @@ below-dam-spec =
     (tie.spec
     enum-told
     enum-known-dam
-    saturation-requires
+    saturation-of-requires
     add-aerate
     cast-aerate
     cast-aerate-2
