@@ -22,11 +22,11 @@ use Rattle.decay.proofs.Algebra.{≈-sym, ≈-trans, ring, quote, ≼-t
 use Rattle.decay.proofs.Algebra.Identity.{replaced}
 use Rattle.decay.proofs.step.Shares.{step-sound}
 use Rattle.decay.proofs.factors.Instants.{range}
-use Rattle.decay.proofs.Exponential.Compose.{S-compose, F-compose, S-start, F-start}
 use Units.{eps, eps-nonneg, one-eps, share-is, share-nonneg, share-mono, share-sum, share-one}
 use Advance.{BodNear, bod-advance, deficit-advance, size}
 use Whole.{left-moves, turned-moves, kept-moves}
 use Reach.{step-near}
+use Rattle.decay.proofs.Exponential.{S-compose, F-compose, S-start, F-start}
 
 -- ---- figures
 

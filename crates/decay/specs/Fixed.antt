@@ -4,15 +4,15 @@ use Rattle.decay.specs.declared.fixed.Division.{Division}
 
 -- the whole, 2^44
 abbrev pub one : ℕ
-one = 17592186044416
+one = 17_592_186_044_416
 
 -- the largest second factor of a product, 2^36
 abbrev pub small : ℕ
-small = 68719476736
+small = 68_719_476_736
 
 -- the largest divisor, 2^53
 abbrev pub large : ℕ
-large = 9007199254740992
+large = 9_007_199_254_740_992
 
 -- a share of a share: the product of two fixed-point numbers, rounded down
 unfoldable pub product : ℕ → ℕ → ℕ
@@ -25,4 +25,4 @@ quotient n d = n * one / d
 -- a long division after eleven more bits
 abbrev pub chunked : Division → ℕ → Division
 chunked part d =
-    record { digits = part .digits * 2048 + part .rest * 2048 / d; rest = part .rest * 2048 % d }
+    record { digits = part .digits * 2_048 + part .rest * 2_048 / d; rest = part .rest * 2_048 % d }

@@ -6,17 +6,17 @@ use Rattle.decay.specs.declared.step.Terms.{Terms}
 
 -- a reach's rates, volume and flow are in range and pass check 11
 pub record RatesPass (k1 k2 volume flow : ℕ) : Type 0 where
-  pub k1-range : k1 ≤ 20000
-  pub k2-range : k2 ≤ 20000
-  pub volume-range : volume ≤ 1000000000
+  pub k1-range : k1 ≤ 20_000
+  pub k2-range : k2 ≤ 20_000
+  pub volume-range : volume ≤ 1_000_000_000
   pub flow-above : 1 ≤ flow
-  pub flow-below : flow ≤ 100000000
-  pub k1-short : k1 * volume ≤ 345600 * flow
-  pub k2-short : k2 * volume ≤ 345600 * flow
+  pub flow-below : flow ≤ 100_000_000
+  pub k1-short : k1 * volume ≤ 345_600 * flow
+  pub k2-short : k2 * volume ≤ 345_600 * flow
 
 -- the exponent x of one step at the rate k: k * volume / (86,400 * 1,024 * flow), as a share of one
 unfoldable pub exponentOf : ℕ → ℕ → ℕ → ℕ
-exponentOf k volume flow = quotient (k * volume) (88473600 * flow)
+exponentOf k volume flow = quotient (k * volume) (88_473_600 * flow)
 
 -- term j of a series from the term before it: times the exponent, by j
 unfoldable pub termOf : ℕ → ℕ → ℕ → ℕ

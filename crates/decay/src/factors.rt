@@ -16,9 +16,9 @@ pub fn start() -> Factors
     ensures { λ r. ⌜ r ≡ headFactors ⌝ }
 {
     Factors {
-        left: 17592186044416,
+        left: fixed::ONE,
         turned: 0,
-        kept: 17592186044416,
+        kept: fixed::ONE,
     }
 }
 

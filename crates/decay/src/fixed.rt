@@ -3,12 +3,23 @@ ghost use mathlib.Core.Path.{_≡_};
 ghost use Prim.Native.Nat.{_≤_, _<_};
 ghost use Rattle.decay.specs.Fixed.{one, small, large, product, quotient, chunked};
 
-// The floor of a * b / 2^44. The second factor is taken apart at its 18th bit, so that no product passes 2^62.
+// The whole, 2^44.
+pub const ONE: u64 = 17_592_186_044_416;
+
+// The second factor of a product is taken apart at its 18th bit; LOW times HIGH is the whole.
+const LOW: u64 = 262_144;
+
+const HIGH: u64 = 67_108_864;
+
+// A long division goes on by eleven bits at a time.
+const CHUNK: u64 = 2_048;
+
+// The floor of a * b / 2^44. No product passes 2^62.
 pub fn product(a: u64, b: u64) -> u64
     requires { ⌜ (a ≤ one) × (b ≤ small) ⌝ }
     ensures { λ r. ⌜ r ≡ product a b ⌝ }
 {
-    (a * (b / 262144) + a * (b % 262144) / 262144) / 67108864
+    (a * (b / LOW) + a * (b % LOW) / LOW) / HIGH
 }
 
 // A long division under way: the digits found and the remainder.
@@ -23,9 +34,9 @@ pub fn chunk(part: Division, d: u64) -> Division
     ensures { λ r. ⌜ r ≡ chunked part d ⌝ }
 {
     let digits = part.digits;
-    let wide = part.rest * 2048;
+    let wide = part.rest * CHUNK;
     Division {
-        digits: digits * 2048 + wide / d,
+        digits: digits * CHUNK + wide / d,
         rest: wide % d,
     }
 }

@@ -18,12 +18,15 @@ pub struct Terms {
     pub back: u64,
 }
 
+// The seconds of a day times the 1,024 steps of a reach.
+const DAY_STEPS: u64 = 88_473_600;
+
 // The exponent of one step at the rate k, as a share of one.
 pub fn exponent(k: u16, volume: u32, flow: u32) -> u64
     requires { ⌜ RatesPass k k volume flow ⌝ }
     ensures { λ r. ⌜ r ≡ exponentOf k volume flow ⌝ }
 {
-    fixed::quotient((k as u64) * (volume as u64), 88473600 * (flow as u64))
+    fixed::quotient((k as u64) * (volume as u64), DAY_STEPS * (flow as u64))
 }
 
 // One more term of a series.

@@ -11,14 +11,11 @@ use Rattle.decay.specs.Step.{RatesPass, exponentOf, stepOf}
 use Rattle.decay.specs.Promise.{share}
 use Rattle.decay.proofs.Algebra.{≈-sym, ≈-trans, ring-by, _⋅_, _&_, none, quote, ≼-of-≈, ≼-trans, Nonneg, slack, number, _⊞_, _⊠_, multiple, certify, certify-times, positive-whole, ÷-cancel-pos, ofℕ-≈, Within}
 use Rattle.decay.proofs.Algebra.Identity.{replaced}
-use Rattle.decay.proofs.Exponential.Terms.{e, e-zero, e-suc, e-nonneg, e-mono, S-six}
-use Rattle.decay.proofs.Exponential.Exponent.{exponent-nonneg, exponent-step, exponent-scaled}
-use Rattle.decay.proofs.Exponential.Used.{d, d-zero, d-suc, d-nonneg}
-use Rattle.decay.proofs.Exponential.Short.{S-short, F-short, d-small}
 use Rattle.decay.proofs.step.Shares.{exponent-small, step-sound}
 use Rattle.decay.proofs.Accuracy.Units.{eps, eps-nonneg, share-nonneg, share-mono, share-one, share-is, Below, exponent-below}
 use Rattle.decay.proofs.Accuracy.Step.{Exponents, ExactTerms, Sum, lost-near, used-near}
 use Rattle.decay.proofs.Accuracy.Advance.{StepNear}
+use Rattle.decay.proofs.Exponential.{e, e-zero, e-suc, e-nonneg, e-mono, S-six, exponent-nonneg, exponent-step, exponent-scaled, d, d-zero, d-suc, d-nonneg, S-short, F-short, d-small}
 
 -- ---- the exponents of a step
 

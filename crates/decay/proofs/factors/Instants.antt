@@ -9,9 +9,9 @@ use Rattle.decay.specs.Step.{RatesPass, stepOf}
 use Rattle.decay.specs.Factors.{SoundStep, AreShares, headFactors, nextFactors, factorsAt}
 use Rattle.decay.specs.declared.step.Step.{Step}
 use Rattle.decay.specs.declared.factors.Factors.{Factors}
-use Rattle.decay.proofs.Exponential.Tail.{UpTo, here, further, upTo}
 use Rattle.decay.proofs.fixed.Digits.{product-small, product-mono}
 use Rattle.decay.proofs.step.Shares.{step-loses-nothing, step-fills-nothing}
+use Rattle.decay.proofs.Exponential.{UpTo, here, further, upTo}
 
 -- what one step takes and gives, in range
 pub record Moved (s : Step) (f : Factors) : Type 0 where
