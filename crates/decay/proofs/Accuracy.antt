@@ -159,7 +159,7 @@ one-sized : {r s e c : Fraction} → Nonneg r → r ≼ ofℕ 1 → Within r s e
 one-sized {r} {s} {e} {c} hr one w h =
     certify (∣ s ∣ᶠ ∷ r ∷ e ∷ c ∷ []) (slack (abs-le (size hr w)) ⊞ slack one ⊞ slack h) (search quote depth 40 fits 9999) tt
 
--- for every series length from 40 up, every instant and every reach that check 11 lets through
+-- THEOREM: the factors are accurate for every series length from 40 up, every instant and every reach that check 11 lets through
 pub accuracy : {N k1 k2 volume Q m : ℕ} → 40 ≤ N → m ≤ 1024 → RatesPass k1 k2 volume Q → Accurate N k1 k2 volume Q m
 accuracy {N} {k1} {k2} {volume} {Q} {m} long h p =
     let f = factorsOf k1 k2 volume Q m in

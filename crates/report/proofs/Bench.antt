@@ -101,6 +101,7 @@ pub record Rows : Type 0 where
   pub below-dam : belowDam (second weir) (fed (above (two weir) 2)) (flowOf (above (two weir) 2)) (upstream (above (two weir) 2)) ≡ pos 8340602
   pub line-dam : figuresAt (two weir) 2 ≡ line 2 4000 9000000 6755451
 
+-- THEOREM: the bench values of the paper that are to be proved, a row each
 pub bench : Rows
 unfolding feedersAmong joinedIf flowOf deepest
 bench =

@@ -69,6 +69,7 @@ pub record Rows : Type 0 where
   pub inflow-zero : flowCheck (one 0 0 0) ≡ refused (refuse 7 1)
   pub empty-file : acceptFile [] ≡ refused (refuse 1 0)
 
+-- THEOREM: the bench values of the paper for flows and heads, and the empty file, a row each
 pub bench : Rows
 unfolding saturation saturationThousandths saturationOf flowCheck checksFrom reachChecks checksOf need damFits fed flowOf massOf deepest feedersAmong joinedIf headBod headOxygen upstreamBod upstreamOxygen belowDam aerated floor acceptFile readFile readHeader after
 bench =

@@ -23,6 +23,7 @@ pub record Rows : Type 0 where
   pub equal-half-way : Decimal (F 40 3456 3456 100 2 512) 367_879_441_171_442
   pub apart : Decimal (F 40 1728 5184 100 2 1024) 159_046_186_401_789
 
+-- THEOREM: S and F, computed from their definitions, agree with e^-x to 10^-12
 pub rows : Rows
 unfolding ofℤ _+ᶠ_ -ᶠ_ _*ᶠ_ _÷_ over ∣_∣ᶠ distance exponent power factorial term sum S F
 rows =

@@ -37,6 +37,7 @@ pub next-range : {s : Step} {f : Factors} → SoundStep s → AreShares f → Ar
 unfolding nextFactors
 next-range {s} {f} h r = let m = moved f h in omega arith
 
+-- THEOREM: at every instant the factors are shares of one
 pub range : {s : Step} → SoundStep s → (m : ℕ) → AreShares (factorsAt s m)
 unfolding factorsAt
 range h zero = start-range
@@ -52,6 +53,7 @@ left-falls-to : (s : Step) {m n : ℕ} → UpTo m n → (factorsAt s n) .left �
 left-falls-to s here = omega arith
 left-falls-to s (further {N = n} u) = le-trans (left-falls s n) (left-falls-to s u)
 
+-- THEOREM: BOD left never rises from an instant to a later one
 pub left-never-rises : (s : Step) {m n : ℕ} → m ≤ n → (factorsAt s n) .left ≤ (factorsAt s m) .left
 left-never-rises s h = left-falls-to s (upTo h)
 
@@ -74,7 +76,7 @@ deficit-kept s h (suc m) =
     let f = factorsAt s m in
     omega (arith, deficit-kept s h m, product-zero (f .kept) (s .filled) h)
 
--- a rate k1 of 0, or no volume, keeps all BOD at every instant
+-- THEOREM: a rate k1 of 0, or no volume, keeps all BOD at every instant
 pub bod-tie :
     (k1 k2 volume flow : ℕ) →
     RatesPass k1 k2 volume flow →
@@ -85,7 +87,7 @@ bod-tie k1 k2 volume flow p h =
     let z = step-loses-nothing k1 k2 volume flow p h in
     bod-kept (stepOf k1 k2 volume flow) (z .0) (z .1)
 
--- a rate k2 of 0, or no volume, keeps all of the head's deficit at every instant
+-- THEOREM: a rate k2 of 0, or no volume, keeps all of the head's deficit at every instant
 pub deficit-tie :
     (k1 k2 volume flow : ℕ) →
     RatesPass k1 k2 volume flow →

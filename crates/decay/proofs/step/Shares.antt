@@ -142,7 +142,7 @@ pub exponent-small : (k volume flow : ℕ) → k * volume ≤ 345600 * flow → 
 unfolding exponentOf quotient
 exponent-small k volume flow h = div-le-of-le-mul (88473600 * flow) (omega (arith, mul-le-mul-right one h))
 
--- a step's shares are small, and no more BOD is used than lost
+-- THEOREM: a step's shares are small, and no more BOD is used than lost
 pub step-sound : (k1 k2 volume flow : ℕ) → RatesPass k1 k2 volume flow → SoundStep (stepOf k1 k2 volume flow)
 unfolding stepOf
 step-sound k1 k2 volume flow p =
