@@ -1,15 +1,131 @@
--- A record depends only on its reach and the reaches above it: rivers that agree there have the same figures.
-use mathlib.Core.Path.{_≡_, refl, sym, ap₂, subst}
-use mathlib.Core.Bool.{Bool, true, false}
-use mathlib.Core.List.{List}
-use Prim.Native.Nat.{ℕ, zero, suc}
+-- A record depends only on its reach and the reaches above it: reaches with the same card and the same forest above them have the same figures,
+-- whatever their numbers. Rivers that agree on a reach and on all above it have the same forest there.
+use mathlib.Core.Path.{_≡_, refl, sym, ap, ap₂, _∙_, subst}
+use mathlib.Core.Bool.{Bool, true, false, _||_}
+use mathlib.Core.List.{List, [], _∷_}
+use Prim.Native.Nat.{ℕ, zero, suc, _+_, _*_, max}
+use native.Mathlib.Nat.{add-left-comm}
+use native.Mathlib.Omega.{arith}
 use lib.ListN.{getD}
 use lib.Dec.{T, eqb, eqb→eq}
+use lib.IntN.{ℤ, pos, _+ℤ_, _*ℤ_, +ℤ-assoc, +ℤ-comm}
 use Rattle.river.specs.declared.card.Card.{Card}
-use Rattle.river.specs.Flow.{joinedIf, feedersAmong}
-use Rattle.report.specs.Program.{figuresOf, figuresAt}
-use Rattle.report.specs.Locality.{LiesAbove, feeds, through, SameCard, Agree}
 use Rattle.river.specs.Card.{blank}
+use Rattle.river.specs.Flow.{Feeders, joinedIf, feedersAmong, fed, flowOf, ownMass, massOf, deepest}
+use Rattle.river.specs.Saturation.{saturationOf}
+use Rattle.river.specs.Head.{belowDam, headBod, headOxygen}
+use Rattle.report.specs.Record.{Figures}
+use Rattle.report.specs.Program.{factorsAlong, bodAlong, oxygenAlong, bodSum, oxygenSum, bodAtHead, oxygenAtHead, figuresBelow, figuresOf, figuresAt}
+use Rattle.report.specs.Locality.{withOutlet, SameButOutlet, SameForest, bare, alike, exchanged, chained, SameReach, LiesAbove, feeds, through, SameCard, Agree}
+
+-- ---- what a reach takes from its feeders, and what it gives
+
+-- all that a reach takes from the forest above it
+record Sums : Type 0 where
+  fed : Bool
+  flow : ℕ
+  mass : ℕ
+  deepest : ℕ
+  bod : ℕ
+  oxygen : ℤ
+
+abbrev sumsOf : Feeders → Sums
+sumsOf up =
+    record { fed = fed up; flow = flowOf up; mass = massOf up; deepest = deepest up; bod = bodSum up; oxygen = oxygenSum up }
+
+-- the figures of a reach below these sums
+abbrev figuresBy : Card → Sums → Figures
+figuresBy card s =
+    figuresBelow card (1 + s .deepest) (s .flow + card .inflow) (headBod card (s .fed) (s .flow) (s .bod)) (headOxygen card (s .fed) (s .flow) (s .oxygen))
+
+-- what a feeder gives, by its undecayed BOD and its figures
+abbrev given : ℕ → Figures → Sums
+given M f =
+    record { fed = true; flow = f .flow; mass = M; deepest = f .depth; bod = f .flow * f .foot-bod; oxygen = pos (f .flow) *ℤ f .foot-oxygen }
+
+abbrev gives : Card → Sums → Sums
+gives card s = given (s .mass + ownMass card) (figuresBy card s)
+
+-- and with what others give
+infixr 5 _⊕_
+abbrev _⊕_ : Sums → Sums → Sums
+s ⊕ t =
+    record {
+      fed = s .fed || t .fed;
+      flow = s .flow + t .flow;
+      mass = s .mass + t .mass;
+      deepest = max (s .deepest) (t .deepest);
+      bod = s .bod + t .bod;
+      oxygen = s .oxygen +ℤ t .oxygen;
+    }
+
+-- ---- the order of feeders does not count
+
+or-left-comm : (a b c : Bool) → (a || (b || c)) ≡ (b || (a || c))
+or-left-comm true true c = refl
+or-left-comm true false c = refl
+or-left-comm false true c = refl
+or-left-comm false false c = refl
+
+max-left-comm : (a b c : ℕ) → max a (max b c) ≡ max b (max a c)
+max-left-comm a b c = omega arith
+
++ℤ-left-comm : (a b c : ℤ) → a +ℤ (b +ℤ c) ≡ b +ℤ (a +ℤ c)
++ℤ-left-comm a b c = sym (+ℤ-assoc a b c) ∙ ap (λ (x : ℤ). x +ℤ c) (+ℤ-comm a b) ∙ +ℤ-assoc b a c
+
+any-order : (s t u : Sums) → s ⊕ t ⊕ u ≡ t ⊕ s ⊕ u
+any-order s t u = simp (or-left-comm, add-left-comm, max-left-comm, +ℤ-left-comm)
+
+-- ---- nor does an outlet
+
+dam-any-outlet : (card : Card) (b : Bool) (Qu : ℕ) (C : ℤ) → belowDam (withOutlet 0 card) b Qu C ≡ belowDam card b Qu C
+unfolding withOutlet belowDam saturationOf
+dam-any-outlet card true Qu C = refl
+dam-any-outlet card false Qu C = refl
+
+figures-any-outlet : (s : Sums) (card : Card) → figuresBy (withOutlet 0 card) s ≡ figuresBy card s
+unfolding withOutlet headBod headOxygen bodAlong oxygenAlong factorsAlong saturationOf
+figures-any-outlet s card = rw (dam-any-outlet card (s .fed))
+
+gives-any-outlet : (s : Sums) (card : Card) → gives (withOutlet 0 card) s ≡ gives card s
+unfolding withOutlet
+gives-any-outlet s card = ap (given (s .mass + ownMass card)) (figures-any-outlet s card)
+
+outlet-aside : {A : Type 0} {c d : Card} (f : Card → A) → ((card : Card) → f (withOutlet 0 card) ≡ f card) → SameButOutlet c d → f c ≡ f d
+outlet-aside {c} {d} f h same = sym (h c) ∙ ap f (same .rest) ∙ h d
+
+-- ---- reaches with the same card and the same forest
+
+-- the sums of a forest are put together of what each feeder gives, and so the same forests have the same sums
+same-sums : {f g : Feeders} → SameForest f g → sumsOf f ≡ sumsOf g
+unfolding fed flowOf massOf deepest bodSum oxygenSum
+same-sums bare = refl
+same-sums (alike {d} {up} card forest others) =
+    ap₂ _⊕_ (outlet-aside (λ c. gives c (sumsOf up)) (gives-any-outlet (sumsOf up)) card ∙ ap (gives d) (same-sums forest)) (same-sums others)
+same-sums (exchanged {c} {d} {up} {up′} {others}) =
+    any-order (gives c (sumsOf up)) (gives d (sumsOf up′)) (sumsOf others)
+same-sums (chained p q) = same-sums p ∙ same-sums q
+
+-- THEOREM: reaches with the same card and the same forest above them, outlets and the order of feeders aside, have the same figures
+pub same-figures : {here there : List Card} {i j : ℕ} → SameReach here i there j → figuresAt here (suc i) ≡ figuresAt there (suc j)
+unfolding figuresOf bodAtHead oxygenAtHead
+same-figures {here} {there} {i} {j} same =
+    outlet-aside (λ c. figuresBy c (sumsOf (feedersAmong here i (suc i)))) (figures-any-outlet (sumsOf (feedersAmong here i (suc i)))) (same .card)
+    ∙ ap (figuresBy (getD there j blank)) (same-sums (same .forest))
+
+-- as the third reach here and the fourth there: another number, other outlets, and its two feeders exchanged
+numbered-anew :
+    (a b c d e : Card) →
+    SameReach (withOutlet 3 a ∷ withOutlet 3 b ∷ withOutlet 0 c ∷ []) 2
+    (withOutlet 5 d ∷ withOutlet 4 b ∷ withOutlet 4 a ∷ withOutlet 5 c ∷ withOutlet 0 e ∷ []) 3
+unfolding withOutlet feedersAmong joinedIf
+numbered-anew a b c d e =
+    record {
+      card = record { rest = refl };
+      forest = chained exchanged (alike (record { rest = refl }) bare (alike (record { rest = refl }) bare bare));
+    }
+
+-- ---- rivers that agree at the same numbers
 
 -- the reach at place k flows into the one at place i: agreement passes on to what lies above it
 passes-on : {here there : List Card} {k i : ℕ} → (getD here k blank) .outlet ≡ suc i → (getD there k blank) .outlet ≡ suc i → SameCard here there k → Agree here there i → Agree here there k
@@ -27,15 +143,16 @@ flows-into cards n i e = eqb→eq ((getD cards n blank) .outlet) (suc i) (subst 
 clash {ℓ} : {X : Type ℓ} {c d : Card} (i : ℕ) → eqb (c .outlet) i ≡ true → eqb (d .outlet) i ≡ false → c ≡ d → X
 clash i e f same = absurd (let z : true ≡ false = cc in subst T z tt)
 
+same-but-outlet : {c d : Card} → c ≡ d → SameButOutlet c d
+same-but-outlet e = record { rest = ap (withOutlet 0) e }
+
 module _ (here there : List Card) where
-  same-joined : (n i : ℕ) → Agree here there i → (Agree here there n → feedersAmong here n (suc n) ≡ feedersAmong there n (suc n)) → feedersAmong here n (suc i) ≡ feedersAmong there n (suc i) → (s t : Bool) → eqb ((getD here n blank) .outlet) (suc i) ≡ s → eqb ((getD there n blank) .outlet) (suc i) ≡ t → joinedIf s (getD here n blank) (feedersAmong here n (suc n)) (feedersAmong here n (suc i)) ≡ joinedIf t (getD there n blank) (feedersAmong there n (suc n)) (feedersAmong there n (suc i))
+  same-joined : (n i : ℕ) → Agree here there i → (Agree here there n → SameForest (feedersAmong here n (suc n)) (feedersAmong there n (suc n))) → SameForest (feedersAmong here n (suc i)) (feedersAmong there n (suc i)) → (s t : Bool) → eqb ((getD here n blank) .outlet) (suc i) ≡ s → eqb ((getD there n blank) .outlet) (suc i) ≡ t → SameForest (joinedIf s (getD here n blank) (feedersAmong here n (suc n)) (feedersAmong here n (suc i))) (joinedIf t (getD there n blank) (feedersAmong there n (suc n)) (feedersAmong there n (suc i)))
   unfolding joinedIf
   same-joined n i a up rest true true e f =
       let p = flows-into here n i e in
-      let q = flows-into there n i f in
       let same = a .above-here n (feeds p) in
-      let water = up (passes-on p q same a) in
-      cc
+      alike (same-but-outlet same) (up (passes-on p (flows-into there n i f) same a)) rest
   same-joined n i a up rest true false e f =
       clash (suc i) e f (a .above-here n (feeds (flows-into here n i e)))
   same-joined n i a up rest false true e f =
@@ -43,11 +160,11 @@ module _ (here there : List Card) where
   same-joined n i a up rest false false e f = rest
 
   -- rivers that agree on a reach and above it have the same feeders there
-  same-feeders : (n i : ℕ) → Agree here there i → feedersAmong here n (suc i) ≡ feedersAmong there n (suc i)
+  same-feeders : (n i : ℕ) → Agree here there i → SameForest (feedersAmong here n (suc i)) (feedersAmong there n (suc i))
   unfolding feedersAmong
-  same-feeders zero i a = refl
+  same-feeders zero i a = bare
   same-feeders (suc n) i a = same-joined n i a (λ b. same-feeders n n b) (same-feeders n i a) (eqb ((getD here n blank) .outlet) (suc i)) (eqb ((getD there n blank) .outlet) (suc i)) refl refl
 
-  -- and so the same figures
-  pub locality : (i : ℕ) → Agree here there i → figuresAt here (suc i) ≡ figuresAt there (suc i)
-  locality i a = ap₂ figuresOf (a .own) (same-feeders i i a)
+  -- and so the same reach
+  pub agreed-reach : (i : ℕ) → Agree here there i → SameReach here i there i
+  agreed-reach i a = record { card = same-but-outlet (a .own); forest = same-feeders i i a }

@@ -11,13 +11,13 @@ use Rattle.river.specs.Refusal.{Answer}
 use Rattle.river.specs.Flow.{cardOf, above}
 use Rattle.report.specs.Program.{figuresOf, figuresAt, bodAt, oxygenAt, foot}
 use Rattle.report.specs.Record.{encodeRecord, readRecord, Figures}
-use Rattle.report.specs.Locality.{Agree}
+use Rattle.report.specs.Locality.{SameReach, Agree}
 use Rattle.report.specs.Report.{bufferReported, recordAt, Accepted, Reports}
 use Rattle.report.proofs.Lowest.{FirstLowest}
 use Rattle.report.proofs.River.{IsRiver, river-of-file, foot-bod-at-most-head, bod-stays-at-head, oxygen-stays-at-head, critical-is-first-lowest}
 use Rattle.report.proofs.Entry.Report.{bytes-at}
 use Rattle.report.proofs.Entry.{answers}
-use Rattle.report.proofs.Locality.{locality}
+use Rattle.report.proofs.Locality.{same-figures, agreed-reach}
 
 module _ {file before after : List ℕ} {result : ℕ} (call : Reports file before after result) (river : Accepted file (length before)) (i : ℕ) (l : i < length (river .cards)) where
   -- the 29 bytes of a reach
@@ -61,7 +61,20 @@ module _ {file before after : List ℕ} {result : ℕ} (call : Reports file befo
         (λ (f : Figures). FirstLowest (oxygenAt (cardOf (river .cards) (suc i)) (above (river .cards) (suc i))) foot (record { instant = f .critical-instant; oxygen = f .critical-oxygen }))
         (sym (call .figures river i l)) (critical-is-first-lowest is-river i l)
 
--- THEOREM: two calls that report rivers which agree on a reach and on the reaches above it leave the same 29 bytes there
+-- THEOREM: two calls leave the same 29 bytes for reaches with the same card and the same forest above them, outlets and the order of feeders aside
+pub same-record-anew :
+    {file before after file′ before′ after′ : List ℕ} {result result′ : ℕ} (i j : ℕ) →
+    Reports file before after result →
+    Reports file′ before′ after′ result′ →
+    (here : Accepted file (length before)) (there : Accepted file′ (length before′)) →
+    i < length (here .cards) →
+    j < length (there .cards) →
+    SameReach (here .cards) i (there .cards) j →
+    take 29 (recordAt after i) ≡ take 29 (recordAt after′ j)
+same-record-anew i j call call′ here there l l′ same =
+    record-bytes call here i l ∙ ap encodeRecord (same-figures same) ∙ sym (record-bytes call′ there j l′)
+
+-- THEOREM: in particular where the rivers agree on a reach and on the reaches above it
 pub same-record :
     {file before after file′ before′ after′ : List ℕ} {result result′ : ℕ} (i : ℕ) →
     Reports file before after result →
@@ -72,6 +85,4 @@ pub same-record :
     Agree (here .cards) (there .cards) i →
     take 29 (recordAt after i) ≡ take 29 (recordAt after′ i)
 same-record i call call′ here there l l′ agree =
-    record-bytes call here i l
-    ∙ ap encodeRecord (locality (here .cards) (there .cards) i agree)
-    ∙ sym (record-bytes call′ there i l′)
+    same-record-anew i i call call′ here there l l′ (agreed-reach (here .cards) (there .cards) i agree)
