@@ -11,3 +11,4 @@ pub mod River
 pub mod Entry
 pub mod Reported
 pub mod Bench
+pub mod Refutations

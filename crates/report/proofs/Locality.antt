@@ -15,7 +15,7 @@ use Rattle.river.specs.Flow.{Feeders, joinedIf, feedersAmong, fed, flowOf, ownM
 use Rattle.river.specs.Saturation.{saturationOf}
 use Rattle.river.specs.Head.{belowDam, headBod, headOxygen}
 use Rattle.report.specs.Record.{Figures}
-use Rattle.report.specs.Program.{factorsAlong, bodAlong, oxygenAlong, bodSum, oxygenSum, bodAtHead, oxygenAtHead, figuresBelow, figuresOf, figuresAt}
+use Rattle.report.specs.Program.{factorsAlong, bodAlong, oxygenAlong, bodSum, oxygenSum, bodAtHead, oxygenAtHead, figuresBelow, figuresOf}
 use Rattle.report.specs.Locality.{withOutlet, SameButOutlet, SameForest, bare, alike, exchanged, chained, SameReach, LiesAbove, feeds, through, SameCard, Agree}
 
 -- ---- what a reach takes from its feeders, and what it gives
@@ -107,13 +107,12 @@ same-sums (exchanged {c} {d} {up} {up′} {others}) =
 same-sums (chained p q) = same-sums p ∙ same-sums q
 
 -- THEOREM: reaches with the same card and the same forest above them, outlets and the order of feeders aside, have the same figures
-pub same-figures : {here there : List Card} {i j : ℕ} → SameReach here i there j → figuresAt here (suc i) ≡ figuresAt there (suc j)
+pub same-figures : {c d : Card} {f g : Feeders} → SameButOutlet c d → SameForest f g → figuresOf c f ≡ figuresOf d g
 unfolding figuresOf bodAtHead oxygenAtHead
-same-figures {here} {there} {i} {j} same =
-    outlet-aside (λ c. figuresBy c (sumsOf (feedersAmong here i (suc i)))) (figures-any-outlet (sumsOf (feedersAmong here i (suc i)))) (same .card)
-    ∙ ap (figuresBy (getD there j blank)) (same-sums (same .forest))
+same-figures {d} {f} card forest =
+    outlet-aside (λ c. figuresBy c (sumsOf f)) (figures-any-outlet (sumsOf f)) card ∙ ap (figuresBy d) (same-sums forest)
 
--- as the third reach here and the fourth there: another number, other outlets, and its two feeders exchanged
+-- an example: c is the third reach here and the fourth there, with other outlets, and its two feeders are exchanged
 numbered-anew :
     (a b c d e : Card) →
     SameReach (withOutlet 3 a ∷ withOutlet 3 b ∷ withOutlet 0 c ∷ []) 2

@@ -72,7 +72,7 @@ pub same-record-anew :
     SameReach (here .cards) i (there .cards) j →
     take 29 (recordAt after i) ≡ take 29 (recordAt after′ j)
 same-record-anew i j call call′ here there l l′ same =
-    record-bytes call here i l ∙ ap encodeRecord (same-figures same) ∙ sym (record-bytes call′ there j l′)
+    record-bytes call here i l ∙ ap encodeRecord (same-figures (same .card) (same .forest)) ∙ sym (record-bytes call′ there j l′)
 
 -- THEOREM: in particular where the rivers agree on a reach and on the reaches above it
 pub same-record :

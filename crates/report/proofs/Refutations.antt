@@ -1,0 +1,86 @@
+-- Reports that document 01 calls wrong stray by more than demand 3's distance, whatever else they say: proved for a river of two reaches,
+-- at N = 40, by computing its exact figures.
+use mathlib.Core.Path.{_≡_, refl}
+use mathlib.Core.List.{List, [], _∷_}
+use Prim.Native.Nat.{ℕ}
+use Rattle.decay.specs.Fraction.{Fraction, _≼_, ofℤ, _+ᶠ_, -ᶠ_, _-ᶠ_, _*ᶠ_, _÷_, over, distance}
+use Rattle.decay.specs.Exact.{foot, exponent, power, factorial, term, sum, S, F}
+use Rattle.decay.proofs.Algebra.{quote, certify, slack, _⊞_, Within, small, bound-nonneg, within-distance, distance→within, within-sym, within-trans}
+use Rattle.river.specs.declared.card.Card.{Card}
+use Rattle.river.specs.declared.card.Dam.the-variants.{Absent}
+use Rattle.river.specs.Refusal.{accepted, need, after, choose}
+use Rattle.river.specs.Card.{countOk, inRange, outletOk}
+use Rattle.river.specs.Read.{readFile, readHeader, readReaches, readReach, readDam, cardAt}
+use Rattle.river.specs.Write.{encode}
+use Rattle.river.specs.Flow.{cardOf, above, feedersAmong, joinedIf, fed, flowOf, massOf, deepest, damFits, flowCheck, checksFrom, reachChecks, checksOf}
+use Rattle.river.specs.Accept.{acceptFile}
+use Rattle.river.specs.Saturation.{saturationThousandths}
+use Rattle.report.specs.Record.{Figures}
+use Rattle.report.specs.Recurrence.{exactSaturation, exactMean, exactBelowDam, exactMixedBod, exactMixedOxygen, exactHeadBod, exactHeadOxygen, exactBodAlong, exactOxygenAlong, exactBodSum, exactBodAtHead, exactOxygenAtHead, exactBodAt, exactOxygenAt}
+use Rattle.report.specs.Distance.{allowance, WithinAllowance}
+
+-- the reach of document 01's bench values, by outlet and inflow
+abbrev reach : (outlet inflow : ℕ) → Card
+reach outlet inflow =
+    record {
+      outlet = outlet;
+      temperature = 0;
+      k1 = 1000;
+      k2 = 1000;
+      volume = 864000;
+      inflow = inflow;
+      «inflow_bod» = 10000;
+      «inflow_oxygen» = 14652;
+      load = 0;
+      dam = Absent;
+    }
+
+-- that reach, and below it as long a one with no inflow of its own
+abbrev pub two : List Card
+two = reach 2 10000 ∷ reach 0 0 ∷ []
+
+accepted-two : acceptFile (encode two) ≡ accepted two
+unfolding acceptFile encode readFile readHeader readReaches readReach readDam cardAt countOk inRange outletOk need after choose flowCheck checksFrom reachChecks checksOf damFits feedersAmong joinedIf fed flowOf massOf
+accepted-two = refl
+
+-- the figures are within the allowance of reach i
+abbrev pub NearReach : ℕ → Figures → Type 0
+NearReach i f = WithinAllowance 40 (cardOf two i) (above two i) f
+
+abbrev allowed : ℕ → Fraction
+allowed i = allowance (above two i)
+
+abbrev headBod : ℕ → Fraction
+headBod i = exactBodAtHead 40 (cardOf two i) (above two i)
+
+-- the exact figures, computed, lie further apart than the allowances together
+record Apart : Type 0 where
+  head-foot-bod : headBod 1 -ᶠ exactBodAt 40 (cardOf two 1) (above two 1) foot ≼ allowed 1 +ᶠ allowed 1 → ⊥
+  head-foot-oxygen :
+      exactOxygenAtHead 40 (cardOf two 1) (above two 1) -ᶠ exactOxygenAt 40 (cardOf two 1) (above two 1) foot ≼ allowed 1 +ᶠ allowed 1 → ⊥
+  heads : headBod 1 -ᶠ headBod 2 ≼ allowed 1 +ᶠ allowed 2 → ⊥
+
+apart : Apart
+unfolding ofℤ _+ᶠ_ -ᶠ_ _*ᶠ_ _÷_ over exponent power factorial term sum S F feedersAmong joinedIf fed flowOf deepest saturationThousandths exactSaturation exactMean exactBelowDam exactMixedBod exactMixedOxygen exactHeadBod exactHeadOxygen exactBodAlong exactOxygenAlong exactBodSum exactBodAtHead exactOxygenAtHead exactBodAt exactOxygenAt
+apart = record { head-foot-bod = λ h. h .across .le; head-foot-oxygen = λ h. h .across .le; heads = λ h. h .across .le }
+
+-- of two distances that together are at most e, each is
+each : {a b c d e : Fraction} → distance a b +ᶠ distance c d ≼ e → Within a b e × Within c d e
+each {a} {b} {c} {d} {e} h =
+    (distance→within (certify (distance a b ∷ distance c d ∷ e ∷ []) (slack h ⊞ bound-nonneg (small (within-distance c d))) (search quote depth 40 fits 9999) tt), distance→within (certify (distance a b ∷ distance c d ∷ e ∷ []) (slack h ⊞ bound-nonneg (small (within-distance a b))) (search quote depth 40 fits 9999) tt))
+
+-- values that are near one figure are no further apart than the allowances together
+between : {x a b e f : Fraction} → Within x a e → Within x b f → a -ᶠ b ≼ e +ᶠ f
+between v w = within-trans (within-sym v) w .high
+
+-- THEOREM: no report that copies head BOD to the foot is within the allowance
+pub copied-bod : (f : Figures) → f .foot-bod ≡ f .head-bod → NearReach 1 f → ⊥
+copied-bod f e w = apart .head-foot-bod (between (each (w .at-head) .0) (rw e at (each (w .at-foot) .0)))
+
+-- THEOREM: none that copies head oxygen to the foot
+pub copied-oxygen : (f : Figures) → f .foot-oxygen ≡ f .head-oxygen → NearReach 1 f → ⊥
+copied-oxygen f e w = apart .head-foot-oxygen (between (each (w .at-head) .1) (rw e at (each (w .at-foot) .1)))
+
+-- THEOREM: none that works the first reach and repeats it
+pub repeated : (f : Figures) → NearReach 1 f → NearReach 2 f → ⊥
+repeated f v w = apart .heads (between (each (v .at-head) .0) (each (w .at-head) .0))
