@@ -1,0 +1,427 @@
+"""Generated river files of every kind: accepted ones of many shapes and sizes, and refused ones for every rule.
+
+`files(seed, count)` gives them one by one, accepted and refused in turn. The kinds of each sort come round in a shuffled order, so that
+some 300 files hold every kind. Nothing of the program under test goes into them, and reference.py says which answer is due.
+"""
+
+import os
+import random
+
+import reference
+from reference import AFTER_REACH, HEADER, LONGEST, REACH, Card, Dam, Reach, Refused, River
+
+MOST_FLOW = 100_000_000
+MOST_RATE = 20_000
+MOST_VOLUME = 1_000_000_000
+MOST_BOD = 1_000_000
+MOST_OXYGEN = 20_000
+MOST_LOAD = 2 ** 32 - 1
+
+
+def pick(rng, most):
+    """A number from 0 to `most`: an end, any number, or one with any number of binary digits."""
+    way = rng.randrange(4)
+    if way == 0:
+        return rng.choice((0, min(1, most), most))
+    if way == 1:
+        return rng.randint(0, most)
+    return min(most, rng.getrandbits(rng.randint(1, max(1, most.bit_length()))))
+
+
+# ---- Accepted rivers
+
+# The outlet of reach i of n, for i < n.
+SHAPES = {
+    "chain": lambda rng, i, n: i + 1,
+    "star": lambda rng, i, n: n,
+    "brooks": lambda rng, i, n: i + 1 if i % 2 else min(i + 2, n),      # each second reach is a brook
+    "arms": lambda rng, i, n: min(i + 3, n),                            # three chains that meet at the last reach
+    "tree": lambda rng, i, n: n - (n - i - 1) // 2,                     # two feeders to a reach
+    "near": lambda rng, i, n: rng.randint(i + 1, min(i + 4, n)),
+    "any": lambda rng, i, n: rng.randint(i + 1, n),
+}
+
+# The inflow of a reach, for a source (a reach without feeders) or another. It is cut to what check 8 leaves, and a source gets at least 1.
+FLOWS = {
+    "any": lambda rng, source: pick(rng, 1_000_000),
+    "ordinary": lambda rng, source: rng.randint(0, 30_000),
+    "tiny": lambda rng, source: rng.randint(0, 1),
+    "huge": lambda rng, source: rng.choice((MOST_FLOW, MOST_FLOW // 3)),
+    "sources": lambda rng, source: rng.randint(1, 30_000) if source else 0,
+}
+
+# The two rates.
+RATES = {
+    "any": lambda rng: (pick(rng, MOST_RATE), pick(rng, MOST_RATE)),
+    "ordinary": lambda rng: (rng.randint(100, 500), rng.randint(100, 2_000)),
+    "equal": lambda rng: (pick(rng, MOST_RATE),) * 2,
+    "near": lambda rng: rng.choice(((0, 1), (1, 0), (1, 2), (700, 701), (701, 700), (MOST_RATE - 1, MOST_RATE), (MOST_RATE, MOST_RATE - 1))),
+    "zero": lambda rng: (0, 0),
+    "no decay": lambda rng: (0, pick(rng, MOST_RATE)),
+    "no aeration": lambda rng: (pick(rng, MOST_RATE), 0),
+    "top": lambda rng: (MOST_RATE, MOST_RATE),
+}
+
+# The volume, where `most` is what check 11 and the field allow.
+VOLUMES = {
+    "any": lambda rng, most: pick(rng, most),
+    "long": lambda rng, most: most,
+    "half": lambda rng, most: most // 2,
+    "small": lambda rng, most: min(most, rng.randint(0, 9)),
+    "zero": lambda rng, most: 0,
+}
+
+# Inflow BOD, inflow oxygen, and the load in hundredths of what check 10 leaves room for.
+WATERS = {
+    "any": lambda rng: (pick(rng, MOST_BOD), pick(rng, MOST_OXYGEN), rng.choice((0, 0, 1, 50, 100))),
+    "ordinary": lambda rng: (rng.randint(0, 30_000), rng.randint(0, 14_000), rng.choice((0, 0, 1, 3))),
+    "clean": lambda rng: (0, rng.randint(6_000, 12_000), 0),
+    "foul": lambda rng: (MOST_BOD, rng.choice((0, rng.randint(0, MOST_OXYGEN))), 100),
+    "overload": lambda rng: (rng.randint(20_000, 200_000), rng.randint(0, 9_000), rng.choice((0, 5, 30))),
+    "rich": lambda rng: (rng.randint(0, 5_000), rng.randint(14_000, MOST_OXYGEN), 0),       # oxygen above saturation
+}
+
+# Share and generating flow of a dam, or None.
+DAMS = {
+    "none": lambda rng, Qu: None,
+    "some": lambda rng, Qu: rng.choice((None, Dam(rng.randint(0, 1_000), rng.randint(0, Qu)))),
+    "all": lambda rng, Qu: Dam(pick(rng, 1_000), rng.choice((0, Qu, rng.randint(0, Qu)))),
+    "ends": lambda rng, Qu: Dam(rng.choice((0, 1, 999, 1_000)), rng.choice((0, min(1, Qu), Qu - 1, Qu))),
+}
+
+TEMPERATURES = {
+    "any": lambda rng: rng.randint(0, 35),
+    "ends": lambda rng: rng.choice((0, 35)),
+    "warm": lambda rng: rng.randint(25, 35),
+}
+
+TABLES = {"shape": SHAPES, "flow": FLOWS, "rates": RATES, "volume": VOLUMES, "water": WATERS, "dams": DAMS, "temperature": TEMPERATURES}
+
+# What a style fixes; the rest is drawn once for a river. "each" draws anew for each reach.
+STYLES = {
+    "drawn": {},
+    "mixed": {name: "each" for name in TABLES if name != "shape"},
+    "ordinary": {"flow": "ordinary", "rates": "ordinary", "volume": "any", "water": "ordinary", "dams": "some"},
+    "chain": {"shape": "chain", "volume": "half", "rates": "any"},
+    "brooks": {"shape": "brooks"},
+    "star": {"shape": "star"},
+    "tree": {"shape": "tree"},
+    "arms": {"shape": "arms"},
+    "dams": {"dams": "all", "shape": "near"},
+    "dam ends": {"dams": "ends"},
+    "warm dams": {"dams": "all", "temperature": "warm", "water": "rich"},
+    "tiny": {"flow": "tiny", "volume": "small"},
+    "tiny long": {"flow": "tiny", "volume": "long"},
+    "huge": {"flow": "huge", "volume": "long"},
+    "huge foul": {"flow": "huge", "water": "foul", "rates": "near"},
+    "equal rates": {"rates": "equal", "volume": "long"},
+    "near rates": {"rates": "near", "volume": "long"},
+    "near rates foul": {"rates": "near", "volume": "long", "water": "foul"},
+    "zero rates": {"rates": "zero"},
+    "no decay": {"rates": "no decay"},
+    "no aeration": {"rates": "no aeration", "volume": "any"},
+    "zero volume": {"volume": "zero"},
+    "below zero": {"water": "overload", "rates": "no aeration", "volume": "half", "shape": "chain"},
+    "below zero and back": {"water": "overload", "rates": "each", "volume": "half"},
+    "foul": {"water": "foul", "volume": "long", "rates": "each"},
+    "rich": {"water": "rich", "temperature": "warm"},
+    "clean": {"water": "clean", "rates": "ordinary"},
+    "long reaches": {"volume": "long", "rates": "top"},
+}
+
+
+def size(rng):
+    """A number of reaches: mostly few, at times up to 40, seldom up to 128."""
+    return rng.choice((1, 2, 3, rng.randint(2, 6), rng.randint(2, 12), rng.randint(2, 12), rng.randint(2, 40))) if rng.randrange(40) else rng.randint(41, 128)
+
+
+def accepted_river(rng, style, n):
+    """A river of n reaches that is accepted."""
+    fixed = {name: STYLES[style].get(name) or rng.choice(list(table)) for name, table in TABLES.items()}
+    outlets = [SHAPES[fixed["shape"]](rng, i, n) for i in range(1, n)] + [0]
+    reaches = []
+    for i in range(1, n + 1):
+        feeders = [reach for reach in reaches if reach.card.outlet == i]
+        sources_left = sum(k not in outlets[:k - 1] for k in range(i + 1, n + 1))
+        room = MOST_FLOW - sum(reach.card.inflow for reach in reaches) - sources_left
+        reaches.append(Reach(i, lawful_card(rng, fixed, outlets[i - 1], feeders, room), feeders))
+    return River([reach.card for reach in reaches])
+
+
+def lawful_card(rng, fixed, outlet, feeders, room):
+    """A card that passes all checks over these feeders."""
+    def way(name):
+        return TABLES[name][rng.choice(list(TABLES[name])) if fixed[name] == "each" else fixed[name]]
+
+    inflow = max(min(way("flow")(rng, not feeders), room), 0 if feeders else 1)
+    k1, k2 = way("rates")(rng)
+    bod, oxygen, hundredths = way("water")(rng)
+    card = Card(outlet, way("temperature")(rng), k1, k2, 0, inflow, bod, oxygen, 0)
+    so_far = Reach(0, card, feeders)
+    load = (1_000_000 * so_far.Q - so_far.M) // 1_000 * hundredths // 100
+    volume = way("volume")(rng, min(MOST_VOLUME, 345_600 * so_far.Q // max(k1, k2, 1)))
+    dam = way("dams")(rng, so_far.Qu) if feeders else None
+    return card._replace(load=min(load, MOST_LOAD), volume=volume, dam=dam)
+
+
+# ---- Rivers on a limit and just past it
+
+def replaced(river, i, **fields):
+    """The river with some fields of reach i changed."""
+    cards = list(river.cards)
+    cards[i - 1] = cards[i - 1]._replace(**fields)
+    return River(cards)
+
+
+def flow_limit(past):
+    """Check 8 at the reach i."""
+    return lambda rng, river, i, reach: replaced(river, i, inflow=MOST_FLOW - reach.Qu + past, inflow_bod=0, load=0)
+
+
+def dam_limit(past):
+    """Check 9, for a reach with feeders."""
+    return lambda rng, river, i, reach: reach.feeders and replaced(river, i, dam=Dam(rng.randint(0, 1_000), reach.Qu + past))
+
+
+def bod_limit(past):
+    """Check 10."""
+    def change(rng, river, i, reach):
+        load = reach.card.load + (1_000_000 * reach.Q - reach.M) // 1_000 + past
+        return load <= MOST_LOAD and replaced(river, i, load=load)
+    return change
+
+
+def length_limit(rate, other, past):
+    """Check 11 for one of the rates."""
+    def change(rng, river, i, reach):
+        k = rng.randint(1, MOST_RATE)
+        volume = 345_600 * reach.Q // k + past
+        return volume <= MOST_VOLUME and replaced(river, i, **{rate: k, other: rng.randint(0, k)}, volume=volume)
+    return change
+
+
+# Each change is given a river, a reach of it and its flows, and gives a changed river, or a false value where it does not fit.
+ON_A_LIMIT = {
+    "on check 8": flow_limit(0),
+    "on check 9": dam_limit(0),
+    "on check 10": bod_limit(0),
+    "on check 11 k1": length_limit("k1", "k2", 0),
+    "on check 11 k2": length_limit("k2", "k1", 0),
+}
+PAST_A_LIMIT = {
+    "check 7": lambda rng, river, i, reach: not reach.feeders and replaced(river, i, inflow=0),
+    "check 8": flow_limit(1),
+    "check 9 no feeders": lambda rng, river, i, reach: not reach.feeders and replaced(river, i, dam=Dam(rng.randint(0, 1_000), 0)),
+    "check 9 generating": dam_limit(1),
+    "check 10": bod_limit(1),
+    "check 11 k1": length_limit("k1", "k2", 1),
+    "check 11 k2": length_limit("k2", "k1", 1),
+    # Two checks are broken, and the first of them is due.
+    "check 7 and 9": lambda rng, river, i, reach: not reach.feeders and replaced(river, i, inflow=0, dam=Dam(1, 1)),
+    "check 7 and 10": lambda rng, river, i, reach: not reach.feeders and replaced(river, i, inflow=0, load=1),
+    "check 8 and 9": lambda rng, river, i, reach: replaced(river, i, inflow=MOST_FLOW - reach.Qu + 1, dam=Dam(1, MOST_FLOW)),
+    "check 8 and 10": lambda rng, river, i, reach: reach.feeders and replaced(river, i, inflow=MOST_FLOW, inflow_bod=MOST_BOD, load=MOST_LOAD),
+    "check 9 and 10": lambda rng, river, i, reach: reach.Q < 4_000_000 and replaced(river, i, dam=Dam(1, MOST_FLOW), load=MOST_LOAD),
+    "check 10 and 11": lambda rng, river, i, reach: reach.Q < 4_000_000 and replaced(river, i, load=MOST_LOAD, k1=MOST_RATE, volume=MOST_VOLUME),
+}
+
+
+def changed_river(rng, change, i_of):
+    """The first drawn river that a change fits, changed at the reach that i_of picks."""
+    while True:
+        river = accepted_river(rng, rng.choice(list(STYLES)), rng.randint(1, 10))
+        i = i_of(rng, len(river.cards))
+        result = change(rng, river, i, reference.flows(river)[i - 1])
+        if result:
+            return result
+
+
+def last(rng, n):
+    """The last reach, where a change moves no other reach."""
+    return n
+
+
+def any_reach(rng, n):
+    return rng.randint(1, n)
+
+
+def most_reaches(rng):
+    """128 reaches, each with a dam but the first: with a dam on the first it would be the longest file."""
+    river = accepted_river(rng, "chain", 128)
+    return River(river.cards[:1] + [card._replace(dam=Dam(rng.randint(0, 1_000), 0)) for card in river.cards[1:]])
+
+
+# ---- Files that reading refuses
+
+def base_river(rng):
+    """An accepted river with a dam on its last reach and on some other, so that each kind of record is met inside and at the end."""
+    river = accepted_river(rng, "dams", rng.randint(3, 8))
+    return replaced(river, len(river.cards), dam=Dam(rng.randint(0, 1_000), 0))
+
+
+def starts(river):
+    """Where the records of a river's file begin: lists of offsets by kind."""
+    result, at = {kind.name: [] for kind in (HEADER, REACH) + AFTER_REACH}, HEADER.size
+    result[HEADER.name].append(0)
+    for card in river.cards:
+        for kind in [REACH] + [kind for kind, _ in reference.added_records(card)]:
+            result[kind.name].append(at)
+            at += kind.size
+    return result
+
+
+def cut(kind, offset):
+    """The file ends inside a record."""
+    def damage(rng, river):
+        return reference.encode(river)[:rng.choice(starts(river)[kind.name]) + offset]
+    return damage
+
+
+def mark(kind, letters):
+    """A record has another mark."""
+    def damage(rng, river):
+        at = rng.choice(starts(river)[kind.name])
+        file = reference.encode(river)
+        return file[:at] + letters + file[at + 2:]
+    return damage
+
+
+def count(choose):
+    """The header has another count."""
+    def damage(rng, river):
+        return HEADER.encode([choose(len(river.cards))]) + reference.encode(river)[HEADER.size:]
+    return damage
+
+
+def field(kind, which, number):
+    """A field has another number, in some record of its kind."""
+    def damage(rng, river):
+        numbers = [i for i, card in enumerate(river.cards, 1) if kind is REACH or getattr(card, kind.name)]
+        i = rng.choice(numbers)
+        if kind is REACH:
+            return reference.encode(replaced(river, i, **{which: number}))
+        return reference.encode(replaced(river, i, **{kind.name: getattr(river.cards[i - 1], kind.name)._replace(**{which: number})}))
+    return damage
+
+
+def outlet(reach, number):
+    """A wrong outlet; both the reach and the number are reckoned from the count."""
+    return lambda rng, river: reference.encode(replaced(river, reach(len(river.cards)), outlet=number(len(river.cards))))
+
+
+def trailing(more):
+    """Bytes after the last record."""
+    return lambda rng, river: reference.encode(river) + more(rng, reference.encode(river))
+
+
+def two_faults(*changes):
+    """Faults that stand in different places, so that their order counts: pairs of a reach, from its count, and fields."""
+    def damage(rng, river):
+        for reach, fields in changes:
+            river = replaced(river, reach(len(river.cards)), **fields)
+        return reference.encode(river)
+    return damage
+
+
+def flipped(rng, river):
+    """Some bits are changed anywhere, so that the file may still be accepted."""
+    file = bytearray(reference.encode(river))
+    for _ in range(rng.randint(1, 3)):
+        file[rng.randrange(len(file))] ^= 1 << rng.randrange(8)
+    return bytes(file)
+
+
+def noise(rng, river):
+    """Bytes that are no file, with or without a lawful header."""
+    return rng.choice((b"", HEADER.encode([rng.randint(1, 128)]))) + rng.randbytes(rng.randint(0, 5_000))
+
+
+def reading_faults():
+    """The kinds of files that reading refuses (the flipped ones mostly)."""
+    kinds = (HEADER, REACH) + AFTER_REACH
+    faults = {f"cut {kind.name} {offset}": cut(kind, offset) for kind in kinds for offset in range(1 if kind in AFTER_REACH else 0, kind.size)}
+    for kind in kinds:
+        for letters in (b"RV", b"RE", b"DM", b"RX", kind.mark.lower(), kind.mark[::-1], b"\0\0"):
+            if letters != kind.mark:
+                faults[f"mark {kind.name} {letters.hex()}"] = mark(kind, letters)
+    for number in (0, 129, 256, 65_535):
+        faults[f"count {number}"] = count(lambda n, number=number: number)
+    faults["count one more"] = count(lambda n: n + 1)
+    faults["count one less"] = count(lambda n: n - 1)
+    for kind in (REACH,) + AFTER_REACH:
+        for one in kind.fields:
+            for number in {one.lowest - 1, one.highest + 1, 256 ** one.width - 1}:
+                if 0 <= number < 256 ** one.width and not one.lowest <= number <= one.highest:
+                    faults[f"field {one.name} {number}"] = field(kind, one.name, number)
+    faults |= {
+        "outlet own": outlet(lambda n: n - 1, lambda n: n - 1),
+        "outlet above": outlet(lambda n: n - 1, lambda n: n - 2),
+        "outlet none": outlet(lambda n: 1, lambda n: 0),
+        "outlet past": outlet(lambda n: 1, lambda n: n + 1),
+        "outlet far": outlet(lambda n: 2, lambda n: 255),
+        "outlet of last": outlet(lambda n: n, lambda n: n),
+        "outlet of last back": outlet(lambda n: n, lambda n: 1),
+        "trailing zero": trailing(lambda rng, file: b"\0"),
+        "trailing line end": trailing(lambda rng, file: b"\n"),
+        "trailing half mark": trailing(lambda rng, file: b"D"),
+        "trailing mark": trailing(lambda rng, file: rng.choice((b"DM", b"RE", b"RV"))),
+        "trailing dam": trailing(lambda rng, file: file[-8:]),
+        "trailing file": trailing(lambda rng, file: file),
+        "trailing to one too many": trailing(lambda rng, file: bytes(LONGEST + 1 - len(file))),
+        "trailing long": trailing(lambda rng, file: rng.randbytes(LONGEST + rng.randint(0, 9_000))),
+        "field and outlet": two_faults((lambda n: 2, {"temperature": 36, "outlet": 1})),
+        "outlet, then field": two_faults((lambda n: 1, {"outlet": 1}), (lambda n: 2, {"k2": 20_001})),
+        "outlet and dam": two_faults((lambda n: n, {"outlet": 1, "dam": Dam(1_001, 0)})),
+        "field and dam": two_faults((lambda n: n, {"inflow_bod": 1_000_001, "dam": Dam(1_001, 0)})),
+        "dam, then outlet": two_faults((lambda n: 1, {"dam": Dam(0, 100_000_001)}), (lambda n: 2, {"outlet": 0})),
+        "no flow, then field": two_faults((lambda n: 1, {"inflow": 0}), (lambda n: n, {"volume": 1_000_000_001})),
+        "flipped 1": flipped, "flipped 2": flipped, "flipped 3": flipped,
+        "noise 1": noise, "noise 2": noise,
+    }
+    return faults
+
+
+# ---- Files in turn
+
+def deck(rng, kinds):
+    """The kinds in a shuffled order, again and again."""
+    kinds = list(kinds)
+    while True:
+        rng.shuffle(kinds)
+        yield from kinds
+
+
+def accepted_kinds():
+    """Name and maker of every kind of accepted file."""
+    kinds = {style: lambda rng, style=style: accepted_river(rng, style, size(rng)) for style in STYLES}
+    kinds |= {name: lambda rng, change=change: changed_river(rng, change, last) for name, change in ON_A_LIMIT.items()}
+    kinds["most reaches"] = most_reaches
+    return {name: lambda rng, make=make: reference.encode(make(rng)) for name, make in kinds.items()}
+
+
+def refused_kinds():
+    """Name and maker of every kind of refused file."""
+    kinds = {name: lambda rng, damage=damage: damage(rng, base_river(rng)) for name, damage in reading_faults().items()}
+    kinds |= {name: lambda rng, change=change: reference.encode(changed_river(rng, change, any_reach)) for name, change in PAST_A_LIMIT.items()}
+    return kinds
+
+
+def files(seed, count):
+    """Names and bytes of generated files."""
+    rng = random.Random(seed)
+    accepted, refused = accepted_kinds(), refused_kinds()
+    good, bad = deck(rng, accepted), deck(rng, refused)
+    for k in range(count):
+        kind = next(bad if k % 2 else good)
+        yield f"{k + 1:05d}-{kind.replace(',', '').replace(' ', '-')}.river", (refused if k % 2 else accepted)[kind](rng)
+
+
+def write_files(seed, directory, count):
+    """Writes generated files to a directory, and MANIFEST with a line for each: its name and the answer due."""
+    os.makedirs(directory, exist_ok=True)
+    with open(os.path.join(directory, "MANIFEST"), "w", encoding="ascii") as manifest:
+        for name, file in files(seed, count):
+            with open(os.path.join(directory, name), "wb") as target:
+                target.write(file)
+            due = reference.answer(reference.accept, file)
+            manifest.write(f"{name} {due.line() if isinstance(due, Refused) else 'accepted'}\n")

@@ -1,0 +1,604 @@
+#!/usr/bin/env python3
+"""The exact reference for river files and reports, written from docs/RIVER-FILE.md and named after it.
+
+It works with whole numbers and fractions only, so that its verdicts are exact.
+
+    reference.py check FILE [N ...] [--full] < PRINTED   the verdict on a printed report of FILE
+    reference.py expect FILE                             the refusal, or the exact figures, rounded down
+    reference.py show FILE                               the cards, or the refusal
+    reference.py gen SEED DIR COUNT                      generated files of every kind, with the answers in DIR/MANIFEST
+
+A check tries the series lengths N (40 and 41, where none is given). It decides each of the 1,025 instants by bounds, and
+works out those that the bounds leave open; --full works out every instant exactly. The exit status of a check is 0 for a right
+report and 1 for a wrong one; it is 2 for bad use.
+"""
+
+import argparse
+import math
+import re
+import sys
+from collections import namedtuple
+from fractions import Fraction
+
+INSTANTS = 1_024
+SERIES = (40, 41)       # the sums S(x) of all longer series lie between those of these two
+UNITS_A_STEP = 100      # the allowance for each step of depth, in units
+
+
+# ---- The river file: the table of records
+
+Field = namedtuple("Field", "name width lowest highest meaning")
+
+
+def most(width):
+    """The largest number that so many bytes hold."""
+    return 256 ** width - 1
+
+
+class Kind:
+    """A kind of record: its mark, its name and its fields."""
+
+    def __init__(self, mark, name, *fields):
+        self.mark, self.name = mark.encode(), name
+        self.fields = [Field(*field) for field in fields]
+        self.size = 2 + sum(field.width for field in self.fields)
+        self.values = namedtuple(name, [field.name for field in self.fields])
+
+    def decode(self, data):
+        """The values of a record, from its bytes."""
+        numbers, at = [], 2
+        for field in self.fields:
+            numbers.append(int.from_bytes(data[at:at + field.width], "big"))
+            at += field.width
+        return self.values(*numbers)
+
+    def encode(self, values):
+        """The bytes of a record. A number that its field cannot hold is an OverflowError."""
+        return self.mark + b"".join(number.to_bytes(field.width, "big") for field, number in zip(self.fields, values))
+
+    def outside(self, values):
+        """The fields whose number is out of range, with that number."""
+        return [(field, number) for field, number in zip(self.fields, values) if not field.lowest <= number <= field.highest]
+
+
+HEADER = Kind("RV", "header",
+              ("count", 2, 1, 128, "number of reaches"))
+REACH = Kind("RE", "reach",
+             ("outlet", 1, 0, most(1), "the reach it flows into, a larger number; 0 for the last"),      # check 5 has the rule
+             ("temperature", 1, 0, 35, "degrees C"),
+             ("k1", 2, 0, 20_000, "BOD decay rate, thousandths per day"),
+             ("k2", 2, 0, 20_000, "surface aeration rate, thousandths per day"),
+             ("volume", 4, 0, 1_000_000_000, "cubic metres"),
+             ("inflow", 4, 0, 100_000_000, "water that joins at the head, litres a second"),
+             ("inflow_bod", 4, 0, 1_000_000, "its BOD, thousandths of mg/L"),
+             ("inflow_oxygen", 2, 0, 20_000, "its oxygen, thousandths of mg/L"),
+             ("load", 4, 0, most(4), "BOD that joins without water, milligrams a second"))
+DAM = Kind("DM", "dam",
+           ("share", 2, 0, 1_000, "aeration share, thousandths"),
+           ("generating", 4, 0, 100_000_000, "flow through turbines, not aerated, litres a second"))
+AFTER_REACH = (DAM,)        # the records that may follow a reach, in this order, at most one of a kind
+
+LONGEST = HEADER.size + 128 * (REACH.size + sum(kind.size for kind in AFTER_REACH))
+
+# A card has the numbers of its reach, and for each kind of record after it the values or None.
+Card = namedtuple("Card", [field.name for field in REACH.fields] + [kind.name for kind in AFTER_REACH], defaults=[None] * len(AFTER_REACH))
+Dam = DAM.values
+River = namedtuple("River", "cards")
+
+
+def reach_values(card):
+    """The values of a card's own record."""
+    return REACH.values(*card[:len(REACH.fields)])
+
+
+def added_records(card):
+    """The records after a reach, as kinds with their values."""
+    return [(kind, getattr(card, kind.name)) for kind in AFTER_REACH if getattr(card, kind.name) is not None]
+
+
+def encode(river):
+    """The bytes of a river, lawful or not."""
+    parts = [HEADER.encode([len(river.cards)])]
+    for card in river.cards:
+        parts += [kind.encode(values) for kind, values in [(REACH, reach_values(card))] + added_records(card)]
+    return b"".join(parts)
+
+
+# ---- The river file: reading and writing
+
+class Refused(Exception):
+    """A refusal: its number, its reach, and what is wrong in words."""
+
+    def __init__(self, number, reach, why):
+        super().__init__(number, reach)
+        self.number, self.reach, self.why = number, reach, why
+
+    def line(self):
+        """As the printing program prints it."""
+        return f"refused {self.number} reach {self.reach}"
+
+
+def counted(number, noun):
+    """A number with its noun."""
+    return f"{number} {noun}" if number == 1 else f"{number} {noun}s"
+
+
+def answer(call, *arguments):
+    """What a call returns, or the refusal that it raises."""
+    try:
+        return call(*arguments)
+    except Refused as refusal:
+        return refusal
+
+
+def check_range(number, kind, values, reach):
+    """Checks 3 and 4: every field is in range."""
+    for field, value in kind.outside(values):
+        raise Refused(number, reach, f"{field.name} is {value}, not from {field.lowest} to {field.highest}")
+
+
+def outlet_range(reach, count):
+    """The lowest and the highest lawful outlet of a reach."""
+    return (0, 0) if reach == count else (reach + 1, count)
+
+
+def check_outlet(card, reach, count):
+    """Check 5."""
+    lowest, highest = outlet_range(reach, count)
+    if not lowest <= card.outlet <= highest:
+        raise Refused(5, reach, f"outlet is {card.outlet}, not from {lowest} to {highest}")
+
+
+class Reader:
+    """A file and how far it has been read."""
+
+    def __init__(self, file):
+        self.file, self.at = bytes(file), 0
+
+    def remaining(self):
+        return len(self.file) - self.at
+
+    def follows(self, kind):
+        """Whether the next two bytes are the mark of this kind."""
+        return self.file[self.at:self.at + 2] == kind.mark
+
+    def record(self, kind, reach):
+        """The values of the next record, which is to be of this kind: checks 1 and 2."""
+        mark = kind.mark.decode()
+        if self.remaining() < kind.size:
+            raise Refused(1, reach, f"byte {self.at}: {mark} needs {kind.size} bytes, and there are {self.remaining()}")
+        if not self.follows(kind):
+            raise Refused(2, reach, f"byte {self.at}: {self.file[self.at:self.at + 2]} stands where the mark {mark} is due")
+        self.at += kind.size
+        return kind.decode(self.file[self.at - kind.size:self.at])
+
+
+def read(file, ranges=True):
+    """The river of a file. Without `ranges` only the structure is checked: 1, 2 and 6."""
+    reader = Reader(file)
+    count = reader.record(HEADER, 0).count
+    if ranges:
+        check_range(3, HEADER, [count], 0)
+    cards = []
+    for reach in range(1, count + 1):
+        card = Card(*reader.record(REACH, reach))
+        if ranges:
+            check_range(4, REACH, reach_values(card), reach)
+            check_outlet(card, reach, count)
+        for kind in AFTER_REACH:
+            if reader.follows(kind):
+                values = reader.record(kind, reach)
+                if ranges:
+                    check_range(4, kind, values, reach)
+                card = card._replace(**{kind.name: values})
+        cards.append(card)
+    if reader.remaining():
+        raise Refused(6, 0, f"byte {reader.at}: {counted(reader.remaining(), 'byte')} too many, after the last record")
+    return River(cards)
+
+
+def write(river, room):
+    """The file of a river, for a buffer of `room` bytes."""
+    count = len(river.cards)
+    check_range(3, HEADER, [count], 0)
+    for reach, card in enumerate(river.cards, 1):
+        check_range(4, REACH, reach_values(card), reach)
+        check_outlet(card, reach, count)
+        for kind, values in added_records(card):
+            check_range(4, kind, values, reach)
+    file = encode(river)
+    if room < len(file):
+        raise Refused(12, 0, f"the buffer has {room} bytes and the file {len(file)}")
+    return file
+
+
+# ---- Flows and depth
+
+class Reach:
+    """A reach with its feeders and what flows in it."""
+
+    def __init__(self, number, card, feeders):
+        self.number, self.card, self.feeders = number, card, feeders
+        self.Qu = sum(feeder.Q for feeder in feeders)
+        self.Q = self.Qu + card.inflow
+        self.M = sum(feeder.M for feeder in feeders) + card.inflow * card.inflow_bod + 1_000 * card.load
+        self.depth = 1 + max((feeder.depth for feeder in feeders), default=0)
+        self.allowance = UNITS_A_STEP * self.depth
+        self.saturation = saturation(card.temperature)
+
+    def keeps_bod(self):
+        return self.card.k1 == 0 or self.card.volume == 0
+
+    def keeps_oxygen(self):
+        return self.card.k1 == self.card.k2 == 0 or self.card.volume == 0
+
+
+def flow_check(reach):
+    """The checks on flows, in their order."""
+    card, dam = reach.card, reach.card.dam
+    for number, broken, why in (
+            (7, reach.Q == 0, "there is no flow"),
+            (8, reach.Q > 100_000_000, f"the flow is {reach.Q}"),
+            (9, dam is not None and (not reach.feeders or dam.generating > reach.Qu), f"the dam has {reach.Qu} from above"),
+            (10, reach.M > 1_000_000 * reach.Q, f"M is {reach.M} at a flow of {reach.Q}"),
+            (11, max(card.k1, card.k2) * card.volume > 345_600 * reach.Q, f"the reach is too long for a flow of {reach.Q}")):
+        if broken:
+            raise Refused(number, reach.number, why)
+
+
+def flows(river):
+    """The reaches of a river that passes the flow check."""
+    reaches = []
+    for number, card in enumerate(river.cards, 1):
+        reaches.append(Reach(number, card, [feeder for feeder in reaches if feeder.card.outlet == number]))
+        flow_check(reaches[-1])
+    return reaches
+
+
+def accept(file):
+    """The reaches of an accepted file."""
+    return flows(read(file))
+
+
+# ---- Head of a reach
+
+def saturation(T):
+    """Saturation at T degrees, in units, not rounded."""
+    return 1_000_000 * (Fraction("14.652") - Fraction("0.41022") * T + Fraction("0.007991") * T ** 2 - Fraction("0.000077774") * T ** 3)
+
+
+def exactly(figure):
+    """Takes the place of rounding in the exact recurrence."""
+    return figure
+
+
+def upstream(reach, bod_sum, oxygen_sum, rounded):
+    """Steps 1 and 2: BOD and oxygen of the water from above, below the dam. The sums are those of Q × foot value over the feeders;
+    `rounded` is math.floor or `exactly`."""
+    Qu, dam = reach.Qu, reach.card.dam
+    if not reach.feeders:
+        return 0, 0
+    bod, C = rounded(bod_sum * Fraction(1, Qu)), rounded(oxygen_sum * Fraction(1, Qu))
+    if dam is not None:
+        C = rounded(C + (rounded(reach.saturation) - C) * Fraction(dam.share * (Qu - dam.generating), 1_000 * Qu))
+    return bod, C
+
+
+def head(reach, bod_sum, oxygen_sum, rounded):
+    """Step 3: BOD and oxygen at the head, mixed."""
+    card, Qu, part = reach.card, reach.Qu, Fraction(1, reach.Q)
+    bod, oxygen = upstream(reach, bod_sum, oxygen_sum, rounded)
+    return (rounded((Qu * bod + 1_000 * card.inflow * card.inflow_bod + 1_000_000 * card.load) * part),
+            rounded((Qu * oxygen + 1_000 * card.inflow * card.inflow_oxygen) * part))
+
+
+# ---- Along a reach
+
+def exponents(reach):
+    """x1 and x2 at the foot."""
+    return [Fraction(rate * reach.card.volume, 86_400 * reach.Q) for rate in (reach.card.k1, reach.card.k2)]
+
+
+def S(x, N):
+    """The sum of (−x)^j / j! for j from 0 to N − 1, over the denominator of its last term."""
+    n, d, last = x.numerator, x.denominator, N - 1
+    parts = math.factorial(last)
+    return Fraction(sum((-n) ** j * d ** (last - j) * (parts // math.factorial(j)) for j in range(N)), d ** last * parts)
+
+
+def factors(reach, m, N):
+    """S(x1), F and S(x2) at instant m."""
+    k1, k2 = reach.card.k1, reach.card.k2
+    x1, x2 = (x * Fraction(m, INSTANTS) for x in exponents(reach))
+    S1, S2 = S(x1, N), S(x2, N)
+    return S1, (x1 * S1 if k1 == k2 else Fraction(k1, k2 - k1) * (S1 - S2)), S2
+
+
+def along(reach, m, N):
+    """The formula that takes BOD and oxygen at the head to those at instant m."""
+    S1, F, S2 = factors(reach, m, N)
+    Cs = reach.saturation
+    return lambda L, C: (L * S1, Cs - F * L - S2 * (Cs - C))
+
+
+# The exact figures of a place have one common denominator, which grows by some thousand bits with each reach on the way
+# down. It is never reduced: that would take nearly all of the time.
+Point = namedtuple("Point", "over figures")
+
+
+def through(formula, point):
+    """What a formula gives at a point. Each formula is linear, so its values at 0 and at 1 for each figure tell its fractions."""
+    zeros = [0] * len(point.figures)
+    start = formula(*zeros)
+    slopes = []
+    for k in range(len(zeros)):
+        slopes.append([value - base for value, base in zip(formula(*zeros[:k], 1, *zeros[k + 1:]), start)])
+    common = math.lcm(*(Fraction(fraction).denominator for row in [start] + slopes for fraction in row))
+    figures = [int(common * base) * point.over for base in start]
+    for slope, figure in zip(slopes, point.figures):
+        figures = [total + int(common * fraction) * figure for total, fraction in zip(figures, slope)]
+    return Point(common * point.over, figures)
+
+
+def foot_sums(reach, feet):
+    """The sums of Q × foot value over the feeders."""
+    over, sums = 1, [0, 0]
+    for feeder in reach.feeders:
+        foot = feet[feeder.number]
+        sums = [total * foot.over + feeder.Q * figure * over for total, figure in zip(sums, foot.figures)]
+        over *= foot.over
+    return Point(over, sums)
+
+
+def recurrence(reaches, N):
+    """The exact recurrence: the points at the heads and at the feet, by reach number."""
+    heads, feet = {}, {}
+    for reach in reaches:
+        heads[reach.number] = through(lambda *sums: head(reach, *sums, exactly), foot_sums(reach, feet))
+        feet[reach.number] = through(along(reach, INSTANTS, N), heads[reach.number])
+    return heads, feet
+
+
+# ---- Along a reach: bounds on the oxygen at every instant
+
+BITS = 128      # with these the bounds leave open only what lies within 2^-110 units of a limit
+
+
+def terms(x, N):
+    """The terms of S(x)."""
+    result = [Fraction(1)]
+    for j in range(1, N):
+        result.append(-result[-1] * x / j)
+    return result
+
+
+def oxygen_bounds(reach, start, N):
+    """For each instant a whole number that is within `off` of 2^BITS × the exact oxygen, and `off`. `start` is the point at the head.
+
+    With u = m/1024 the oxygen is a polynomial in u, since the terms of S(x × u) are those of S(x) times powers of u. Its coefficients
+    are taken in parts of 2^-BITS. Cutting the head's BOD and oxygen to whole parts moves the sum by less than the sizes of all
+    factors; cutting the coefficients, and each step of the evaluation, by less than one part each.
+    """
+    k1, k2 = reach.card.k1, reach.card.k2
+    x1, x2 = exponents(reach)
+    S1, S2 = terms(x1, N), terms(x2, N) + [Fraction(0)]
+    if k1 == k2:
+        F = [Fraction(0)] + [x1 * term for term in S1]
+    else:
+        F = [Fraction(k1, k2 - k1) * (one - two) for one, two in zip(S1, S2)] + [Fraction(0)]
+    L, C = ((figure << BITS) // start.over for figure in start.figures)
+    Cs = reach.saturation * 2 ** BITS
+    coefficients = [math.floor(-f * L - s * (Cs - C)) for f, s in zip(F, S2)]
+    coefficients[0] += math.floor(Cs)
+    off = math.ceil(sum(map(abs, F + S2))) + 2 * len(coefficients) + 1
+    return [evaluated(coefficients, m) for m in range(INSTANTS + 1)], off
+
+
+def evaluated(coefficients, m):
+    """The polynomial with these whole coefficients at m/1024, cut to a whole number at each step."""
+    total = 0
+    for coefficient in reversed(coefficients):
+        total = total * m // INSTANTS + coefficient
+    return total
+
+
+# ---- The printing program: a printed report
+
+Record = namedtuple("Record", "depth Q head_bod foot_bod head_oxygen instant critical foot_oxygen")
+SIGNED = ("head_oxygen", "critical", "foot_oxygen")
+LINE = re.compile(" ".join(["(0|[1-9][0-9]*)"] + ["(0|-?[1-9][0-9]*)" if name in SIGNED else "(0|[1-9][0-9]*)" for name in Record._fields]))
+
+
+class Malformed(Exception):
+    """A printed text that is no report."""
+
+
+def printed_lines(printed):
+    """The lines of a printed text."""
+    try:
+        text = printed.decode("ascii")
+    except UnicodeDecodeError:
+        raise Malformed("the printed text is not ASCII") from None
+    if not text.endswith("\n"):
+        raise Malformed("the printed text does not end with a line end")
+    return text[:-1].split("\n")
+
+
+def printed_records(lines, count):
+    """The records of a printed report on so many reaches."""
+    if len(lines) != count:
+        raise Malformed(f"{len(lines)} lines are printed for {count} reaches")
+    records = []
+    for reach, line in enumerate(lines, 1):
+        found = LINE.fullmatch(line)
+        if not found or len(line) > 200:
+            raise Malformed(f"line {reach} is no line of a report: {line[:100]}")
+        number, *figures = map(int, found.groups())
+        if number != reach:
+            raise Malformed(f"line {reach} is that of reach {number}")
+        records.append(Record(*figures))
+    return records
+
+
+# ---- The verdict on a printed report
+
+class Verdict:
+    """What is due, what is wrong, and the largest error as a share of its allowance, in thousandths."""
+
+    def __init__(self, due):
+        self.due, self.wrong, self.worst = due, [], 0
+
+    def lines(self):
+        return self.wrong + [f"{self.due}: {len(self.wrong)} wrong; largest error {self.worst // 1_000}.{self.worst % 1_000:03d} of its allowance"]
+
+
+def check(file, printed, series=SERIES, full=False):
+    """The verdict on what was printed for a file."""
+    reaches = answer(accept, file)
+    refused = isinstance(reaches, Refused)
+    verdict = Verdict(reaches.line() if refused else "accepted")
+    try:
+        lines = printed_lines(printed)
+        if refused or lines[0].startswith("refused"):
+            if lines != [verdict.due]:
+                raise Malformed(f"'{lines[0][:100]}' is printed, due is '{verdict.due}'")
+        else:
+            records = printed_records(lines, len(reaches))
+            for reach in reaches:
+                verdict.wrong += [f"reach {reach.number}: {text}" for text in determined(reach, records) + tied(reach, records[reach.number - 1])]
+            for N in series:
+                distances(reaches, records, N, full, verdict)
+    except Malformed as problem:
+        verdict.wrong.append(str(problem))
+    return verdict
+
+
+def determined(reach, records):
+    """What is wrong with the figures that follow exactly: depth, Q, and the head from the reported feet of the feeders."""
+    above = [(feeder.Q, records[feeder.number - 1]) for feeder in reach.feeders]
+    bod, oxygen = head(reach, sum(Q * record.foot_bod for Q, record in above), sum(Q * record.foot_oxygen for Q, record in above), math.floor)
+    due = {"depth": reach.depth, "Q": reach.Q, "head_bod": bod, "head_oxygen": oxygen}
+    record = records[reach.number - 1]
+    return [f"{name} is {getattr(record, name)}, due is {number}" for name, number in due.items() if getattr(record, name) != number]
+
+
+def tied(reach, record):
+    """Which ties of a record are broken."""
+    kept = (record.critical, record.foot_oxygen, record.instant) == (record.head_oxygen, record.head_oxygen, 0)
+    rules = (
+        (record.foot_bod <= record.head_bod, "foot BOD is above head BOD"),
+        (record.foot_bod == record.head_bod or not reach.keeps_bod(), "foot BOD is not head BOD, though nothing decays"),
+        (kept or not reach.keeps_oxygen(), "oxygen is not that of the head throughout, though nothing moves it"),
+        (record.instant <= INSTANTS, "critical instant is above 1024"),
+        (record.critical <= record.head_oxygen, "critical oxygen is above head oxygen"),
+        (record.critical <= record.foot_oxygen, "critical oxygen is above foot oxygen"),
+        (record.critical == record.head_oxygen or record.instant != 0, "critical oxygen at instant 0 is not head oxygen"),
+        (record.critical == record.foot_oxygen or record.instant != INSTANTS, "critical oxygen at instant 1024 is not foot oxygen"),
+        (record.critical != record.head_oxygen or record.instant == 0, "critical instant is not the first, since the head has critical oxygen"),
+    )
+    return [f"{text}: {' '.join(map(str, record))}" for holds, text in rules if not holds]
+
+
+def distances(reaches, records, N, full, verdict):
+    """Holds every reach to the promised distance for the series length N."""
+    heads, feet = recurrence(reaches, N)
+    for reach, record in zip(reaches, records):
+        def judge(what, error, over):
+            """Notes an error, a whole number over another."""
+            verdict.worst = max(verdict.worst, 1_000 * error // (reach.allowance * over))
+            if error > reach.allowance * over:
+                verdict.wrong.append(f"reach {reach.number}: {what} is off by {error // over} units, allowed are {reach.allowance} (N = {N})")
+            return error <= reach.allowance * over
+
+        start, end = heads[reach.number], feet[reach.number]
+        for place, point, reported in (("head", start, (record.head_bod, record.head_oxygen)), ("foot", end, (record.foot_bod, record.foot_oxygen))):
+            judge(f"the {place}", sum(abs(figure * point.over - exact) for figure, exact in zip(reported, point.figures)), point.over)
+        if record.instant > INSTANTS:
+            continue
+        point = through(along(reach, record.instant, N), start)
+        judge("critical oxygen", abs(record.critical * point.over - point.figures[1]), point.over)
+        for m in lower_instants(reach, record, start, N, full):
+            point = through(along(reach, m, N), start)
+            if not judge(f"critical oxygen against instant {m}", record.critical * point.over - point.figures[1], point.over):
+                break
+
+
+def lower_instants(reach, record, start, N, full):
+    """The instants, lowest first, at which the exact oxygen may lie below the critical oxygen by more than the allowance."""
+    oxygen, off = oxygen_bounds(reach, start, N)
+    limit = (record.critical - reach.allowance) << BITS
+    return sorted((m for m in range(INSTANTS + 1) if full or oxygen[m] - off < limit), key=oxygen.__getitem__)
+
+
+# ---- The commands
+
+def expectation(file, N=40):
+    """The lines of `expect`."""
+    reaches = answer(accept, file)
+    if isinstance(reaches, Refused):
+        return [f"{reaches.line()}  ({reaches.why})"]
+    heads, feet = recurrence(reaches, N)
+    lines = ["# reach depth Q M saturation allowance head-BOD foot-BOD head-oxygen critical-instant critical-oxygen foot-oxygen"]
+    for reach in reaches:
+        start, end = heads[reach.number], feet[reach.number]
+        oxygen, _ = oxygen_bounds(reach, start, N)
+        lowest = oxygen.index(min(oxygen))
+        points = start, end, through(along(reach, lowest, N), start)
+        (head_bod, head_oxygen), (foot_bod, foot_oxygen), (_, critical) = ([figure // point.over for figure in point.figures] for point in points)
+        lines.append(" ".join(map(str, (reach.number, reach.depth, reach.Q, reach.M, math.floor(reach.saturation), reach.allowance, head_bod, foot_bod,
+                                        head_oxygen, lowest, critical, foot_oxygen))))
+    return lines
+
+
+def shown(file):
+    """The lines of `show`."""
+    river = answer(read, file)
+    if isinstance(river, Refused):
+        return [f"{river.line()}  ({river.why})"]
+    return [" ".join([f"{reach}:"] + [f"{kind.name} " + ", ".join(f"{name} {number}" for name, number in values._asdict().items())
+                                      for kind, values in [(REACH, reach_values(card))] + added_records(card)])
+            for reach, card in enumerate(river.cards, 1)]
+
+
+def arguments():
+    """The command line."""
+    parser = argparse.ArgumentParser(description=__doc__, formatter_class=argparse.RawDescriptionHelpFormatter)
+    commands = parser.add_subparsers(dest="command", required=True, metavar="COMMAND")
+    checking = commands.add_parser("check", help="the verdict on a printed report, which is read on standard input")
+    checking.add_argument("file")
+    checking.add_argument("series", nargs="*", type=int, metavar="N", help="series lengths, 40 and 41 if none is given")
+    checking.add_argument("--full", action="store_true", help="work out every instant exactly")
+    for name, text in (("expect", "the refusal, or the exact figures"), ("show", "the cards, or the refusal")):
+        commands.add_parser(name, help=text).add_argument("file")
+    generating = commands.add_parser("gen", help="generated files of every kind")
+    generating.add_argument("seed", type=int)
+    generating.add_argument("directory")
+    generating.add_argument("count", type=int)
+    given = parser.parse_args()
+    if given.command == "check" and any(N < 40 for N in given.series):
+        parser.error("a series length is 40 or more")
+    return given
+
+
+def main():
+    given = arguments()
+    try:
+        if given.command == "gen":
+            import generate
+            generate.write_files(given.seed, given.directory, given.count)
+            return 0
+        with open(given.file, "rb") as source:
+            file = source.read()
+        if given.command == "check":
+            verdict = check(file, sys.stdin.buffer.read(), given.series or SERIES, given.full)
+            print("\n".join(verdict.lines()))
+            return 1 if verdict.wrong else 0
+        print("\n".join(expectation(file) if given.command == "expect" else shown(file)))
+        return 0
+    except OSError as problem:
+        print(f"reference.py: {problem.filename or given.command}: {problem.strerror}", file=sys.stderr)
+        return 2
+
+
+if __name__ == "__main__":
+    sys.exit(main())

@@ -1,0 +1,234 @@
+#!/usr/bin/env python3
+"""Tests of the reference itself: tests/reference_test.py
+
+The bench values of docs/RIVER-FILE.md; the bounds on oxygen against exact figures; a right report is found right, and many reports with one
+thing wrong are found wrong; the generated files hold every kind. It needs no program. The exit status is 1 where something fails.
+"""
+
+import math
+import random
+import sys
+from fractions import Fraction
+
+import generate
+import reference
+from reference import BITS, INSTANTS, SERIES, Card, Dam, Point, Reach, Record, Refused, River
+
+WORKED = [Card(2, 20, 0, 0, 1_000, 3_000, 2_000, 8_000, 0), Card(0, 20, 0, 0, 1_000, 1_000, 30_000, 2_000, 0)]
+WORKED_LINES = b"1 1 3000 2000000 2000000 8000000 0 8000000 8000000\n2 2 4000 9000000 9000000 6500000 0 6500000 6500000\n"
+
+
+def equal(what, found, due):
+    if found != due:
+        raise AssertionError(f"{what}: {found}, due is {due}")
+
+
+def answer_line(file):
+    """The refusal that a file gets, or 'accepted'."""
+    due = reference.answer(reference.accept, file)
+    return due.line() if isinstance(due, Refused) else "accepted"
+
+
+def is_right(file, printed):
+    return not reference.check(file, printed).wrong
+
+
+# ---- Bench values
+
+def bench_values():
+    """The bench values of the paper."""
+    equal("saturation", [math.floor(reference.saturation(T)) for T in (0, 10, 20, 25, 35)], [14_652_000, 11_271_126, 9_021_808, 8_175_656, 6_748_714])
+    equal("the worked example", is_right(reference.encode(River(WORKED)), WORKED_LINES), True)
+    dammed = reference.flows(River([WORKED[0], WORKED[1]._replace(dam=Dam(500, 1_000))]))
+    sums = 3_000 * 2_000_000, 3_000 * 8_000_000
+    equal("below the dam", reference.upstream(dammed[1], *sums, math.floor)[1], 8_340_602)
+    equal("at the head", reference.head(dammed[1], *sums, math.floor)[1], 6_755_451)
+
+    def one(**fields):
+        return reference.encode(River([Card(0, 20, 1_000, 0, 0, 10_000, 0, 0, 0)._replace(**fields)]))
+
+    def chain(n):
+        return reference.encode(River([Card(i + 1 if i < n else 0, 20, 0, 0, 0, 1, 0, 0, 0) for i in range(1, n + 1)]))
+
+    for what, file, due in (
+            ("volume 3,456,000", one(volume=3_456_000), "accepted"), ("volume 3,456,001", one(volume=3_456_001), "refused 11 reach 1"),
+            ("no inflow", one(inflow=0), "refused 7 reach 1"), ("an empty file", b"", "refused 1 reach 0"),
+            ("128 reaches", chain(128), "accepted"), ("129 reaches", chain(129), "refused 3 reach 0"),
+            ("36 degrees", one(temperature=36), "refused 4 reach 1"), ("outlet to itself", one(outlet=1), "refused 5 reach 1")):
+        equal(what, answer_line(file), due)
+    reaches = reference.accept(one(temperature=0, k2=1_000, volume=864_000, inflow_bod=10_000, inflow_oxygen=14_652))
+    foot = reference.recurrence(reaches, 40)[1][1]
+    off = sum(abs(Fraction(exact, foot.over) - figure) for exact, figure in zip(foot.figures, (3_678_794, 10_973_206)))
+    equal("the foot at equal rates is off by at most 2 units", off <= 2, True)
+    return "bench values"
+
+
+# ---- Bounds
+
+def drawn_reaches(rng, count):
+    """Accepted rivers of a few reaches, of every style in turn."""
+    for style in list(generate.STYLES)[:count]:
+        yield style, reference.flows(generate.accepted_river(rng, style, rng.randint(1, 4)))
+
+
+def bounds_hold():
+    """The bounds on oxygen hold the exact figure, at some instants of rivers of every style."""
+    rng, tried = random.Random(2), 0
+    for style, reaches in drawn_reaches(rng, len(generate.STYLES)):
+        for N in SERIES:
+            heads, _ = reference.recurrence(reaches, N)
+            reach = rng.choice(reaches)
+            start = heads[reach.number]
+            oxygen, off = reference.oxygen_bounds(reach, start, N)
+            for m in (0, INSTANTS, rng.randint(1, INSTANTS - 1)):
+                point = reference.through(reference.along(reach, m, N), start)
+                distance = abs(oxygen[m] * point.over - (point.figures[1] << BITS))
+                equal(f"{style}: bounds at instant {m}", distance <= off * point.over and off < 2 ** 16, True)
+                tried += 1
+    return f"bounds at {tried} instants"
+
+
+def exact_values():
+    """Points and S against plain fractions."""
+    x = Fraction(355, 113)
+    equal("S", reference.S(x, 40), sum((-x) ** j / math.factorial(j) for j in range(40)))
+    equal("S and its terms", reference.S(x, 41), sum(reference.terms(x, 41)))
+    card = Card(0, 21, 301, 700, 90_000, 1_234, 5_678, 4_321, 99)
+    reach = Reach(1, card, [])
+    point = reference.through(reference.along(reach, 300, 40), Point(7, [11, -13]))
+    S1, F, S2 = reference.factors(reach, 300, 40)
+    L, C, Cs = Fraction(11, 7), Fraction(-13, 7), reach.saturation
+    equal("a point", [Fraction(figure, point.over) for figure in point.figures], [L * S1, Cs - F * L - S2 * (Cs - C)])
+    return "series and points"
+
+
+# ---- Right and wrong reports
+
+def right_report(reaches):
+    """A report without any error but rounding, for these reaches."""
+    records = []
+    for reach in reaches:
+        above = [(feeder.Q, records[feeder.number - 1]) for feeder in reach.feeders]
+        bod, oxygen = reference.head(reach, sum(Q * foot.foot_bod for Q, foot in above), sum(Q * foot.foot_oxygen for Q, foot in above), math.floor)
+        S1, _, _ = reference.factors(reach, INSTANTS, 60)
+        values, _ = reference.oxygen_bounds(reach, Point(1, [bod, oxygen]), 60)
+        values = [oxygen] + [oxygen if reach.keeps_oxygen() else value >> BITS for value in values[1:]]
+        records.append(Record(reach.depth, reach.Q, bod, math.floor(bod * S1), oxygen, values.index(min(values)), min(values), values[-1]))
+    return records
+
+
+def text(records):
+    return "".join(" ".join(map(str, (reach, *record))) + "\n" for reach, record in enumerate(records, 1)).encode()
+
+
+def wrong_records(rng, reaches, records):
+    """Reports with one thing wrong, each with what that is. Only figures of one reach are changed."""
+    reach = rng.choice(reaches)
+    record = records[reach.number - 1]
+    far = 2 * reach.allowance + 50
+    changes = [("depth", {"depth": record.depth + 1}), ("Q", {"Q": record.Q + 1}), ("head BOD", {"head_bod": record.head_bod + 1}),
+               ("head oxygen", {"head_oxygen": record.head_oxygen - 1}), ("foot BOD above the head's", {"foot_bod": record.head_bod + 1}),
+               ("foot oxygen far off", {"foot_oxygen": record.foot_oxygen + far}), ("critical oxygen above the head's", {"critical": record.head_oxygen + 1}),
+               ("critical oxygen too low", {"critical": record.critical - far}), ("an instant past the foot", {"instant": INSTANTS + 1})]
+    if record.foot_bod >= far:
+        changes.append(("foot BOD far off", {"foot_bod": record.foot_bod - far}))
+    if record.critical + far <= min(record.head_oxygen, record.foot_oxygen):
+        changes.append(("critical oxygen too high", {"critical": record.critical + far}))
+    if record.critical == record.head_oxygen:
+        changes.append(("not the first instant", {"instant": 1}))
+    if record.foot_oxygen != record.critical:
+        changes.append(("the foot's instant", {"instant": INSTANTS}))
+    for what, fields in changes:
+        yield what, records[:reach.number - 1] + [record._replace(**fields)] + records[reach.number:]
+
+
+def malformed(printed):
+    """Texts that are no report."""
+    lines = printed.splitlines(keepends=True)
+    return [b"", b"\n", printed[:-1], printed + b"\n", lines[0] + printed, b"".join(lines[:-1]), b" " + printed, b"0" + printed, printed.replace(b" ", b"  ", 1),
+            printed.replace(b"\n", b" \n", 1), printed.replace(b"\n", b" 0\n", 1), printed.replace(b"\n", b"\r\n"), b"refused 7 reach 1\n", b"accepted\n",
+            printed.replace(b"1", b"\xc2\xb9", 1)]
+
+
+def verdicts():
+    """A right report is found right and each wrong one wrong, for rivers of every style."""
+    rng, found = random.Random(3), 0
+    for style, reaches in drawn_reaches(rng, len(generate.STYLES)):
+        file = reference.encode(River([reach.card for reach in reaches]))
+        records = right_report(reaches)
+        verdict = reference.check(file, text(records))
+        equal(f"{style}: a right report", verdict.wrong, [])
+        for what, wrong in wrong_records(rng, reaches, records):
+            equal(f"{style}: {what} is found", is_right(file, text(wrong)), False)
+            found += 1
+        for wrong in malformed(text(records)):
+            equal(f"{style}: {wrong[:60]} is found", is_right(file, wrong), False)
+            found += 1
+    file = reference.encode(River([WORKED[0]._replace(outlet=1), WORKED[1]]))
+    equal("a right refusal", is_right(file, b"refused 5 reach 1\n"), True)
+    for wrong in (b"refused 5 reach 2\n", b"refused 4 reach 1\n", b"refused 5 reach 1", b"refused 5 reach 1\n\n", b"Refused 5 reach 1\n", WORKED_LINES):
+        equal(f"{wrong} is found", is_right(file, wrong), False)
+        found += 1
+    return f"{found} wrong reports found"
+
+
+def exact_limits():
+    """An error of the whole allowance passes and one unit more does not: both rates 0, so that the exact figures are whole."""
+    file = reference.encode(River(WORKED))
+    reaches = reference.accept(file)
+    records = right_report(reaches)
+    for error, verdict in ((200, 0), (201, 1)):
+        changed = records[:1] + [records[1]._replace(foot_oxygen=records[1].foot_oxygen + error)]
+        judged = reference.Verdict("accepted")
+        reference.distances(reaches, changed, 40, False, judged)
+        equal(f"an error of {error} units at depth 2", len(judged.wrong), verdict)
+        changed = records[:1] + [records[1]._replace(critical=records[1].critical + error)]
+        judged = reference.Verdict("accepted")
+        reference.distances(reaches, changed, 40, False, judged)
+        equal(f"a critical oxygen {error} units too high at depth 2", bool(judged.wrong), bool(verdict))
+    return "errors on the allowance"
+
+
+def same_at_both_speeds():
+    """--full gives the same verdict."""
+    rng = random.Random(4)
+    for style, reaches in drawn_reaches(rng, 4):
+        reaches = reaches[:1]
+        file = reference.encode(River([reaches[0].card._replace(outlet=0)]))
+        printed = text(right_report(reference.accept(file)))
+        equal(f"{style}: both speeds", reference.check(file, printed, full=True).wrong, [])
+    return "both speeds"
+
+
+# ---- Generated files
+
+def every_kind():
+    """300 generated files hold every kind, every refusal of reading and of the flow check, and many accepted rivers."""
+    answers, names = [], set()
+    for name, file in generate.files(1, 300):
+        names.add(name.split("-", 1)[1])
+        answers.append(answer_line(file))
+    equal("kinds", len(names), len(generate.accepted_kinds()) + len(generate.refused_kinds()))
+    numbers = {int(line.split()[1]) for line in answers if line != "accepted"}
+    equal("refusals", numbers, set(range(1, 12)))
+    equal("the odd ones are accepted", set(answers[::2]), {"accepted"})
+    return f"{len(names)} kinds of generated files"
+
+
+TESTS = (bench_values, exact_values, bounds_hold, exact_limits, verdicts, same_at_both_speeds, every_kind)
+
+
+def main():
+    if len(sys.argv) > 1:
+        print(__doc__.strip())
+        return 0 if sys.argv[1:] in (["-h"], ["--help"]) else 2
+    try:
+        print("reference: " + ", ".join(test() for test in TESTS))
+        return 0
+    except AssertionError as problem:
+        print(f"reference_test.py: {problem}", file=sys.stderr)
+        return 1
+
+
+if __name__ == "__main__":
+    sys.exit(main())
