@@ -1,58 +1,71 @@
 #!/usr/bin/env python3
-"""Holds the stored output of the program decay_vectors to exact fractions: tests/decay_vectors.py
+"""Holds the stored output of the program decay_vectors to exact fractions, or stores what the program prints once it keeps to them.
 
-For each reach it works out 1 - S, F and 1 - S of one step and S, F, S at each instant with 60 terms, as fractions, and prints the largest
-distance in parts of 2^-44. The exit status is 1 where a share of a step is off by more than 10 parts or a factor by more than 2,000."""
+    tests/decay_vectors.py --check | --write
 
+For each reach the program prints the shares of a step and the factors at some instants, in parts of 2^-44. The shares are held to
+1 − S(x1), F and 1 − S(x2) at instant 1, the factors to S(x1), F and S(x2) at theirs, with 60 terms. --write builds and runs the program.
+"""
+
+import math
 import os
+import subprocess
 import sys
-from fractions import Fraction
 
+import reference
+import vectors
+from reference import Card, Reach
+
+CRATE = "crates/decay_vectors"
 ONE = 2 ** 44
 TERMS = 60
-
-
-def series(x):
-    """S(x): the sum of (-x)^j / j! for j from 0 to TERMS - 1."""
-    total = term = Fraction(1)
-    for j in range(1, TERMS):
-        term = -term * x / j
-        total += term
-    return total
-
-
-def exact(k1, k2, volume, flow, m):
-    """S(x1), F and S(x2) at instant m."""
-    x1, x2 = (Fraction(k * volume * m, 86_400 * 1_024 * flow) for k in (k1, k2))
-    s1, s2 = series(x1), series(x2)
-    f = x1 * s1 if k1 == k2 else Fraction(k1, k2 - k1) * (s1 - s2)
-    return s1, f, s2
+MOST_OFF = {"step": 10, "instant": 2_000}       # parts of 2^-44
 
 
 def off(printed, shares):
-    """The largest distance of printed numbers from exact shares, in parts of 2^-44."""
-    return max(abs(n - share * ONE) for n, share in zip(printed, shares))
+    """The largest distance of printed numbers from exact shares, in parts of 2^-44, rounded up."""
+    return max(math.ceil(abs(number - share * ONE)) for number, share in zip(printed, shares, strict=True))
 
 
-def main():
-    stored = os.path.join(os.path.dirname(os.path.abspath(__file__)), "../crates/decay_vectors/stdout")
-    steps = instants = reaches = 0
-    with open(stored, encoding="ascii") as lines:
-        for line in lines:
-            label, *numbers = line.split()
-            numbers = [int(n) for n in numbers]
-            if label == "flow":
-                flow, reaches = numbers[0], reaches + 1
-            elif label == "card":
-                k1, k2, volume = numbers
-            elif label == "step":
-                s1, f, s2 = exact(k1, k2, volume, flow, 1)
-                steps = max(steps, off(numbers, (1 - s1, f, 1 - s2)))
-            else:
-                instants = max(instants, off(numbers, exact(k1, k2, volume, flow, int(label))))
-    print(f"{reaches} reaches: shares of a step within {float(steps):.2f} parts of 2^-44, factors within {float(instants):.0f}")
-    return steps > 10 or instants > 2_000
+def distances(text):
+    """How many reaches an output has, and the largest distances of its steps and of its instants."""
+    reaches, largest = 0, {"step": 0, "instant": 0}
+    for line in text.splitlines():
+        label, *numbers = line.split()
+        numbers = [int(number) for number in numbers]
+        if label == "flow":
+            flow, reaches = numbers[0], reaches + 1
+        elif label == "card":
+            k1, k2, volume = numbers
+            reach = Reach(1, Card(0, 20, k1, k2, volume, flow, 0, 0, 0), [])
+        elif label == "step":
+            S1, F, S2 = reference.factors(reach, 1, TERMS)
+            largest["step"] = max(largest["step"], off(numbers, (1 - S1, F, 1 - S2)))
+        else:
+            largest["instant"] = max(largest["instant"], off(numbers, reference.factors(reach, int(label), TERMS)))
+    return reaches, largest
+
+
+def printed():
+    """What the program prints. It is proved and built first; that it prints something else than is stored is no failure here."""
+    log = vectors.rt("check", "decay_vectors")
+    if "decay_vectors proved" not in log.stdout:
+        raise vectors.Failed(f"rt check decay_vectors failed:\n{log.stdout}")
+    return subprocess.run([os.path.join(vectors.ROOT, "target/bin/decay_vectors")], stdout=subprocess.PIPE, text=True, check=True).stdout
+
+
+def make(write):
+    path = f"{CRATE}/stdout"
+    text = printed() if write else vectors.stored(path)
+    reaches, largest = distances(text or "")
+    if not reaches:
+        raise vectors.Failed(f"{path} holds no reach")
+    for name, most in MOST_OFF.items():
+        if largest[name] > most:
+            raise vectors.Failed(f"{path}: a {name} is off by {largest[name]} parts of 2^-44, above {most}")
+    vectors.settle(path, text, write)
+    return f"decay vectors: {reaches} reaches, shares of a step within {largest['step']} parts of 2^-44, factors within {largest['instant']}"
 
 
 if __name__ == "__main__":
-    sys.exit(main())
+    sys.exit(vectors.run(__doc__, make))

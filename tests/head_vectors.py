@@ -1,30 +1,22 @@
 #!/usr/bin/env python3
-"""Makes crates/head_vectors/src/vectors.rt and its stdout from the reference program, whose folder is the argument."""
-import os
+"""Makes src/vectors.rt and stdout of the crate head_vectors, which works flows and heads over given feet, from the reference.
+
+    tests/head_vectors.py --check | --write
+"""
+
+import math
 import sys
 
-sys.path.insert(0, sys.argv[1])
-import oracle  # noqa: E402
+import reference
+import vectors
+from reference import Card, Dam, Refused, River
 
-HERE = os.path.join(os.path.dirname(os.path.abspath(__file__)), "..", "crates", "head_vectors")
-OFFSET = 2**31
+CRATE = "crates/head_vectors"
+OFFSET = 2 ** 31        # the program holds oxygen as units + 2^31
 
 
 def card(outlet, temperature=20, k1=0, k2=0, volume=1000, inflow=3000, bod=2000, oxygen=8000, load=0, dam=None):
-    return oracle.Card(outlet, temperature, k1, k2, volume, inflow, bod, oxygen, load, oracle.Dam(*dam) if dam else None)
-
-
-def printed(cards, first, step):
-    """The lines of the test program: a foot has seven eighths of the head's BOD and the given oxygen."""
-    flows = oracle.flows(cards)
-    if flows.refusal:
-        return [f"refused {flows.refusal.number} reach {flows.refusal.reach}"]
-    feet, out = {}, []
-    for i, c in enumerate(cards, 1):
-        head = oracle.head_steps(c, flows.Qu[i], flows.Q[i], [feet[j] for j in flows.feeders[i]])
-        out.append(f"{i} {flows.depth[i]} {flows.Q[i]} {flows.M[i]} {head.bod} {head.oxygen}")
-        feet[i] = (flows.Q[i], head.bod - head.bod // 8, (first + step * (i - 1)) % 2**32 - OFFSET)
-    return out
+    return Card(outlet, temperature, k1, k2, volume, inflow, bod, oxygen, load, Dam(*dam) if dam else None)
 
 
 def two(dam=None, **more):
@@ -54,6 +46,12 @@ def dams():
     return cards
 
 
+def made(star):
+    """The rivers of src/made.rt."""
+    return [card(0 if i == 127 else 128 if star else i + 2, i % 36, 100, 200, 50, 0x0B00 + i, 2000, 8000, 5) for i in range(128)]
+
+
+# Cards, the first reach's foot oxygen as the program holds it, and how much it grows with each reach.
 LEVEL, HIGH, LOW = OFFSET + 8000000, OFFSET + 19900000, OFFSET - 900000000
 GROUPS = {
     "plain": [(two(), LEVEL, 0), (two((500, 1000)), LEVEL, 0), (two((500, 1000), temperature=5), HIGH, 0), (two((1000, 0), temperature=30), HIGH, 7)],
@@ -86,36 +84,46 @@ GROUPS = {
         ([card(2), card(0, k1=20000, k2=20000, volume=1000000000)], LEVEL, 0),
     ],
 }
+MADE = [(made(False), 2155483648, 1000), (made(True), 2147000000, 12345)]
+
+
+def lines(cards, first, step):
+    """What the program prints: a foot has seven eighths of the head's BOD, rounded up, and the oxygen given."""
+    reaches = reference.answer(reference.flows, River(cards))
+    if isinstance(reaches, Refused):
+        return [reaches.line()]
+    feet, result = {}, []
+    for reach in reaches:
+        above = [(feeder.Q, *feet[feeder.number]) for feeder in reach.feeders]
+        bod, oxygen = reference.head(reach, sum(Q * foot for Q, foot, _ in above), sum(Q * foot for Q, _, foot in above), math.floor)
+        result.append(f"{reach.number} {reach.depth} {reach.Q} {reach.M} {bod} {oxygen}")
+        feet[reach.number] = bod - bod // 8, (first + step * (reach.number - 1)) % 2 ** 32 - OFFSET
+    return result
+
+
+def output():
+    rivers = [river for group in GROUPS.values() for river in group] + MADE
+    return "".join(line + "\n" for river in rivers for line in lines(*river))
 
 
 def literal(data):
-    plain = set(b"ABCDEFGHIJKLMNOPQRSTUVWXYZ")
-    return 'b"' + "".join(chr(b) if b in plain else f"\\x{b:02x}" for b in data) + '"'
+    """A byte string of Rattle."""
+    capitals = b"ABCDEFGHIJKLMNOPQRSTUVWXYZ"
+    return 'b"' + "".join(chr(byte) if byte in capitals else f"\\x{byte:02x}" for byte in data) + '"'
 
 
-def made(star):
-    """The rivers of src/made.rt."""
-    return [
-        card(0 if i == 127 else 128 if star else i + 2, i % 36, 100, 200, 50, 0x0B00 + i, 2000, 8000, 5)
-        for i in range(128)
-    ]
-
-
-def main():
+def source():
     code = ["// Vectors of the test program, made by tests/head_vectors.py from the reference program.", "use crate::shown::show;", ""]
-    out = []
     for name, rivers in GROUPS.items():
-        code.append(f"fn {name}() {{")
-        for cards, first, step in rivers:
-            code.append(f"    show({literal(oracle.encode(cards))}, {first}, {step});")
-            out += printed(cards, first, step)
-        code += ["}", ""]
-    code += ["pub fn all() {"] + [f"    {name}();" for name in GROUPS] + ["}"]
-    out += printed(made(False), 2155483648, 1000) + printed(made(True), 2147000000, 12345)
-    with open(os.path.join(HERE, "src", "vectors.rt"), "w") as f:
-        f.write("\n".join(code) + "\n")
-    with open(os.path.join(HERE, "stdout"), "w") as f:
-        f.write("\n".join(out) + "\n")
+        code += [f"fn {name}() {{"] + [f"show({literal(reference.encode(River(cards)))}, {first}, {step});" for cards, first, step in rivers] + ["}", ""]
+    return "\n".join(code + ["pub fn all() {"] + [f"{name}();" for name in GROUPS] + ["}", ""])
 
 
-main()
+def make(write):
+    vectors.settle(f"{CRATE}/src/vectors.rt", vectors.formatted(source()), write)
+    vectors.settle(f"{CRATE}/stdout", output(), write)
+    return f"head vectors: {sum(map(len, GROUPS.values())) + len(MADE)} rivers are up to date"
+
+
+if __name__ == "__main__":
+    sys.exit(vectors.run(__doc__, make))
