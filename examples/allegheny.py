@@ -1,7 +1,7 @@
 #!/usr/bin/env python3
 """The Allegheny River of Railsback and Jager, ORNL/TM-10953 (1988), Table 4, as a river.
 
-    allegheny.py cards              prints the text of the river, for make_river.py
+    allegheny.py cards              prints the text of the river, for tools/river
     allegheny.py compare REPORT     compares the printed report with the published table
 
 ALLEGHENY.md explains the conversion and the differences.

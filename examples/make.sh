@@ -36,7 +36,10 @@ settle "$scratch/text" allegheny.txt
 count=0
 for text in *.txt refused/*.txt; do
     name=${text%.txt}
-    python3 make_river.py "$text" "$scratch/river"
+    if ! ../tools/river make "$text" "$scratch/river" 2> "$scratch/said"; then
+        cat "$scratch/said" >&2
+        fail "examples/$text makes no river"
+    fi
     "$program" < "$scratch/river" > "$scratch/report"
     if [ "${text#refused/}" = "$text" ] && grep '^refused' "$scratch/report" >&2; then
         fail "examples/$text makes a river that is refused"

@@ -1,0 +1,168 @@
+#!/usr/bin/env python3
+"""Tests of tools/river: tests/river_test.py
+
+Every example and many generated files come back from their text; wrong uses get their message and status. The exit status is 1 where something fails.
+"""
+
+import glob
+import os
+import subprocess
+import sys
+import tempfile
+
+import generate
+import reference
+
+ROOT = os.path.dirname(os.path.dirname(os.path.abspath(__file__)))
+TOOL = os.path.join(ROOT, "tools", "river")
+NINE = "0 20 0 0 1000 3000 2000 8000 0"
+
+
+def river(*words, given=b""):
+    """Runs the tool: status, standard output, standard error."""
+    done = subprocess.run([TOOL, *words], input=given, stdout=subprocess.PIPE, stderr=subprocess.PIPE, cwd=ROOT, check=False)
+    return done.returncode, done.stdout, done.stderr.decode()
+
+
+def expect(what, found, due):
+    if found != due:
+        raise AssertionError(f"{what}: {found}, due is {due}")
+
+
+def one_line(what, answer, status, *parts):
+    """An answer is this status and one line that holds all the parts."""
+    found, out, said = answer
+    if found != status or out or said.count("\n") != 1 or not all(part in said for part in parts):
+        raise AssertionError(f"{what}: status {found}, {out[:80]}, '{said}', due is status {status} and one line with {parts}")
+
+
+def examples_come_back():
+    """Each example: its text makes its file, and the text shown makes it again."""
+    texts = sorted(glob.glob(os.path.join(ROOT, "examples", "*.txt")) + glob.glob(os.path.join(ROOT, "examples", "refused", "*.txt")))
+    for path in texts:
+        with open(path[:-3] + "river", "rb") as source:
+            file = source.read()
+        expect(path, river("make", path, "-")[:2], (0, file))
+        status, shown, _ = river("show", path[:-3] + "river")
+        expect(f"{path} shown", (status, river("make", "-", "-", given=shown)[:2]), (0, (0, file)))
+    return f"{len(texts)} examples both ways"
+
+
+def generated_come_back(count=60):
+    """Generated files: those that are whole come back, the others get a line."""
+    back = 0
+    for name, file in generate.files(5, count):
+        status, shown, said = river("show", "-", given=file)
+        structure = reference.answer(reference.read, file, False)
+        if isinstance(structure, reference.Refused):
+            expect(name, (status in (1, 2), shown, said.count("\n")), (True, b"", 1))
+        else:
+            expect(name, (status, river("make", "-", "-", given=shown)[:2]), (0, (0, file)))
+            back += 1
+    return f"{back} of {count} generated files both ways"
+
+
+def texts():
+    """Texts that are taken, and texts that are not."""
+    def make(text):
+        return river("make", "-", "-", given=text.encode())
+
+    plain = make(NINE)[1]
+    for same in (f"{NINE}\n", f"# a\n\n  {NINE}  # b\r\n", "\ufeff" + NINE, NINE.replace("1000", "1_000"), NINE.replace(" ", "\t"), NINE.replace("3000", "0003000")):
+        expect(f"'{same}'", make(same), (0, plain, ""))
+    expect("a load of all bits", make(NINE[:-1] + "4_294_967_295")[0], 0)
+    for text, parts in (
+            (NINE.replace("20", "256", 1), ("line 1", "temperature", "256", "0 to 255")),
+            (f"#\n{NINE}\n" + NINE.replace("8000", "65536"), ("line 3", "inflow_oxygen", "0 to 65535")),
+            (NINE[:-1] + "4294967296", ("line 1", "load", "0 to 4294967295")),
+            (NINE[:-1] + "9" * 5000, ("line 1", "load", "0 to 4294967295")),
+            (NINE.replace("20", "-1", 1), ("line 1", "temperature", "'-1'", "0 to 255")),
+            (NINE.replace("20", "1.5", 1), ("line 1", "temperature", "'1.5'")),
+            (NINE.replace("20", "1__5", 1), ("line 1", "temperature")),
+            (NINE.replace("20", "+5", 1), ("line 1", "temperature")),
+            (NINE.replace("20", "２０", 1), ("line 1", "temperature")),
+            ("1 2 3", ("line 1", "3 numbers", "9", "outlet")),
+            (NINE + " 1", ("line 1", "10 numbers")),
+            (NINE + " dam 5", ("line 1", "1 number where dam", "share generating")),
+            (NINE + " dam 5 6 dam 5 6", ("line 1", "'dam' stands twice")),
+            (NINE + " weir 5 6", ("line 1", "'weir'", "dam")),
+            (NINE + " dam 5 65536000000", ("line 1", "generating", "0 to 4294967295"))):
+        one_line(f"'{text[:60]}'", make(text), 1, *parts)
+    for text, parts in (
+            (NINE.replace("20", "36", 1), ("line 1", "temperature", "36", "0 to 35")),
+            ("2" + NINE[1:], ("line 1", "outlet", "2", "0 to 0")),
+            (f"{NINE}\n{NINE}", ("line 1", "outlet", "0", "2 to 2")),
+            (NINE + " dam 1001 0", ("line 1", "share", "1001", "0 to 1000")),
+            ("", ("count", "0", "1 to 128"))):
+        status, file, said = make(text)
+        if status or not file or "warning" not in said or not all(part in said for part in parts):
+            raise AssertionError(f"'{text}': status {status}, '{said}', due is a warning with {parts}")
+    return "texts"
+
+
+def broken_files():
+    """Files without a text."""
+    file = river("make", "-", "-", given=f"2{NINE[1:]}\n{NINE} dam 5 6".encode())[1]
+    for broken, parts in (
+            (b"", ("byte 0", "4 bytes")), (file[:3], ("byte 0", "4 bytes", "are 3")), (file[:40], ("reach 2", "byte 30", "26 bytes", "are 10", "counts 2")),
+            (file[:-1], ("reach 2", "byte 56", "8 bytes", "are 7")), (file + b"\n", ("byte 64", "1 byte too many")), (b"XV" + file[2:], ("byte 0", "XV", "RV")),
+            (file[:30] + b"RX" + file[32:], ("reach 2", "byte 30", "RX", "RE")), (file[:3] + b"\1" + file[4:], ("byte 30", "34 bytes", "counts 1")),
+            (file[:2] + b"\xff\xff" + file[4:], ("reach 3", "byte 64", "counts 65535"))):
+        one_line(f"{broken[:40]}", river("show", "-", given=broken), 1, *parts)
+    return "broken files"
+
+
+def wrong_uses():
+    """Inputs and outputs that cannot be used."""
+    with tempfile.TemporaryDirectory() as folder:
+        def path(name, data=None):
+            full = os.path.join(folder, name)
+            if data is not None:
+                with open(full, "wb") as file:
+                    file.write(data)
+            return full
+
+        good, latin, out = path("good.txt", NINE.encode()), path("latin.txt", f"# \xe4\n{NINE}".encode("latin-1")), path("out.river")
+        expect("make to a file", (river("make", good, out), os.path.getsize(out)), ((0, b"", ""), 30))
+        one_line("a missing text", river("make", path("none"), out), 2, "none", "No such file")
+        one_line("a missing file", river("show", path("none")), 2, "none", "No such file")
+        one_line("a folder for a text", river("make", folder, out), 2, folder, "directory")
+        one_line("a folder for a file", river("show", folder), 2, folder, "directory")
+        one_line("a folder for the output", river("make", good, folder), 2, folder, "directory")
+        one_line("an output in a missing folder", river("make", good, path("none/x")), 2, "none/x", "No such file")
+        one_line("Latin-1", river("make", latin, out), 2, "latin.txt", "UTF-8")
+        one_line("a river file given to make", river("make", out, path("x")), 2, "out.river", "is a river file", "show")
+        one_line("a text given to show", river("show", good), 2, "good.txt", "is a text", "make")
+        one_line("the text for the output", river("make", good, good), 2, "good.txt", "text itself")
+        with open(good, "rb") as file:
+            expect("the text is left", file.read(), NINE.encode())
+        if os.geteuid():
+            os.chmod(good, 0)
+            one_line("a text without permission", river("make", good, out), 2, "good.txt", "Permission denied")
+        before = os.stat(out).st_mtime_ns
+        river("make", path("bad.txt", b"1 2 3"), out)
+        expect("an output after an error", os.stat(out).st_mtime_ns, before)
+    for words in ((), ("make",), ("make", "a"), ("show",), ("show", "a", "b"), ("turn", "a")):
+        expect(f"tools/river {' '.join(words)}", river(*words)[0], 2)
+    status, said, _ = river("--help")
+    expect("--help", (status, b"outlet temperature" in said), (0, True))
+    return "wrong uses"
+
+
+TESTS = (examples_come_back, generated_come_back, texts, broken_files, wrong_uses)
+
+
+def main():
+    if len(sys.argv) > 1:
+        print(__doc__.strip())
+        return 0 if sys.argv[1:] in (["-h"], ["--help"]) else 2
+    try:
+        print("tools/river: " + ", ".join(test() for test in TESTS))
+        return 0
+    except AssertionError as problem:
+        print(f"river_test.py: {problem}", file=sys.stderr)
+        return 1
+
+
+if __name__ == "__main__":
+    sys.exit(main())
