@@ -18,7 +18,7 @@ rivers=()
 for count in 1 2 4 8 16 32 64; do
     name=$scratch/chain-$count
     grep -v '^#' ../examples/chain.txt | head -n "$count" | sed '$ s/^[0-9]* /0 /' > "$name.txt"
-    python3 ../examples/make_river.py "$name.txt" "$name.river"
+    ../tools/river make "$name.txt" "$name.river"
     rivers+=("$name.river")
 done
 "$scratch/bench" ../examples/town.river ../examples/chain.river "${rivers[@]}"

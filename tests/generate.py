@@ -350,8 +350,8 @@ def reading_faults():
     faults["count one less"] = count(lambda n: n - 1)
     for kind in (REACH,) + AFTER_REACH:
         for one in kind.fields:
-            for number in {one.lowest - 1, one.highest + 1, 256 ** one.width - 1}:
-                if 0 <= number < 256 ** one.width and not one.lowest <= number <= one.highest:
+            for number in sorted({one.lowest - 1, one.highest + 1, reference.most(one.width)}):
+                if 0 <= number <= reference.most(one.width) and not one.lowest <= number <= one.highest:
                     faults[f"field {one.name} {number}"] = field(kind, one.name, number)
     faults |= {
         "outlet own": outlet(lambda n: n - 1, lambda n: n - 1),

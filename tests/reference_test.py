@@ -1,11 +1,12 @@
 #!/usr/bin/env python3
 """Tests of the reference itself: tests/reference_test.py
 
-The bench values of docs/RIVER-FILE.md; the bounds on oxygen against exact figures; a right report is found right, and many reports with one
-thing wrong are found wrong; the generated files hold every kind. It needs no program. The exit status is 1 where something fails.
+The table of records and the bench values of docs/RIVER-FILE.md; the bounds on oxygen against exact figures; a right report is found right, and
+many reports with one thing wrong are found wrong; the generated files hold every kind. It needs no program. The exit status is 1 where something fails.
 """
 
 import math
+import os
 import random
 import sys
 from fractions import Fraction
@@ -31,6 +32,43 @@ def answer_line(file):
 
 def is_right(file, printed):
     return not reference.check(file, printed).wrong
+
+
+# ---- The paper
+
+def table(text, heading):
+    """The rows of the first table of a text whose heading begins so."""
+    lines = text[text.index(f"\n| {heading} |") + 1:].split("\n")
+    return [[cell.strip().strip("`") for cell in line.split("|")[1:-1]] for line in lines[2:lines.index("")]]
+
+
+def paper_fields(rows):
+    """Mark, offset, width, name and range of each field in the paper's table."""
+    mark = None
+    for given, at, width, name, numbers, _ in rows:
+        mark, width = given or mark, int(width)
+        lowest, _, highest = numbers.replace(",", "").partition(" to ")
+        yield (mark, int(at), width, name.lower().replace(" ", "_").removesuffix("_flow"), *((int(lowest), int(highest)) if highest else (0, reference.most(width))))
+
+
+def our_fields(kinds):
+    """The same from the table of the reference."""
+    for kind in kinds:
+        at = 2
+        for field in kind.fields:
+            yield kind.mark.decode(), at, field.width, field.name, field.lowest, field.highest
+            at += field.width
+
+
+def paper_agrees():
+    """The tables of records and fields in the paper are those of the reference."""
+    with open(os.path.join(os.path.dirname(os.path.abspath(__file__)), "..", "docs", "RIVER-FILE.md"), encoding="utf-8") as file:
+        text = file.read()
+    kinds = (reference.HEADER, reference.REACH) + reference.AFTER_REACH
+    equal("records", [(row[0], int(row[1])) for row in table(text, "mark")], [(kind.mark.decode(), kind.size) for kind in kinds])
+    equal("fields", list(paper_fields(table(text, "record"))), list(our_fields(kinds)))
+    equal("the longest file", f"{reference.LONGEST:,} bytes" in text and f"at most {reference.LONGEST + 1:,} bytes" in text, True)
+    return "tables of the paper"
 
 
 # ---- Bench values
@@ -215,7 +253,7 @@ def every_kind():
     return f"{len(names)} kinds of generated files"
 
 
-TESTS = (bench_values, exact_values, bounds_hold, exact_limits, verdicts, same_at_both_speeds, every_kind)
+TESTS = (paper_agrees, bench_values, exact_values, bounds_hold, exact_limits, verdicts, same_at_both_speeds, every_kind)
 
 
 def main():
