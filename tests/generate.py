@@ -1,6 +1,6 @@
 """Generated river files of every kind: accepted ones of many shapes and sizes, and refused ones for every rule.
 
-`files(seed, count)` gives them one by one, accepted and refused in turn. The kinds of each sort come round in a shuffled order, so that
+`files(seed, total)` gives them one by one, accepted and refused in turn. The kinds of each sort come round in a shuffled order, so that
 some 300 files hold every kind. Nothing of the program under test goes into them, and reference.py says which answer is due.
 """
 
@@ -246,7 +246,7 @@ def any_reach(rng, n):
 
 
 def most_reaches(rng):
-    """128 reaches, each with a dam but the first: with a dam on the first it would be the longest file."""
+    """The longest file that is accepted: 128 reaches, each but the first with a dam."""
     river = accepted_river(rng, "chain", 128)
     return River(river.cards[:1] + [card._replace(dam=Dam(rng.randint(0, 1_000), 0)) for card in river.cards[1:]])
 
@@ -406,21 +406,21 @@ def refused_kinds():
     return kinds
 
 
-def files(seed, count):
-    """Names and bytes of generated files."""
+def files(seed, total):
+    """Names and bytes of so many generated files."""
     rng = random.Random(seed)
     accepted, refused = accepted_kinds(), refused_kinds()
     good, bad = deck(rng, accepted), deck(rng, refused)
-    for k in range(count):
+    for k in range(total):
         kind = next(bad if k % 2 else good)
         yield f"{k + 1:05d}-{kind.replace(',', '').replace(' ', '-')}.river", (refused if k % 2 else accepted)[kind](rng)
 
 
-def write_files(seed, directory, count):
+def write_files(seed, directory, total):
     """Writes generated files to a directory, and MANIFEST with a line for each: its name and the answer due."""
     os.makedirs(directory, exist_ok=True)
     with open(os.path.join(directory, "MANIFEST"), "w", encoding="ascii") as manifest:
-        for name, file in files(seed, count):
+        for name, file in files(seed, total):
             with open(os.path.join(directory, name), "wb") as target:
                 target.write(file)
             due = reference.answer(reference.accept, file)
