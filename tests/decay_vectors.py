@@ -62,7 +62,7 @@ def make(write):
         raise vectors.Failed(f"{path} holds no reach")
     for name, most in MOST_OFF.items():
         if largest[name] > most:
-            raise vectors.Failed(f"{path}: a {name} is off by {largest[name]} parts of 2^-44, above {most}")
+            raise vectors.Failed(f"{path}: {name}s are off by up to {largest[name]} parts of 2^-44, above {most}")
     vectors.settle(path, text, write)
     return f"decay vectors: {reaches} reaches, shares of a step within {largest['step']} parts of 2^-44, factors within {largest['instant']}"
 
