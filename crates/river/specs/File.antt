@@ -6,11 +6,9 @@ use Rattle.river.specs.declared.card.Card.{Card}
 use Rattle.river.specs.declared.refusal.Refusal.{Refusal}
 use Rattle.river.specs.declared.refusal.Outcome.{Outcome}
 use Rattle.river.specs.declared.file.Reading.{Reading}
-use Rattle.river.specs.declared.reader.Progress.{Progress}
 use Rattle.river.specs.Card.{river}
 use Rattle.river.specs.Refusal.{Answer, outcomeOf}
 use Rattle.river.specs.Read.{readFile}
-use Rattle.river.specs.Reader.{ReadingGoesOn}
 
 abbrev pub answerOf : Reading → Answer (List Card)
 answerOf r = outcomeOf (r .outcome) (river (r .cards))
@@ -24,7 +22,3 @@ pub record Yields (a : Answer (List Card)) (r : Reading) : Type 0 where
 -- the reading of a file
 abbrev pub Reads : List ℕ → Reading → Type 0
 Reads file r = Yields (readFile file) r
-
--- a progress with no reach due ends, at a position of the file, in the file's reading
-pub record Ends (p : Progress) (s : List ℕ) (at : ℕ) (r : Reading) : Type 0 where
-  pub reads : ReadingGoesOn s p → at ≡ p .next → Reads s r

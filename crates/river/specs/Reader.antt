@@ -4,11 +4,10 @@ use mathlib.Core.List.{List, _++_}
 use Prim.Native.Nat.{ℕ, _+_, _-_, _≤_, _<_}
 use lib.ListN.{take, drop}
 use Rattle.river.specs.declared.card.Card.{Card}
-use Rattle.river.specs.declared.read.Header.{Header}
 use Rattle.river.specs.declared.refusal.Outcome.{Outcome}
 use Rattle.river.specs.declared.read.Reach.{Reach}
 use Rattle.river.specs.declared.reader.Progress.{Progress}
-use Rattle.river.specs.Read.{readHeader, headerOf, readReach, reachOf, readReaches, readFile}
+use Rattle.river.specs.Read.{readReach, reachOf, readReaches, readFile}
 use Rattle.river.specs.Refusal.{Answer, accepted, refused}
 
 -- cards before those of an answer
@@ -28,9 +27,10 @@ pub record ReadingGoesOn (s : List ℕ) (p : Progress) : Type 0 where
   pub opened : p .read < p .count → p .outcome ≡ Outcome.Accepted
   pub rest : readFile s ≡ continued (p .outcome) (take (p .read) (p .at)) (readReaches (p .count) (p .read + 1) (p .count - p .read) (drop (p .next) s))
 
--- a progress begins with a header's answer
-pub record Begins (h : Header) (p : Progress) : Type 0 where
-  pub goes : (s : List ℕ) → h ≡ headerOf (readHeader s) → ReadingGoesOn s p
+-- reading has gone on to where no reach is due
+pub record ReadingIsOver (s : List ℕ) (p : Progress) : Type 0 where
+  pub goes : ReadingGoesOn s p
+  pub none-due : p .count ≤ p .read
 
 -- one reach more, from one progress to the next, with fewer reaches due
 pub record Takes (p : Progress) (x : Reach) (q : Progress) : Type 0 where

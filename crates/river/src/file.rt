@@ -1,13 +1,12 @@
-// Reading of a whole river file, through a reader that moves on.
-ghost use Prim.Native.Nat.{_≤_};
+// Reading of a whole river file.
 ghost use Rattle.river.specs.Refusal.{Answer};
-ghost use Rattle.river.specs.File.{Yields, Reads, Ends};
+ghost use Rattle.river.specs.Reader.{ReadingIsOver};
+ghost use Rattle.river.specs.File.{Yields, Reads};
 use crate::card::Cards;
 use crate::card::blank;
 use crate::reader::Progress;
-use crate::reader::Reader;
 use crate::reader::begin;
-use crate::reader::take;
+use crate::reader::read_cards;
 use crate::refusal::Outcome;
 use crate::refusal::Refusal;
 
@@ -29,16 +28,16 @@ pub fn refused(r: Refusal) -> Reading
     }
 }
 
-// The end of reading, at a position of the file: the cards if no byte remains, or the refusal.
-pub fn finish(p: Progress, file: &[u8], at: usize) -> Reading
-    requires { ⌜ p .count ≤ p .read ⌝ }
-    ensures { λ r. ⌜ Ends p (now (file .entry)) at r ⌝ }
+// The end of reading: the cards if no byte of the file remains, or the refusal.
+pub fn finish(p: Progress, file: &[u8]) -> Reading
+    requires { ⌜ ReadingIsOver (now file) p ⌝ }
+    ensures { λ r. ⌜ Reads (now (file .entry)) r ⌝ }
 {
     let outcome = p.outcome;
     match outcome {
         Outcome::Refused(r) => refused(r),
         Outcome::Accepted => {
-            if at < file.len() {
+            if p.next < file.len() {
                 return refused(Refusal {
                     number: 6,
                     reach: 0,
@@ -57,16 +56,9 @@ pub fn finish(p: Progress, file: &[u8], at: usize) -> Reading
     }
 }
 
-// A river file, through a reader that moves on: the header, then card after card.
+// A river file: the header, then card after card, then its end.
 pub fn read_file(file: &[u8]) -> Reading
     ensures { λ r. ⌜ Reads (now (file .entry)) r ⌝ }
 {
-    let mut reader = Reader::new(file);
-    let mut p = begin(reader.header());
-    reader = reader.moved(p.next);
-    while p.read < p.count {
-        p = take(p, reader.next(p.count, p.read + 1));
-        reader = reader.moved(p.next);
-    }
-    finish(p, reader.file, reader.at)
+    finish(read_cards(file, begin(file)), file)
 }

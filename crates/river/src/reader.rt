@@ -2,8 +2,8 @@
 ghost use mathlib.Core.Path.{_≡_};
 ghost use Prim.Native.Nat.{_<_, _≤_};
 ghost use lib.ListN.{drop};
-ghost use Rattle.river.specs.Read.{readHeader, headerOf, readReach, reachOf};
-ghost use Rattle.river.specs.Reader.{Begins, Takes};
+ghost use Rattle.river.specs.Read.{readReach, reachOf};
+ghost use Rattle.river.specs.Reader.{ReadingGoesOn, ReadingIsOver, Takes};
 use crate::card::Card;
 use crate::card::blank;
 use crate::read::Header;
@@ -37,13 +37,6 @@ impl<'a> Reader<'a> {
         Reader { file, at: 0 }
     }
 
-    // The header of its file.
-    pub fn header(self) -> Header
-        ensures { λ h. ⌜ h ≡ headerOf (readHeader (now (self .entry .file))) ⌝ }
-    {
-        read_header(self.file)
-    }
-
     // The next reach, of so many, with the position behind it, or the refusal.
     pub fn next(self, count: u8, reach: u8) -> Reach
         ensures { λ x. ⌜ x ≡ reachOf (self .entry .at) (readReach count reach (drop (self .entry .at) (now (self .entry .file)))) ⌝ }
@@ -62,10 +55,11 @@ impl<'a> Reader<'a> {
     }
 }
 
-// No card is read yet: what the header says is due.
-pub fn begin(header: Header) -> Progress
-    ensures { λ p. ⌜ Begins header p ⌝ }
+// No card is read yet: what the header of a file says is due.
+pub fn begin(file: &[u8]) -> Progress
+    ensures { λ p. ⌜ ReadingGoesOn (now (file .entry)) p ⌝ }
 {
+    let header = read_header(file);
     let none = blank();
     let at = [none; 128];
     let Header::Count { count, next } = header else {
@@ -112,4 +106,17 @@ pub fn take(p: Progress, reach: Reach) -> Progress
         read: read + 1,
         next,
     }
+}
+
+// The reaches that are due, through a reader that is moved on to each.
+pub fn read_cards(file: &[u8], mut p: Progress) -> Progress
+    requires { ⌜ ReadingGoesOn (now file) p ⌝ }
+    ensures { λ q. ⌜ ReadingIsOver (now (file .entry)) q ⌝ }
+{
+    let mut reader = Reader::new(file);
+    while p.read < p.count {
+        reader = reader.moved(p.next);
+        p = take(p, reader.next(p.count, p.read + 1));
+    }
+    p
 }

@@ -1,13 +1,17 @@
--- `river::reader::begin` meets its contract: a header's answer is where the reading of its file begins.
+-- `river::reader::begin` meets its contract: the header's answer is where the reading of the file begins.
 -- Assumes nothing.
 use mathlib.Core.Path.{sym, ap, _∙_}
 use borrow.Author.Needs.{needs}
+use denote.Ref.{now}
 use Rattle.river.specs.Read.{readHeader}
 use Rattle.river.specs.Refusal.{refused}
 use Rattle.river.proofs.reader.Reaches.{begun, halted}
 use Rattle.river.proofs.read.Steps.{not-counted, file-refused}
 use Rattle.river.proofs.reader.begin.Statement.{statement}
 use Rattle.river.proofs.reader.begin.Tie as tie
+
+read-header-requires : tie.Need-read-header-requires
+read-header-requires c κs = search needs
 
 blank-requires : tie.Need-blank-requires
 blank-requires c κs = search needs
@@ -23,17 +27,27 @@ header-refusal-requires c κs = search needs
 
 returns : tie.Need-returns
 returns c =
-    record {
-      goes = λ s e.
-          halted s _
-          (file-refused s (not-counted (readHeader s) e (c .before .enum-told .given .1)) ∙
-          ap refused (sym (c .header-refusal .ensures)));
-    }
+    let told = c .before in
+    let read = told .before .before .before in
+    let s = now (read .before .before .args .file) in
+    halted s _
+    (file-refused s (not-counted (readHeader s) (read .read-header .ensures) (told .enum-told .given .1)) ∙
+    ap refused (sym (c .header-refusal .ensures)))
 
 returns-2 : tie.Need-returns-2
-returns-2 c = record { goes = λ s e. begun s _ (sym e ∙ c .before .header .given .1) }
+returns-2 c =
+    let known = c .before in
+    let read = known .before .before .before in
+    begun (now (read .before .before .args .file)) _ (sym (read .read-header .ensures) ∙ known .header .given .1)
 
 pub begin-spec : {M : Type 1} → statement M
 begin-spec =
     tie.close
-    (tie.spec blank-requires enum-known-header enum-told header-refusal-requires returns returns-2)
+    (tie.spec
+    read-header-requires
+    blank-requires
+    enum-known-header
+    enum-told
+    header-refusal-requires
+    returns
+    returns-2)

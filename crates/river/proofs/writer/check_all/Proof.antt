@@ -22,8 +22,7 @@ use ghost.Atoms.{Atoms, sem}
 use contract.Monad.{Fun, fact}
 use contract.Running.{givenOf, tables, tablesOf}
 use types.Kit.{Given, Item, ‵, raw, _⊛_, ⋆, some, later, runs, anyQ, atRet, Sq, _$_, _∵_, !, qed, by, move, drop, use0, use1, split, join, pick, rewrite, fsplit, fjoin, suffices, frame, await, done}
-use types.Part.{whole, sub, look-in}
-use types.Run.{look, look-raw, store, init, forget, stop, hop, fld, from, load, lit, of-opd, bin, and-then, no-more, assigns, land, land-last, first, blocks, stays, leaves-loop, returns, enter, alloc1, alloc0, params1, pass1, pass0, free1, free0, exec, Below, again, loops}
+use types.Run.{look, look-raw, store, init, forget, stop, hop, from, load, lit, of-opd, bin, and-then, no-more, assigns, land, land-last, first, blocks, stays, leaves-loop, returns, enter, alloc1, alloc0, params1, pass1, pass0, free1, free0, exec, Below, again, loops}
 use sound.WpLaws.{FmC, fmOf, WpFn-mono}
 use denote.RattleType.{owns}
 use denote.Laws.{Is, shows}
@@ -49,7 +48,7 @@ use Rattle.river.specs.Writer.{startChecking, nextChecking, ChecksAll}
 use Rattle.river.specs.declared.card.Card.{Card}
 use Rattle.river.specs.declared.writer.Checking.{Checking}
 use Rattle.river.proofs.writer.Lent.{from-on, none, bytes-fit, below, Checks, starts, near, next, all-checked, fewer}
-use Rattle.river.proofs.Walks.Locals.{type-of}
+use Rattle.river.proofs.Walks.Locals.{type-of, of-local, of-field}
 use Rattle.river.proofs.card.Card as Cd
 use Rattle.river.proofs.card.Card.Laws as Cd′
 use Rattle.river.proofs.writer.Checking as Ck
@@ -197,9 +196,9 @@ module _ {M : Type 1} (𝓤 : URA M) (H : Heap 𝓤) (A : Atoms 𝓤) (W : Given
     over : (s : State) → ltb (s .at .passed) (s .at .due) ≡ false → s .at .due ≤ s .at .passed → Sq W (At s) (runs C Λ En mir′.turn-1 (anyQ (Turned s)))
     unfolding afterTurn
     over s e le =
-        assigns ! (bin ! (load ! (from ! (fld ! refl (stop !))) (look-in ! 14 (sub ! 2 refl (whole !)))) (load ! (from ! (fld ! refl (stop !))) (look-in ! 14 (sub ! 1 refl (whole !)))) tt) (from ! (stop !)) (init ! 8 refl (tt, tt)) $
-        rewrite ! 8 (λ (t : Bool). ‵ (fat fullShare (τ 5) l₅ 0 (vbool t))) e refl $ leaves-loop ! (load ! (from ! (stop !)) (look ! 8 refl)) $ exec ! C Λ En mir′.t-4 (atRet En Post) $
-        assigns ! (of-opd ! (load ! (from ! (stop !)) (look ! 14 refl))) (from ! (stop !)) (init ! 18 refl (typed (s .at) (s .sound))) $
+        assigns ! (bin ! (of-field ! 14 refl tt) (of-field ! 14 refl tt) tt) (from ! (stop !)) (init ! 8 refl (tt, tt)) $
+        rewrite ! 8 (λ (t : Bool). ‵ (fat fullShare (τ 5) l₅ 0 (vbool t))) e refl $ leaves-loop ! (of-local ! 8 refl) $ exec ! C Λ En mir′.t-4 (atRet En Post) $
+        assigns ! (of-opd ! (of-local ! 14 refl)) (from ! (stop !)) (init ! 18 refl (typed (s .at) (s .sound))) $
         returns ! (look ! 18 refl) $ forget ! 8 refl $ forget ! 10 refl $ forget ! 14 refl $ forget ! 16 refl $ forget ! 18 refl $
         move ! (18 ∷ 19 ∷ []) $ free1 ! $ move ! (16 ∷ 17 ∷ []) $ free1 ! $ move ! (14 ∷ 15 ∷ []) $ free1 ! $ move ! (12 ∷ 13 ∷ []) $ free1 ! $ move ! (10 ∷ 11 ∷ []) $ free1 ! $ move ! (8 ∷ 9 ∷ []) $ free1 ! $ move ! (6 ∷ 7 ∷ []) $ free1 ! $ move ! (4 ∷ 5 ∷ []) $ free1 ! $ move ! (2 ∷ 3 ∷ []) $ free1 ! $ free0 ! $ by ! (exits (s .at) (s .sound) (all-checked ys (s .checks) le))
 
@@ -211,11 +210,11 @@ module _ {M : Type 1} (𝓤 : URA M) (H : Heap 𝓤) (A : Atoms 𝓤) (W : Given
         let here : s .at .passed < n = below less (s .checks .within) in
         let c = getD ys (s .at .passed) none in
         let fits = typed (s .at) (s .sound) .1 .1 .1 .0 in
-        assigns ! (bin ! (load ! (from ! (fld ! refl (stop !))) (look-in ! 14 (sub ! 2 refl (whole !)))) (load ! (from ! (fld ! refl (stop !))) (look-in ! 14 (sub ! 1 refl (whole !)))) tt) (from ! (stop !)) (init ! 8 refl (tt, tt)) $
-        rewrite ! 8 (λ (t : Bool). ‵ (fat fullShare (τ 5) l₅ 0 (vbool t))) e refl $ stays ! (load ! (from ! (stop !)) (look ! 8 refl)) $
-        assigns ! (of-opd ! (load ! (from ! (fld ! refl (stop !))) (look-in ! 14 (sub ! 2 refl (whole !))))) (from ! (stop !)) (init ! 12 refl (tt, fits)) $
-        assigns ! (bin ! (load ! (from ! (stop !)) (look ! 12 refl)) (lit ! tt) (record { fits = bytes-fit few })) (from ! (stop !)) (init ! 6 refl (tt, record { fits = bytes-fit few })) $
-        assigns ! (bin ! (load ! (from ! (fld ! refl (stop !))) (look-in ! 16 (sub ! 0 refl (whole !)))) (load ! (from ! (stop !)) (look ! 6 refl)) tt) (from ! (stop !)) (init ! 4 refl (tt, tt)) $
+        assigns ! (bin ! (of-field ! 14 refl tt) (of-field ! 14 refl tt) tt) (from ! (stop !)) (init ! 8 refl (tt, tt)) $
+        rewrite ! 8 (λ (t : Bool). ‵ (fat fullShare (τ 5) l₅ 0 (vbool t))) e refl $ stays ! (of-local ! 8 refl) $
+        assigns ! (of-opd ! (of-field ! 14 refl tt)) (from ! (stop !)) (init ! 12 refl (tt, fits)) $
+        assigns ! (bin ! (of-local ! 12 refl) (lit ! tt) (record { fits = bytes-fit few })) (from ! (stop !)) (init ! 6 refl (tt, record { fits = bytes-fit few })) $
+        assigns ! (bin ! (of-field ! 16 refl tt) (of-local ! 6 refl) tt) (from ! (stop !)) (init ! 4 refl (tt, tt)) $
         rewrite ! 4 (λ (p : ℕ). ‵ (fat fullShare (τ 7) l₇ 0 (vptr b p))) (sym (place-is 36 o (s .at .passed))) refl $
         -- a copy of what the slice owns is looked into
         move ! (1 ∷ []) $ use1 W (‵ OwnC ⊛ ‵ OwnC) (shr-slice-copy 𝓤 H A W (named 0) κ Cd.the-row .twice x (v ∷ [])) $ split ! $ fsplit ! $ drop ! $ fsplit ! $ drop ! $ move ! (0 ∷ 2 ∷ []) $
@@ -226,7 +225,7 @@ module _ {M : Type 1} (𝓤 : URA M) (H : Heap 𝓤) (A : Atoms 𝓤) (W : Given
         elem-back ! Cd.the-row q″ ys (s .at .passed) none (Cd′.lowered c ∷ []) b o here $ shuts-slice ! tt Cd.the-row q″ ys b o $ move ! (1 ∷ []) $ drop ! $
         -- [the token; what the slice owns; _8; …; _0; …]
         use0 W (raw (CheckNext 𝓤 H A mem run .pre (to-next (s .at) c))) (goes-next (s .at) c (s .sound) (less, s .checks .few, near ys (s .checks) less) is) $
-        calls-at-last ! fm (CheckNext 𝓤 H A mem run) (known .goes) (to-next (s .at) c) (and-then ! (load ! (from ! (stop !)) (look ! 15 refl)) (and-then ! (load ! (from ! (stop !)) (look ! 3 refl)) (no-more !))) (λ w.
+        calls-at-last ! fm (CheckNext 𝓤 H A mem run) (known .goes) (to-next (s .at) c) (and-then ! (of-local ! 15 refl) (and-then ! (of-local ! 3 refl) (no-more !))) (λ w.
         use1 W (later (some (λ (r : Checking). (‵ ftrue ⊛ ‵ (Ck.the-row .own r (w ∷ []))) ⊛ raw (ensured 𝓤 H A check-next.ended (check-next.clauses 𝓤 H A mem run) tt (s .at, (c, tt)) tt r)))) (id⊢ 𝓤 _) $ await ! tt $ pick ! (λ r.
         split ! $ move ! (1 ∷ []) $ use1 W (raw (fact 𝓤 (r ≡ After 𝓤 H A mem run (s .at) c))) (next-said 𝓤 H A mem run (s .at) c r) $ heard ! (r ≡ After 𝓤 H A mem run (s .at) c) (λ d. split ! $ drop ! $
         peeks ! Ck.the-row (Is Ck.the-row) (shows 𝓤 H A Ck.the-row) r (w ∷ []) (λ isr.
@@ -251,9 +250,9 @@ module _ {M : Type 1} (𝓤 : URA M) (H : Heap 𝓤) (A : Atoms 𝓤) (W : Given
       -- [_8; …; _0; …; the token; what the slice owns]
       move ! (18 ∷ 19 ∷ []) $ split ! $ move ! (1 ∷ []) $ drop ! $ move ! (1 ∷ []) $ fsplit ! $ move ! (1 ∷ []) $ drop ! $ move ! (1 ∷ 0 ∷ []) $
       -- [the token; what the slice owns; _8; …; _0; …]
-      assigns ! (of-opd ! (load ! (from ! (fld ! refl (stop !))) (look-in ! 16 (sub ! 1 refl (whole !))))) (from ! (stop !)) (init ! 10 refl (tt, record { fits = room .0 })) $
+      assigns ! (of-opd ! (of-field ! 16 refl tt)) (from ! (stop !)) (init ! 10 refl (tt, record { fits = room .0 })) $
       use0 W (raw (Start 𝓤 H A mem run .pre to-start)) (goes-start (room .0)) $
-      calls-at ! fm (Start 𝓤 H A mem run) (known .begins) to-start (and-then ! (load ! (from ! (stop !)) (look ! 11 refl)) (no-more !)) (λ w.
+      calls-at ! fm (Start 𝓤 H A mem run) (known .begins) to-start (and-then ! (of-local ! 11 refl) (no-more !)) (λ w.
       use1 W (later (some (λ (r : Checking). (‵ ftrue ⊛ ‵ (Ck.the-row .own r (w ∷ []))) ⊛ raw (ensured 𝓤 H A start.ended (start.clauses 𝓤 H A mem run) tt (n, tt) tt r)))) (id⊢ 𝓤 _) $ await ! tt $ pick ! (λ r.
       split ! $ move ! (1 ∷ []) $ use1 W (raw (fact 𝓤 (r ≡ startChecking n))) (start-said 𝓤 H A mem run n r) $ heard ! (r ≡ startChecking n) (λ d. split ! $ drop ! $
       peeks ! Ck.the-row (Is Ck.the-row) (shows 𝓤 H A Ck.the-row) r (w ∷ []) (λ isr.

@@ -52,7 +52,7 @@ use Rattle.river.specs.declared.writer.Checking.{Checking}
 use Rattle.river.specs.declared.writer.Putting.{Putting}
 use Rattle.river.proofs.Walks.Again.{LentAgain, lends-again, comes-back}
 use Rattle.river.proofs.writer.Lent.{from-on, none, bytes-fit, below, Puts, begins, room, more as one-more, ends, put-fewer}
-use Rattle.river.proofs.Walks.Locals.{type-of}
+use Rattle.river.proofs.Walks.Locals.{type-of, of-local, of-field}
 use Rattle.river.proofs.card.Card as Cd
 use Rattle.river.proofs.card.Card.Laws as Cd′
 use Rattle.river.proofs.write.Written as Wr
@@ -272,10 +272,10 @@ module _ {M : Type 1} (𝓤 : URA M) (H : Heap 𝓤) (A : Atoms 𝓤) (W : Given
     over : (s : State) → ltb (s .at .put) (s .at .due) ≡ false → s .at .due ≤ s .at .put → Sq W (At s) (runs C Λ En mir′.turn-1 (anyQ (Turned s)))
     unfolding afterTurn
     over s e le =
-        assigns ! (bin ! (load ! (from ! (fld ! refl (stop !))) (look-in ! 24 (sub ! 2 refl (whole !)))) (load ! (from ! (fld ! refl (stop !))) (look-in ! 24 (sub ! 1 refl (whole !)))) tt) (from ! (stop !)) (init ! 14 refl (tt, tt)) $
-        rewrite ! 14 (λ (t : Bool). ‵ (fat fullShare (τ 8) l₈ 0 (vbool t))) e refl $ leaves-loop ! (load ! (from ! (stop !)) (look ! 14 refl)) $ exec ! C Λ En mir′.t-6 (atRet En Post) $
+        assigns ! (bin ! (of-field ! 24 refl tt) (of-field ! 24 refl tt) tt) (from ! (stop !)) (init ! 14 refl (tt, tt)) $
+        rewrite ! 14 (λ (t : Bool). ‵ (fat fullShare (τ 8) l₈ 0 (vbool t))) e refl $ leaves-loop ! (of-local ! 14 refl) $ exec ! C Λ En mir′.t-6 (atRet En Post) $
         use0 W (raw (Answer 𝓤 H A mem run .pre (to-answer (s .at)))) (goes-answer (s .at) (s .sound)) $
-        calls-at ! fm (Answer 𝓤 H A mem run) (known .answers) (to-answer (s .at)) (and-then ! (load ! (from ! (stop !)) (look ! 25 refl)) (no-more !)) (λ w.
+        calls-at ! fm (Answer 𝓤 H A mem run) (known .answers) (to-answer (s .at)) (and-then ! (of-local ! 25 refl) (no-more !)) (λ w.
         use1 W (later (some (λ (r : Written). (‵ ftrue ⊛ ‵ (Wr.the-row .own r (w ∷ []))) ⊛ raw (ensured 𝓤 H A answer.ended (answer.clauses 𝓤 H A mem run) tt (s .at, tt) tt r)))) (id⊢ 𝓤 _) $ await ! tt $ pick ! (λ r.
         split ! $ move ! (1 ∷ []) $ use1 W (raw (fact 𝓤 (r ≡ s .at .answer))) (answer-said 𝓤 H A mem run (s .at) r) $ heard ! (r ≡ s .at .answer) (λ d. split ! $ drop ! $
         peeks ! Wr.the-row (Is Wr.the-row) (shows 𝓤 H A Wr.the-row) r (w ∷ []) (λ is.
@@ -294,11 +294,11 @@ module _ {M : Type 1} (𝓤 : URA M) (H : Heap 𝓤) (A : Atoms 𝓤) (W : Given
         let l = s .buffer in
         let on = from-on ys (s .at .put) none here in
         let fits = typed (s .at) (s .sound) .1 .1 .1 .0 in
-        assigns ! (bin ! (load ! (from ! (fld ! refl (stop !))) (look-in ! 24 (sub ! 2 refl (whole !)))) (load ! (from ! (fld ! refl (stop !))) (look-in ! 24 (sub ! 1 refl (whole !)))) tt) (from ! (stop !)) (init ! 14 refl (tt, tt)) $
-        rewrite ! 14 (λ (t : Bool). ‵ (fat fullShare (τ 8) l₈ 0 (vbool t))) e refl $ stays ! (load ! (from ! (stop !)) (look ! 14 refl)) $
-        assigns ! (of-opd ! (load ! (from ! (fld ! refl (stop !))) (look-in ! 24 (sub ! 2 refl (whole !))))) (from ! (stop !)) (init ! 22 refl (tt, fits)) $
-        assigns ! (bin ! (load ! (from ! (stop !)) (look ! 22 refl)) (lit ! tt) (record { fits = bytes-fit few })) (from ! (stop !)) (init ! 12 refl (tt, record { fits = bytes-fit few })) $
-        assigns ! (bin ! (load ! (from ! (fld ! refl (stop !))) (look-in ! 28 (sub ! 0 refl (whole !)))) (load ! (from ! (stop !)) (look ! 12 refl)) tt) (from ! (stop !)) (init ! 10 refl (tt, tt)) $
+        assigns ! (bin ! (of-field ! 24 refl tt) (of-field ! 24 refl tt) tt) (from ! (stop !)) (init ! 14 refl (tt, tt)) $
+        rewrite ! 14 (λ (t : Bool). ‵ (fat fullShare (τ 8) l₈ 0 (vbool t))) e refl $ stays ! (of-local ! 14 refl) $
+        assigns ! (of-opd ! (of-field ! 24 refl tt)) (from ! (stop !)) (init ! 22 refl (tt, fits)) $
+        assigns ! (bin ! (of-local ! 22 refl) (lit ! tt) (record { fits = bytes-fit few })) (from ! (stop !)) (init ! 12 refl (tt, record { fits = bytes-fit few })) $
+        assigns ! (bin ! (of-field ! 28 refl tt) (of-local ! 12 refl) tt) (from ! (stop !)) (init ! 10 refl (tt, tt)) $
         rewrite ! 10 (λ (p : ℕ). ‵ (fat fullShare (τ 10) l₁₀ 0 (vptr b p))) (sym (place-is 36 o (s .at .put))) refl $
         -- a copy of what the slice owns is looked into
         move ! (2 ∷ []) $ use1 W (‵ OwnC ⊛ ‵ OwnC) (shr-slice-copy 𝓤 H A W (named 0) κ Cd.the-row .twice x (v ∷ [])) $ split ! $ fsplit ! $ drop ! $ fsplit ! $ drop ! $ move ! (0 ∷ 2 ∷ []) $
@@ -309,14 +309,14 @@ module _ {M : Type 1} (𝓤 : URA M) (H : Heap 𝓤) (A : Atoms 𝓤) (W : Given
         elem-back ! Cd.the-row q″ ys (s .at .put) none (Cd′.lowered c ∷ []) b o here $ shuts-slice ! tt Cd.the-row q″ ys b o $ move ! (1 ∷ []) $ drop ! $ move ! (0 ∷ 2 ∷ []) $
         -- [the token; the other token; what the slice owns; what the buffer owns; _13; …; _0; …]
         assigns ! (addr ! (from ! (fld ! refl (hop ! (look-in ! 26 (sub ! 0 refl (whole !))) (stop !))))) (from ! (stop !)) (init ! 6 refl (tt, tt)) $
-        assigns ! (agg ! (and-then ! (load ! (from ! (stop !)) (look ! 6 refl)) (and-then ! (load ! (from ! (fld ! refl (stop !))) (look-in ! 26 (sub ! 1 refl (whole !)))) (no-more !)))) (from ! (stop !)) (init ! 4 refl (tt, (tt, (record { fits = room′ .0 }, tt)))) $
+        assigns ! (agg ! (and-then ! (of-local ! 6 refl) (and-then ! (of-field ! 26 refl tt) (no-more !)))) (from ! (stop !)) (init ! 4 refl (tt, (tt, (record { fits = room′ .0 }, tt)))) $
         rewrite ! 4 (λ (k : ℕ). ‵ (fat fullShare (τ 13) l₁₃ 0 (v′ k))) (sym (s .same)) refl $
         -- the buffer is lent again for a lifetime ν of the call
         lft-new ! tt (λ ν. move ! (4 ∷ 2 ∷ []) $
         use2 W (later (some (λ (δ : GName). ‵ (Lent ν δ l) ⊛ ‵ (Kept ν δ l)))) (lends-again u8 κ′ (ν ∷ []) q′ γ′ b′ o′ 𝓤 H A W (named 1) (named 0) l) $ await ! tt $ pick ! (λ δ. split ! $
         move ! (2 ∷ 0 ∷ []) $ use2 W (raw (PutNext 𝓤 H A mem run .pre (to-put ν δ l (s .at) c))) (goes-put ν δ l (s .at) c (s .sound) is (less, room ys zs (s .puts) less on)) $
         -- [what the callee asks; what is kept of the buffer; the token; what the slice owns; _13; …; _0; …]
-        calls-at-last ! fm (PutNext 𝓤 H A mem run) (known .puts) (to-put ν δ l (s .at) c) (and-then ! (load ! (from ! (stop !)) (look ! 24 refl)) (and-then ! (load ! (from ! (stop !)) (look ! 8 refl)) (and-then ! (load ! (from ! (stop !)) (look ! 4 refl)) (no-more !)))) (λ w.
+        calls-at-last ! fm (PutNext 𝓤 H A mem run) (known .puts) (to-put ν δ l (s .at) c) (and-then ! (of-local ! 24 refl) (and-then ! (of-local ! 8 refl) (and-then ! (of-local ! 4 refl) (no-more !)))) (λ w.
         use1 W (later (some (λ (r : Putting). ((‵ (flft (ν ∷ []) fullShare) ⊛ ‵ ftrue) ⊛ ‵ (Pt.the-row .own r (w ∷ []))) ⊛ raw (ensured 𝓤 H A put-next.ended (put-next.clauses 𝓤 H A mem run) (ν ∷ [], tt) (s .at, (c, (y δ l, tt))) tt r)))) (id⊢ 𝓤 _) $ await ! tt $ pick ! (λ r.
         split ! $ move ! (1 ∷ []) $ use1 W (some (λ (us : Unit {0} × (Unit {0} × (List ℕ × Unit {0}))). ‵ (lasts put-next.ended (ν ∷ [], tt) (s .at, (c, (y δ l, tt))) us) ⊛ raw (fact 𝓤 (PutsNext (s .at) c l r (us .1 .1 .0))))) (id⊢ 𝓤 _) $ pick ! (λ us.
         split ! $ move ! (1 ∷ []) $ heard ! (PutsNext (s .at) c l r (us .1 .1 .0)) (λ d. fsplit ! $ drop ! $ fsplit ! $ drop ! $ fsplit ! $ fsplit ! $ move ! (1 ∷ []) $ feqL ! (λ long. move ! (1 ∷ []) $ drop ! $
@@ -349,7 +349,7 @@ module _ {M : Type 1} (𝓤 : URA M) (H : Heap 𝓤) (A : Atoms 𝓤) (W : Given
       move ! (28 ∷ 29 ∷ []) $ split ! $ move ! (1 ∷ []) $ split ! $ move ! (1 ∷ []) $ drop ! $ move ! (2 ∷ []) $ fsplit ! $ move ! (1 ∷ []) $ fsplit ! $ move ! (1 ∷ []) $ drop ! $ move ! (3 ∷ 1 ∷ []) $
       -- [the token; what the slice owns; what the buffer owns; the other token; _13; …; _0; …]
       use2 W (raw (CheckAll 𝓤 H A mem run .pre to-check) ⊛ ‵ OwnC) goes-check $ split ! $
-      calls-at ! fm (CheckAll 𝓤 H A mem run) (known .checks) to-check (and-then ! (load ! (from ! (stop !)) (look ! 28 refl)) (no-more !)) (λ u.
+      calls-at ! fm (CheckAll 𝓤 H A mem run) (known .checks) to-check (and-then ! (of-local ! 28 refl) (no-more !)) (λ u.
       use1 W (later (some (λ (r : Checking). ((‵ (flft κ q) ⊛ ‵ ftrue) ⊛ ‵ (Ck.the-row .own r (u ∷ []))) ⊛ raw (ensured 𝓤 H A check-all.ended (check-all.clauses 𝓤 H A mem run) (κ, tt) (x, tt) tt r)))) (id⊢ 𝓤 _) $ await ! tt $ pick ! (λ s.
       split ! $ move ! (1 ∷ []) $ use1 W (raw (fact 𝓤 (ChecksAll ys s))) (check-said s) $ heard ! (ChecksAll ys s) (λ e. split ! $ move ! (1 ∷ []) $
       -- [the checking; the token; what the slice owns; what the buffer owns; the other token; _13; …; _0; …]
@@ -359,13 +359,13 @@ module _ {M : Type 1} (𝓤 : URA M) (H : Heap 𝓤) (A : Atoms 𝓤) (W : Given
       split ! $ move ! (1 ∷ []) $ drop ! $
       -- [the token; what the slice owns; what the buffer owns; the other token; _13; …; _0; …]
       assigns ! (addr ! (from ! (fld ! refl (hop ! (look-in ! 26 (sub ! 0 refl (whole !))) (stop !))))) (from ! (stop !)) (init ! 18 refl (tt, tt)) $
-      assigns ! (agg ! (and-then ! (load ! (from ! (stop !)) (look ! 18 refl)) (and-then ! (load ! (from ! (fld ! refl (stop !))) (look-in ! 26 (sub ! 1 refl (whole !)))) (no-more !)))) (from ! (stop !)) (init ! 16 refl (tt, (tt, (record { fits = room′ .0 }, tt)))) $
+      assigns ! (agg ! (and-then ! (of-local ! 18 refl) (and-then ! (of-field ! 26 refl tt) (no-more !)))) (from ! (stop !)) (init ! 16 refl (tt, (tt, (record { fits = room′ .0 }, tt)))) $
       -- the buffer is lent again for a lifetime ν of the call
       lft-new ! tt (λ ν. move ! (3 ∷ 4 ∷ []) $
       use2 W (later (some (λ (δ : GName). ‵ (Lent ν δ zs) ⊛ ‵ (Kept ν δ zs)))) (lends-again u8 κ′ (ν ∷ []) q′ γ′ b′ o′ 𝓤 H A W (named 1) (named 0) zs) $ await ! tt $ pick ! (λ δ. split ! $
       move ! (2 ∷ 0 ∷ []) $ use2 W (raw (Head 𝓤 H A mem run .pre (to-head ν δ zs s))) (goes-head ν δ zs s (subst (Is Ck.the-row s) sp is) (e .few, e .long)) $
       -- [what the callee asks; what is kept of the buffer; the token; what the slice owns; _13; …; _0; …]
-      calls-at ! fm (Head 𝓤 H A mem run) (known .heads) (to-head ν δ zs s) (and-then ! (load ! (from ! (stop !)) (look ! 20 refl)) (and-then ! (load ! (from ! (stop !)) (look ! 16 refl)) (no-more !))) (λ w.
+      calls-at ! fm (Head 𝓤 H A mem run) (known .heads) (to-head ν δ zs s) (and-then ! (of-local ! 20 refl) (and-then ! (of-local ! 16 refl) (no-more !))) (λ w.
       use1 W (later (some (λ (r : Putting). ((‵ (flft (ν ∷ []) fullShare) ⊛ ‵ ftrue) ⊛ ‵ (Pt.the-row .own r (w ∷ []))) ⊛ raw (ensured 𝓤 H A head.ended (head.clauses 𝓤 H A mem run) (ν ∷ [], tt) (s, (y δ zs, tt)) tt r)))) (id⊢ 𝓤 _) $ await ! tt $ pick ! (λ r.
       split ! $ move ! (1 ∷ []) $ use1 W (some (λ (us : Unit {0} × (List ℕ × Unit {0})). ‵ (lasts head.ended (ν ∷ [], tt) (s, (y δ zs, tt)) us) ⊛ raw (fact 𝓤 (Heads s zs r (us .1 .0))))) (id⊢ 𝓤 _) $ pick ! (λ us.
       split ! $ move ! (1 ∷ []) $ heard ! (Heads s zs r (us .1 .0)) (λ d. fsplit ! $ drop ! $ fsplit ! $ fsplit ! $ move ! (1 ∷ []) $ feqL ! (λ long. move ! (1 ∷ []) $ drop ! $
