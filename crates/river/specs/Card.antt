@@ -89,6 +89,13 @@ damInRange (Aerating s g) = leb s 1000 && leb g 100000000
 unfoldable pub countOk : ℕ → Bool
 countOk n = leb 1 n && leb n 128
 
+-- the bytes of a file's header, and of the records of the longest card
+abbrev pub headerBytes : ℕ
+headerBytes = 4
+
+abbrev pub longestCard : ℕ
+longestCard = 34
+
 -- the length of a card's records
 abbrev pub sizeOfDam : Dam → ℕ
 sizeOfDam Absent = 26

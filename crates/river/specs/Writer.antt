@@ -10,13 +10,13 @@ use Rattle.river.specs.declared.write.Written.{Written}
 use Rattle.river.specs.declared.writer.Checking.{Checking}
 use Rattle.river.specs.declared.writer.Putting.{Putting}
 use Rattle.river.specs.Bytes.{Put}
-use Rattle.river.specs.Card.{countOk, sizeOf}
+use Rattle.river.specs.Card.{countOk, headerBytes, sizeOf}
 use Rattle.river.specs.Refusal.{Answer, accepted, refused, refuse, need}
 use Rattle.river.specs.Write.{encode, encodeCard, encodeHeader, checkFrom, checkOf}
 
 -- a refusal, after which no card is due
 abbrev pub stoppedAt : Refusal → Checking
-stoppedAt r = record { check = Check.Refused r; due = 0; passed = 0; length = 4 }
+stoppedAt r = record { check = Check.Refused r; due = 0; passed = 0; length = headerBytes }
 
 -- a card that is checked: one more has passed, or a refusal
 abbrev pub nextChecking : Answer Unit → Checking → Card → Checking
@@ -25,7 +25,7 @@ nextChecking (refused r) s c = stoppedAt r
 
 -- the start of checking n cards: 3 for a count out of range
 abbrev pub startFrom : Answer Unit → ℕ → Checking
-startFrom (accepted u) n = record { check = Check.Passed; due = n; passed = 0; length = 4 }
+startFrom (accepted u) n = record { check = Check.Passed; due = n; passed = 0; length = headerBytes }
 startFrom (refused r) n = stoppedAt r
 
 abbrev pub startChecking : ℕ → Checking
@@ -35,7 +35,7 @@ startChecking n = startFrom (need (countOk n) 3 0 (accepted tt)) n
 pub record ChecksAll (cs : List Card) (s : Checking) : Type 0 where
   pub check : s .check ≡ checkOf (need (countOk (length cs)) 3 0 (checkFrom (length cs) 1 cs))
   pub few : s .due ≤ 128
-  pub long : 4 ≤ s .length
+  pub long : headerBytes ≤ s .length
   pub due : s .check ≡ Check.Passed → s .due ≡ length cs
   pub size : s .check ≡ Check.Passed → s .length ≡ length (encode cs)
 

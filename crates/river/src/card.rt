@@ -44,6 +44,9 @@ pub fn blank() -> Card {
     }
 }
 
+// The length of the header of a file.
+pub const HEADER_BYTES: usize = 4;
+
 // The length of the records of a reach with a dam.
 pub fn size_of(dam: Dam) -> usize
     ensures { λ r. ⌜ r ≡ sizeOfDam dam ⌝ }

@@ -4,8 +4,9 @@ ghost use Prim.Native.Nat.{_+_, _*_, _≤_, _<_};
 ghost use lib.ListN.{length};
 ghost use Rattle.river.specs.Write.{checkCard, Writes};
 ghost use Rattle.river.specs.Writer.{stoppedAt, startChecking, nextChecking, ChecksAll, Heads, PutsNext};
-ghost use Rattle.river.specs.Card.{sizeOf};
+ghost use Rattle.river.specs.Card.{headerBytes, longestCard, sizeOf};
 use crate::card::Card;
+use crate::card::HEADER_BYTES;
 use crate::card::size_of;
 use crate::put::put_card;
 use crate::put::put_header;
@@ -39,7 +40,7 @@ fn stopped(r: Refusal) -> Checking
         check: Check::Refused(r),
         due: 0,
         passed: 0,
-        length: 4,
+        length: HEADER_BYTES,
     }
 }
 
@@ -57,13 +58,13 @@ fn start(n: usize) -> Checking
         check: Check::Passed,
         due: n,
         passed: 0,
-        length: 4,
+        length: HEADER_BYTES,
     }
 }
 
 // One card more.
 fn check_next(s: Checking, c: Card) -> Checking
-    requires { ⌜ (s .passed < s .due) × (s .due ≤ 128) × (s .length ≤ 4 + 34 * s .passed) ⌝ }
+    requires { ⌜ (s .passed < s .due) × (s .due ≤ 128) × (s .length ≤ headerBytes + longestCard * s .passed) ⌝ }
     ensures { λ t. ⌜ t ≡ nextChecking (checkCard (s .due) (s .passed + 1) c) s c ⌝ }
 {
     let due = s.due;
@@ -84,7 +85,7 @@ fn check_next(s: Checking, c: Card) -> Checking
 
 // The header, where the cards have passed and the buffer has room for their file.
 fn head(s: Checking, out: &mut [u8]) -> Putting
-    requires { ⌜ (s .due ≤ 128) × (4 ≤ s .length) ⌝ }
+    requires { ⌜ (s .due ≤ 128) × (headerBytes ≤ s .length) ⌝ }
     ensures { λ p. ⌜ Heads s (now (out .entry)) p (now (out .exit)) ⌝ }
 {
     let check = s.check;

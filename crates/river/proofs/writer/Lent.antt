@@ -10,8 +10,9 @@ use native.Mathlib.Omega.{arith}
 use lib.Dec.{T, ltb, ltb→lt, nltb→le}
 use lib.ListN.{length, drop, getD}
 use lib.Seq.{drop-cons}
+use denote.Memory.{mem}
 use Rattle.river.specs.Bytes.{Put}
-use Rattle.river.specs.Card.{countOk, blank, sizeOf}
+use Rattle.river.specs.Card.{countOk, blank, headerBytes, longestCard, sizeOf}
 use Rattle.river.specs.Refusal.{Answer, accepted, refused, refuse, need, after}
 use Rattle.river.specs.Write.{encode, encodeHeader, checkCard, checkFrom, checkOf, writeAnswer, bufferWritten, Writes}
 use Rattle.river.specs.Writer.{startFrom, startChecking, nextChecking, ChecksAll, Unput, Heads, PutsNext}
@@ -21,6 +22,7 @@ use Rattle.river.specs.declared.write.Check.{Check}
 use Rattle.river.specs.declared.write.Written.{Written}
 use Rattle.river.specs.declared.writer.Checking.{Checking}
 use Rattle.river.specs.declared.writer.Putting.{Putting}
+use Rattle.river.proofs.card.Card as Cd
 use Rattle.river.proofs.Answers.{need-true, need-false, after-refused}
 use Rattle.river.proofs.write.Passes.{refused-check, Checked, check-start, check-more, check-stop, check-end, Measured, measure-start, measure-more, measure-end, Placed, place-start, place-more, place-room, place-end}
 use Rattle.river.proofs.range.Ranges.{true-countOk}
@@ -45,8 +47,11 @@ need-after false n i x f {r} e = let same : refuse n i ≡ r = cc in ap refused 
 pub none : Card
 none = blank
 
--- the place of a card, of 36 bytes, fits
-pub bytes-fit : {i : ℕ} → i < 128 → i * 36 < 2 ^ 64
+-- the bytes of a card in memory, by the layout of its type; the place of a card fits
+abbrev pub card-bytes : ℕ
+card-bytes = mem Cd.the-row .size
+
+pub bytes-fit : {i : ℕ} → i < 128 → i * card-bytes < 2 ^ 64
 bytes-fit h = omega arith
 
 pub below : {i m n : ℕ} → i < m → m ≤ n → i < n
@@ -76,11 +81,11 @@ CheckedAs (Check.Refused r) cs s = Stopped cs s r
 pub record Checks (cs : List Card) (s : Checking) : Type 0 where
   pub few : s .due ≤ 128
   pub within : s .due ≤ length cs
-  pub long : 4 ≤ s .length
+  pub long : headerBytes ≤ s .length
   so-far : CheckedAs (s .check) cs s
 
 module _ (cs : List Card) where
-  halted : {r : Refusal} → checkAll cs ≡ refused r → Checks cs (record { check = Check.Refused r; due = 0; passed = 0; length = 4 })
+  halted : {r : Refusal} → checkAll cs ≡ refused r → Checks cs (record { check = Check.Refused r; due = 0; passed = 0; length = headerBytes })
   halted e = record { few = omega arith; within = omega arith; long = omega arith; so-far = record { due = refl; answer = e } }
 
   starts-as : (b : Bool) → countOk (length cs) ≡ b → Checks cs (startChecking (length cs))
@@ -107,7 +112,7 @@ module _ (cs : List Card) where
     passing : s .passed < s .due → Passing cs s
     passing less = passing-as (s .check) (g .so-far) less
 
-    pub near : s .passed < s .due → s .length ≤ 4 + 34 * s .passed
+    pub near : s .passed < s .due → s .length ≤ headerBytes + longestCard * s .passed
     near less = passing less .measured .near
 
     next-as : {c : Card} (x : Answer Unit) → checkCard (s .due) (s .passed + 1) c ≡ x → s .passed < s .due

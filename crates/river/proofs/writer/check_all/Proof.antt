@@ -43,11 +43,12 @@ use denote.Triple.Table.{entered, cited}
 use denote.Triple.Walked.{says, Stays, stay-none-slice, walkOf, goes-none-slice, Walks, ends-at, walked, walk-meets}
 use denote.Exit.{yes}
 use denote.Triple.Clauses.{ensured, lasts}
+use Rattle.river.specs.Card.{headerBytes, longestCard}
 use Rattle.river.specs.Write.{checkCard}
 use Rattle.river.specs.Writer.{startChecking, nextChecking, ChecksAll}
 use Rattle.river.specs.declared.card.Card.{Card}
 use Rattle.river.specs.declared.writer.Checking.{Checking}
-use Rattle.river.proofs.writer.Lent.{from-on, none, bytes-fit, below, Checks, starts, near, next, all-checked, fewer}
+use Rattle.river.proofs.writer.Lent.{from-on, none, card-bytes, bytes-fit, below, Checks, starts, near, next, all-checked, fewer}
 use Rattle.river.proofs.Walks.Locals.{type-of, of-local, of-field}
 use Rattle.river.proofs.card.Card as Cd
 use Rattle.river.proofs.card.Card.Laws as Cd′
@@ -134,7 +135,7 @@ module _ {M : Type 1} (𝓤 : URA M) (H : Heap 𝓤) (A : Atoms 𝓤) (W : Given
   abbrev to-next : Checking → Card → CheckNext 𝓤 H A mem run .Ghost
   to-next s c = ((tt, tt, tt, (s, (c, tt)), (Ck′.lowered s ∷ [], (Cd′.lowered c ∷ [], tt))), tt)
 
-  goes-next : (s : Checking) (c : Card) → Sound s → (s .passed < s .due) × (s .due ≤ 128) × (s .length ≤ 4 + 34 * s .passed) → Is Cd.the-row c (Cd′.lowered c ∷ []) → ent 𝓤 (emp 𝓤) (CheckNext 𝓤 H A mem run .pre (to-next s c))
+  goes-next : (s : Checking) (c : Card) → Sound s → (s .passed < s .due) × (s .due ≤ 128) × (s .length ≤ headerBytes + longestCard * s .passed) → Is Cd.the-row c (Cd′.lowered c ∷ []) → ent 𝓤 (emp 𝓤) (CheckNext 𝓤 H A mem run .pre (to-next s c))
   goes-next s c ok pre is =
       qed W [] ∵ says ! pre $ nothing ! $ owned ! Cd.the-row (Is Cd.the-row) (LL.makes Cd.the-type Cd′.the-plain 𝓤 H A) c (Cd′.lowered c ∷ []) is $ fjoin ! $
       owned ! Ck.the-row (Is Ck.the-row) (LL.makes Ck.the-type Ck′.the-plain 𝓤 H A) s (Ck′.lowered s ∷ []) ok $ fjoin ! $ nothing ! $ frame ! $ done !
@@ -215,7 +216,7 @@ module _ {M : Type 1} (𝓤 : URA M) (H : Heap 𝓤) (A : Atoms 𝓤) (W : Given
         assigns ! (of-opd ! (of-field ! 14 refl tt)) (from ! (stop !)) (init ! 12 refl (tt, fits)) $
         assigns ! (bin ! (of-local ! 12 refl) (lit ! tt) (record { fits = bytes-fit few })) (from ! (stop !)) (init ! 6 refl (tt, record { fits = bytes-fit few })) $
         assigns ! (bin ! (of-field ! 16 refl tt) (of-local ! 6 refl) tt) (from ! (stop !)) (init ! 4 refl (tt, tt)) $
-        rewrite ! 4 (λ (p : ℕ). ‵ (fat fullShare (τ 7) l₇ 0 (vptr b p))) (sym (place-is 36 o (s .at .passed))) refl $
+        rewrite ! 4 (λ (p : ℕ). ‵ (fat fullShare (τ 7) l₇ 0 (vptr b p))) (sym (place-is card-bytes o (s .at .passed))) refl $
         -- a copy of what the slice owns is looked into
         move ! (1 ∷ []) $ use1 W (‵ OwnC ⊛ ‵ OwnC) (shr-slice-copy 𝓤 H A W (named 0) κ Cd.the-row .twice x (v ∷ [])) $ split ! $ fsplit ! $ drop ! $ fsplit ! $ drop ! $ move ! (0 ∷ 2 ∷ []) $
         looks-slice ! tt Cd.the-row (Is Cd.the-row) (shows 𝓤 H A Cd.the-row) (λ (d : Card). Cd′.lowered d ∷ []) (Cd′.lowers .val-is) (LL.copy Cd.the-type Cd′.the-copy 𝓤 H A W) ys b o (λ q″.

@@ -51,7 +51,7 @@ use Rattle.river.specs.declared.write.Written.{Written}
 use Rattle.river.specs.declared.writer.Checking.{Checking}
 use Rattle.river.specs.declared.writer.Putting.{Putting}
 use Rattle.river.proofs.Walks.Again.{LentAgain, lends-again, comes-back}
-use Rattle.river.proofs.writer.Lent.{from-on, none, bytes-fit, below, Puts, begins, room, more as one-more, ends, put-fewer}
+use Rattle.river.proofs.writer.Lent.{from-on, none, card-bytes, bytes-fit, below, Puts, begins, room, more as one-more, ends, put-fewer}
 use Rattle.river.proofs.Walks.Locals.{type-of, of-local, of-field}
 use Rattle.river.proofs.card.Card as Cd
 use Rattle.river.proofs.card.Card.Laws as Cd′
@@ -78,7 +78,7 @@ use Rattle.river.proofs.writer.answer.Symbol as answer-def
 use Rattle.river.proofs.writer.answer.Symbol.{name as #river·answer}
 use Rattle.river.proofs.writer.answer.Met as answer-thm
 use Rattle.river.proofs.writer.write.Key.{name as #river·write}
-use Rattle.river.specs.Card.{sizeOf}
+use Rattle.river.specs.Card.{headerBytes, sizeOf}
 use Rattle.river.proofs.writer.write as write
 use Rattle.river.proofs.writer.write.Statement as stated
 use Rattle.river.proofs.writer.write.Code as code
@@ -183,7 +183,7 @@ module _ {M : Type 1} (𝓤 : URA M) (H : Heap 𝓤) (A : Atoms 𝓤) (W : Given
   abbrev to-head : ℕ → GName → List ℕ → Checking → Head 𝓤 H A mem run .Ghost
   to-head ν δ l s = (((ν ∷ [], tt), (fullShare, tt), tt, (s, (y δ l, tt)), (Ck′.lowered s ∷ [], (v′ (length l) ∷ [], tt))), tt)
 
-  goes-head : (ν : ℕ) (δ : GName) (l : List ℕ) (s : Checking) → Is Ck.the-row s (Ck′.lowered s ∷ []) → (s .due ≤ 128) × (4 ≤ s .length)
+  goes-head : (ν : ℕ) (δ : GName) (l : List ℕ) (s : Checking) → Is Ck.the-row s (Ck′.lowered s ∷ []) → (s .due ≤ 128) × (headerBytes ≤ s .length)
       → ent 𝓤 (⋆ 𝓤 H A (‵ (flft (ν ∷ []) fullShare) ∷ ‵ (Lent ν δ l) ∷ [])) (Head 𝓤 H A mem run .pre (to-head ν δ l s))
   goes-head ν δ l s ok pre =
       qed W (‵ (flft (ν ∷ []) fullShare) ∷ ‵ (Lent ν δ l) ∷ []) ∵ says ! pre $ nothing ! $ move ! (1 ∷ 0 ∷ []) $ join ! $ frame ! $ nothing ! $ move ! (1 ∷ 0 ∷ []) $ fjoin ! $
@@ -299,7 +299,7 @@ module _ {M : Type 1} (𝓤 : URA M) (H : Heap 𝓤) (A : Atoms 𝓤) (W : Given
         assigns ! (of-opd ! (of-field ! 24 refl tt)) (from ! (stop !)) (init ! 22 refl (tt, fits)) $
         assigns ! (bin ! (of-local ! 22 refl) (lit ! tt) (record { fits = bytes-fit few })) (from ! (stop !)) (init ! 12 refl (tt, record { fits = bytes-fit few })) $
         assigns ! (bin ! (of-field ! 28 refl tt) (of-local ! 12 refl) tt) (from ! (stop !)) (init ! 10 refl (tt, tt)) $
-        rewrite ! 10 (λ (p : ℕ). ‵ (fat fullShare (τ 10) l₁₀ 0 (vptr b p))) (sym (place-is 36 o (s .at .put))) refl $
+        rewrite ! 10 (λ (p : ℕ). ‵ (fat fullShare (τ 10) l₁₀ 0 (vptr b p))) (sym (place-is card-bytes o (s .at .put))) refl $
         -- a copy of what the slice owns is looked into
         move ! (2 ∷ []) $ use1 W (‵ OwnC ⊛ ‵ OwnC) (shr-slice-copy 𝓤 H A W (named 0) κ Cd.the-row .twice x (v ∷ [])) $ split ! $ fsplit ! $ drop ! $ fsplit ! $ drop ! $ move ! (0 ∷ 2 ∷ []) $
         looks-slice ! tt Cd.the-row (Is Cd.the-row) (shows 𝓤 H A Cd.the-row) (λ (d : Card). Cd′.lowered d ∷ []) (Cd′.lowers .val-is) (LL.copy Cd.the-type Cd′.the-copy 𝓤 H A W) ys b o (λ q″.
