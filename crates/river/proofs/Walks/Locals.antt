@@ -55,6 +55,7 @@ module _ {M : Type 1} {𝓤 : URA M} {H : Heap 𝓤} {A : Atoms 𝓤} {K : Type 
     pub of-field : nth 𝓤 H A n Γ ≡ ‵ (fat q (spotOf 𝓤 H E i .0) (spotOf 𝓤 H E i .1) zero (vstruct vs)) → IsSome (fieldOf (spotOf 𝓤 H E i .0) k) → Opd K W Γ E (copy (place i (field k ∷ []))) (getV vs k)
     of-field cell ok = at-type (spotOf 𝓤 H E i .0) ok refl cell
 
+-- what the cell of a local holds
 pub data Held : Type 0 where
   empty : Held
   holds : Val → Held
@@ -67,6 +68,7 @@ module _ {M : Type 1} {𝓤 : URA M} (H : Heap 𝓤) where
   abbrev dies : Ty × ℕ → Item 𝓤
   dies e = ‵ (fdies (e .0) (e .1))
 
+  -- the cells of the locals before the entries Γ, put there one by one
   abbrev before : Env 𝓤 H → List Held → List (Item 𝓤) → List (Item 𝓤)
   before [] hs Γ = Γ
   before (e ∷ E) [] Γ = before E [] (cell e empty ∷ dies e ∷ Γ)
@@ -79,11 +81,13 @@ module _ {M : Type 1} {𝓤 : URA M} {H : Heap 𝓤} {A : Atoms 𝓤} (W : Given
   abbrev Freed : Ty × ℕ → SProp 𝓤
   Freed e = sep 𝓤 (mean 𝓤 H A (cell H e empty)) (mean 𝓤 H A (dies H e))
 
+  -- what is left once the locals are freed, in two parts
   set-apart : (E : Env 𝓤 H) (P Q : SProp 𝓤) → ent 𝓤 (release 𝓤 H E (sep 𝓤 P Q)) (sep 𝓤 P (release 𝓤 H E Q))
   set-apart [] P Q = id⊢ 𝓤 (sep 𝓤 P Q)
   set-apart (e ∷ E) P Q =
       qed W (raw (Freed e) ∷ raw (release 𝓤 H E (sep 𝓤 P Q)) ∷ []) ∵ move ! (1 ∷ []) $ use1 W (raw P ⊛ raw (release 𝓤 H E Q)) (set-apart E P Q) $ split ! $ frame ! $ move ! (1 ∷ []) $ frame ! $ done !
 
+  -- the locals are freed with R kept
   module _ (R : SProp 𝓤) where
     frees-one : (e : Ty × ℕ) (h : Held) (Γ : List (Item 𝓤)) (P : SProp 𝓤) → ent 𝓤 (⋆ 𝓤 H A (raw R ∷ Γ)) P → ent 𝓤 (⋆ 𝓤 H A (raw R ∷ cell H e h ∷ dies H e ∷ Γ)) (sep 𝓤 (Freed e) P)
     frees-one e empty Γ P rest = qed W (raw R ∷ cell H e empty ∷ dies H e ∷ Γ) ∵ move ! (1 ∷ 2 ∷ []) $ join ! $ frame ! $ by ! rest

@@ -47,10 +47,11 @@ need-after false n i x f {r} e = let same : refuse n i ≡ r = cc in ap refused 
 pub none : Card
 none = blank
 
--- the bytes of a card in memory, by the layout of its type; the place of a card fits
+-- the bytes of a card in memory, by the layout of its type
 abbrev pub card-bytes : ℕ
 card-bytes = mem Cd.the-row .size
 
+-- the place of a card fits
 pub bytes-fit : {i : ℕ} → i < 128 → i * card-bytes < 2 ^ 64
 bytes-fit h = omega arith
 
