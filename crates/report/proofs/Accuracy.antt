@@ -17,15 +17,16 @@ use Rattle.decay.proofs.Algebra.Rational.{*ᶠ-comm}
 use Rattle.river.specs.declared.card.Card.{Card}
 use Rattle.river.specs.Flow.{Feeders, more, fed, flowOf, reachFlow, deepest, reachDepth}
 use Rattle.river.specs.Saturation.{saturationOf}
-use Rattle.river.specs.Head.{upstreamBod, upstreamOxygen, belowDam, headBod, headOxygen}
+use Rattle.river.specs.Source.{bodSource}
+use Rattle.river.specs.Head.{upstreamDemand, upstreamOxygen, belowDam, headDemand, headOxygen}
 use Rattle.river.proofs.head.Bounds.{saturation-of-small}
 use Rattle.report.specs.Program.{bodSum, oxygenSum, bodAtHead, oxygenAtHead, bodAt, oxygenAt, bodAlong, oxygenAlong, bodWith, factorsAlong, foot}
-use Rattle.report.specs.Recurrence.{exactSaturation, exactMean, exactBelowDam, exactHeadBod, exactHeadOxygen, exactBodSum, exactOxygenSum, exactBodAtHead, exactOxygenAtHead, exactBodAlong, exactOxygenAlong, exactBodAt, exactOxygenAt}
+use Rattle.report.specs.Recurrence.{exactSaturation, exactMean, exactBelowDam, exactHeadDemand, exactHeadOxygen, exactBodSum, exactOxygenSum, exactBodAtHead, exactOxygenAtHead, exactBodAlong, exactOxygenAlong, exactBodAt, exactOxygenAt}
 use Rattle.report.proofs.Forest.{AcceptedReach, AllAccepted, no-more, one-more, rates-pass}
 use Rattle.report.proofs.Ties.{factors-range}
-use Rattle.report.proofs.Facts.Head.{damPart, bod-mean, oxygen-mean, below-dam, bod-mixed, oxygen-mixed}
+use Rattle.report.proofs.Facts.Head.{damPart, bod-mean, oxygen-mean, below-dam, demand-mixed, oxygen-mixed}
 use Rattle.report.proofs.Facts.Instant.{product-floored, shares-in-range, keptDeficit, kept-floored, oxygen-parts}
-use Rattle.report.proofs.Facts.Exact.{saturation-low, saturation-high, exact-bod-mean, exact-oxygen-mean, exact-below-dam, exact-bod-mixed, exact-oxygen-mixed}
+use Rattle.report.proofs.Facts.Exact.{saturation-low, saturation-high, exact-bod-mean, exact-oxygen-mean, exact-below-dam, exact-demand-mixed, exact-oxygen-mixed}
 use Rattle.report.proofs.Bounds.{head-ranged}
 use Rattle.report.proofs.Accuracy.Errors.{Near, HeadSteps, head-near, InstantSteps, instant-near, reach-adds}
 
@@ -96,10 +97,10 @@ module _ (N : ℕ) (long : 40 ≤ N) where
   InstantNear card up m = Near (ofℕ (bodAt card up m)) (exactBodAt N card up m) (ofℤ (oxygenAt card up m)) (exactOxygenAt N card up m) (ofℕ (18 * deepest up) +ᶠ ofℕ 18)
 
   pub head-is-near : {card : Card} {up : Feeders} → AcceptedReach card up → AllAccepted up → FeetNear up → HeadNear card up
-  unfolding bodAtHead oxygenAtHead headBod headOxygen exactBodAtHead exactOxygenAtHead exactHeadBod exactHeadOxygen
+  unfolding bodAtHead oxygenAtHead headDemand headOxygen exactBodAtHead exactOxygenAtHead exactHeadDemand exactHeadOxygen
   head-is-near {card} {up} own above n =
       let Qu = flowOf up in
-      let u = upstreamBod (fed up) Qu (bodSum up) in
+      let u = upstreamDemand (fed up) Qu (bodSum up) in
       let v = upstreamOxygen (fed up) Qu (oxygenSum up) in
       let w = belowDam card (fed up) Qu v in
       let ux = exactMean (fed up) Qu (exactBodSum N up) in
@@ -117,12 +118,12 @@ module _ (N : ℕ) (long : 40 ≤ N) where
         bod-mean = bod-mean above;
         oxygen-mean = oxygen-mean above;
         dam = below-dam card above (own .dam) v;
-        bod-mixed = bod-mixed card Qu u flowing;
+        bod-mixed = demand-mixed (bodSource card) Qu u flowing;
         oxygen-mixed = oxygen-mixed card Qu w flowing;
         exact-bod-mean = exact-bod-mean N above;
         exact-oxygen-mean = exact-oxygen-mean N above;
         exact-dam = exact-below-dam card (fed up) Qu vx;
-        exact-bod-mixed = exact-bod-mixed card Qu ux flowing;
+        exact-bod-mixed = exact-demand-mixed (bodSource card) Qu ux flowing;
         exact-oxygen-mixed = exact-oxygen-mixed card Qu wx flowing;
       }
       in head-near (ofℕ (18 * deepest up)) (number (18 * deepest up)) steps n

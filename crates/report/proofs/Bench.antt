@@ -10,7 +10,7 @@ use Rattle.river.specs.declared.card.Dam.the-variants.{Absent, Aerating}
 use Rattle.river.specs.Card.{LawfulDam}
 use Rattle.river.specs.Flow.{Feeders, none, more, joinedIf, feedersAmong, above, fed, flowOf, massOf, deepest, DamRule}
 use Rattle.river.specs.Saturation.{saturation, saturationThousandths, saturationOf}
-use Rattle.river.specs.Head.{floor, upstreamBod, upstreamOxygen, aerated, belowDam, headBod, headOxygen}
+use Rattle.river.specs.Head.{floor, upstreamDemand, upstreamOxygen, aerated, belowDam, headDemand, headBod, headOxygen}
 use Rattle.river.proofs.Bench.{first, second, two, Rows as FlowRows, bench as flow-bench}
 use Rattle.report.specs.Program.{figuresAt, bodSum, oxygenSum, bodAtHead, oxygenAtHead, bodAt, oxygenAt, foot}
 use Rattle.report.proofs.Forest.{AcceptedReach}
@@ -66,7 +66,7 @@ line depth flow bod oxygen =
     }
 
 head-1 : (bodAtHead first none ≡ 2000000) × (oxygenAtHead first none ≡ pos 8000000)
-unfolding bodAtHead oxygenAtHead bodSum oxygenSum fed flowOf headBod headOxygen upstreamBod upstreamOxygen belowDam floor
+unfolding bodAtHead oxygenAtHead bodSum oxygenSum fed flowOf headDemand headOxygen upstreamDemand upstreamOxygen belowDam floor
 head-1 = (refl, refl)
 
 foot-1 : (bodSum feeders ≡ 6000000000) × (oxygenSum feeders ≡ pos 24000000000)
@@ -75,12 +75,12 @@ foot-1 =
     (ap (λ (b : ℕ). 3000 * b + 0) (reach-bod-stays accepted-first refl foot ∙ head-1 .0), ap (λ (o : ℤ). pos 3000 *ℤ o +ℤ pos 0) (reach-oxygen-stays accepted-first refl refl foot ∙ head-1 .1))
 
 head-2 : (bodAtHead (second Absent) feeders ≡ 9000000) × (oxygenAtHead (second Absent) feeders ≡ pos 6500000)
-unfolding bodAtHead oxygenAtHead fed flowOf headBod headOxygen upstreamBod upstreamOxygen belowDam aerated floor
+unfolding bodAtHead oxygenAtHead fed flowOf headDemand headOxygen upstreamDemand upstreamOxygen belowDam aerated floor
 head-2 =
     (ap (headBod (second Absent) true 3000) (foot-1 .0), ap (headOxygen (second Absent) true 3000) (foot-1 .1))
 
 head-weir : (bodAtHead (second weir) feeders ≡ 9000000) × (oxygenAtHead (second weir) feeders ≡ pos 6755451)
-unfolding bodAtHead oxygenAtHead fed flowOf headBod headOxygen upstreamBod upstreamOxygen belowDam aerated floor saturation saturationThousandths saturationOf
+unfolding bodAtHead oxygenAtHead fed flowOf headDemand headOxygen upstreamDemand upstreamOxygen belowDam aerated floor saturation saturationThousandths saturationOf
 head-weir =
     (ap (headBod (second weir) true 3000) (foot-1 .0), ap (headOxygen (second weir) true 3000) (foot-1 .1))
 

@@ -14,14 +14,15 @@ use Rattle.decay.proofs.Algebra.{Nonneg, quote, slack, number, _⊞_, _⊠_, mu
 use Rattle.river.specs.declared.card.Card.{Card}
 use Rattle.river.specs.Flow.{Feeders, more, fed, flowOf, reachFlow, massOf, reachMass, deepest, reachDepth}
 use Rattle.river.specs.Saturation.{saturationOf, SaturationInRange}
-use Rattle.river.specs.Head.{upstreamBod, upstreamOxygen, belowDam, headBod, headOxygen}
+use Rattle.river.specs.Source.{bodSource}
+use Rattle.river.specs.Head.{upstreamDemand, upstreamOxygen, belowDam, headDemand, headOxygen}
 use Rattle.river.proofs.head.Bounds.{saturation-of-small}
 use Rattle.report.specs.Program.{bodSum, oxygenSum, bodAtHead, oxygenAtHead, bodAt, oxygenAt, bodAlong, oxygenAlong, bodWith, factorsAlong, foot}
 use Rattle.report.proofs.Facts.Floor.{Rounded}
 use Rattle.report.proofs.Forest.{AcceptedReach, AllAccepted, no-more, one-more}
 use Rattle.report.proofs.Ties.{factors-range}
 use Rattle.report.proofs.Facts.Instant.{Floored, product-floored, Shares, shares-in-range, keptDeficit, kept-floored, oxygen-parts}
-use Rattle.report.proofs.Facts.Head.{ofℕ-+₃, ofℕ-+₄, Dammed, bod-mean, oxygen-mean, damPart, below-dam, bod-mixed, oxygen-mixed}
+use Rattle.report.proofs.Facts.Head.{ofℕ-+₃, ofℕ-+₄, Dammed, bod-mean, oxygen-mean, damPart, below-dam, demand-mixed, oxygen-mixed}
 
 -- ---- the estimates in fractions
 
@@ -99,11 +100,11 @@ saturation-below : (card : Card) (d : ℕ) → SaturationInRange card → ofℕ 
 saturation-below card d h = ofℕ-mono (omega (arith, saturation-of-small card h))
 
 head-in-bounds : {card : Card} {up : Feeders} → AcceptedReach card up → AllAccepted up → FeetBounded up → HeadBounded card up
-unfolding bodAtHead oxygenAtHead headBod headOxygen
+unfolding bodAtHead oxygenAtHead headDemand headOxygen
 head-in-bounds {card} {up} own above b =
     let Qu = flowOf up in
     let i = card .inflow in
-    let u = upstreamBod (fed up) Qu (bodSum up) in
+    let u = upstreamDemand (fed up) Qu (bodSum up) in
     let v = upstreamOxygen (fed up) Qu (oxygenSum up) in
     let W₁ = 1000 * i * card .«inflow_bod» in
     let W₂ = 1000000 * card .load in
@@ -117,7 +118,7 @@ head-in-bounds {card} {up} own above b =
     (head-bounded (ofℕ Qu) (ofℕ (Qu + i)) (ofℕ i) (ofℕ (bodSum up)) (ofℤ (oxygenSum up)) (ofℕ u) (ofℤ v) (ofℤ (belowDam card (fed up) Qu v)) (ofℕ (bodAtHead card up)) (ofℤ (oxygenAtHead card up)) (ofℕ W₁) (ofℕ W₂) (ofℕ W₃) (ofℕ (saturationOf card)) (damPart (fed up) (card .dam) Qu) (ofℕ (1000 * massOf up)) (ofℕ (3 * deepest up * Qu)) (ofℕ k)
     (number Qu) (number (3 * deepest up * Qu)) (number (saturationOf card)) (saturation-below card (deepest up) (own .fields .temperature)) (number W₃)
     (≼-by (≈-refl (ofℕ W₃)) (ofℕ-mono (oxygen-in i (card .«inflow_oxygen») (deepest up) (own .fields .inflow-oxygen))) (ofℕ-* i k))
-    (ofℕ-+ Qu i) (bod-mean above) (oxygen-mean above) (below-dam card above (own .dam) v) (bod-mixed card Qu u (own .flows .flowing)) (oxygen-mixed card Qu (belowDam card (fed up) Qu v) (own .flows .flowing)) b)
+    (ofℕ-+ Qu i) (bod-mean above) (oxygen-mean above) (below-dam card above (own .dam) v) (demand-mixed (bodSource card) Qu u (own .flows .flowing)) (oxygen-mixed card Qu (belowDam card (fed up) Qu v) (own .flows .flowing)) b)
   where
     mass-whole : (M i bod load : ℕ) → 1000 * M + 1000 * i * bod + 1000000 * load ≤ 1000 * (M + (i * bod + 1000 * load))
     mass-whole M i bod load = omega arith

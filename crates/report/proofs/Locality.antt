@@ -84,7 +84,7 @@ dam-any-outlet card true Qu C = refl
 dam-any-outlet card false Qu C = refl
 
 figures-any-outlet : (s : Sums) (card : Card) → figuresBy (withOutlet 0 card) s ≡ figuresBy card s
-unfolding withOutlet headBod headOxygen bodAlong oxygenAlong factorsAlong saturationOf
+unfolding withOutlet headOxygen bodAlong oxygenAlong factorsAlong saturationOf
 figures-any-outlet s card = rw (dam-any-outlet card (s .fed))
 
 gives-any-outlet : (s : Sums) (card : Card) → gives (withOutlet 0 card) s ≡ gives card s

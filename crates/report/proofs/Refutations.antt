@@ -12,11 +12,11 @@ use Rattle.river.specs.Refusal.{accepted, need, after, choose}
 use Rattle.river.specs.Card.{countOk, inRange, outletOk}
 use Rattle.river.specs.Read.{readFile, readHeader, readReaches, readReach, readDam, cardAt}
 use Rattle.river.specs.Write.{encode}
-use Rattle.river.specs.Flow.{cardOf, above, feedersAmong, joinedIf, fed, flowOf, massOf, deepest, damFits, flowCheck, checksFrom, reachChecks, checksOf}
+use Rattle.river.specs.Flow.{cardOf, above, feedersAmong, joinedIf, fed, flowOf, massOf, deepest, damFits, flowCheck, checksFrom, reachChecks}
 use Rattle.river.specs.Accept.{acceptFile}
 use Rattle.river.specs.Saturation.{saturationThousandths}
 use Rattle.report.specs.Record.{Figures}
-use Rattle.report.specs.Recurrence.{exactSaturation, exactMean, exactBelowDam, exactMixedBod, exactMixedOxygen, exactHeadBod, exactHeadOxygen, exactBodAlong, exactOxygenAlong, exactBodSum, exactBodAtHead, exactOxygenAtHead, exactBodAt, exactOxygenAt}
+use Rattle.report.specs.Recurrence.{exactSaturation, exactMean, exactBelowDam, exactMixedDemand, exactMixedOxygen, exactHeadDemand, exactHeadOxygen, exactBodAlong, exactOxygenAlong, exactBodSum, exactBodAtHead, exactOxygenAtHead, exactBodAt, exactOxygenAt}
 use Rattle.report.specs.Distance.{allowance, WithinAllowance}
 
 -- the reach of document 01's bench values, by outlet and inflow
@@ -40,7 +40,7 @@ abbrev pub two : List Card
 two = reach 2 10000 ∷ reach 0 0 ∷ []
 
 accepted-two : acceptFile (encode two) ≡ accepted two
-unfolding acceptFile encode readFile readHeader readReaches readReach readDam cardAt countOk inRange outletOk need after choose flowCheck checksFrom reachChecks checksOf damFits feedersAmong joinedIf fed flowOf massOf
+unfolding acceptFile encode readFile readHeader readReaches readReach readDam cardAt countOk inRange outletOk need after choose flowCheck checksFrom reachChecks damFits feedersAmong joinedIf fed flowOf massOf
 accepted-two = refl
 
 -- the figures are within the allowance of reach i
@@ -61,7 +61,7 @@ record Apart : Type 0 where
   heads : headBod 1 -ᶠ headBod 2 ≼ allowed 1 +ᶠ allowed 2 → ⊥
 
 apart : Apart
-unfolding ofℤ _+ᶠ_ -ᶠ_ _*ᶠ_ _÷_ over exponent power factorial term sum S F feedersAmong joinedIf fed flowOf deepest saturationThousandths exactSaturation exactMean exactBelowDam exactMixedBod exactMixedOxygen exactHeadBod exactHeadOxygen exactBodAlong exactOxygenAlong exactBodSum exactBodAtHead exactOxygenAtHead exactBodAt exactOxygenAt
+unfolding ofℤ _+ᶠ_ -ᶠ_ _*ᶠ_ _÷_ over exponent power factorial term sum S F feedersAmong joinedIf fed flowOf deepest saturationThousandths exactSaturation exactMean exactBelowDam exactMixedDemand exactMixedOxygen exactHeadDemand exactHeadOxygen exactBodAlong exactOxygenAlong exactBodSum exactBodAtHead exactOxygenAtHead exactBodAt exactOxygenAt
 apart = record { head-foot-bod = λ h. h .across .le; head-foot-oxygen = λ h. h .across .le; heads = λ h. h .across .le }
 
 -- of two distances that together are at most e, each is

@@ -7,8 +7,10 @@ use Rattle.decay.specs.Exact.{foot, exponent, S, F}
 use Rattle.river.specs.declared.card.Dam.{Dam}
 use Rattle.river.specs.declared.card.Dam.the-variants.{Absent, Aerating}
 use Rattle.river.specs.declared.card.Card.{Card}
+use Rattle.river.specs.declared.source.Source.{Source}
 use Rattle.river.specs.Flow.{Feeders, none, more, fed, flowOf, reachFlow}
 use Rattle.river.specs.Saturation.{saturationThousandths}
+use Rattle.river.specs.Source.{bodSource}
 
 -- saturation of a reach, unrounded
 unfoldable pub exactSaturation : Card → Fraction
@@ -31,17 +33,21 @@ exactBelowDam card false Qu C = C
 exactBelowDam card true Qu C = exactAerated (card .dam) (exactSaturation card) Qu C
 
 -- 3. mixing with inflow and load
-unfoldable pub exactMixedBod : Card → (Qu : ℕ) (upstream : Fraction) → Fraction
-exactMixedBod card Qu upstream =
-    (ofℕ Qu *ᶠ upstream +ᶠ ofℕ (1_000 * card .inflow * card .«inflow_bod») +ᶠ ofℕ (1_000_000 * card .load)) ÷ ofℕ (Qu + card .inflow)
+unfoldable pub exactMixedDemand : Source → (Qu : ℕ) (upstream : Fraction) → Fraction
+exactMixedDemand source Qu upstream =
+    (ofℕ Qu *ᶠ upstream +ᶠ ofℕ (1_000 * source .inflow * source .concentration) +ᶠ ofℕ (1_000_000 * source .load)) ÷ ofℕ (Qu + source .inflow)
 
 unfoldable pub exactMixedOxygen : Card → (Qu : ℕ) (upstream : Fraction) → Fraction
 exactMixedOxygen card Qu upstream =
     (ofℕ Qu *ᶠ upstream +ᶠ ofℕ (1_000 * card .inflow * card .«inflow_oxygen»)) ÷ ofℕ (Qu + card .inflow)
 
--- the head of a reach, by its card, whether it has feeders, Qu, and the feeders' sums of Q × exact foot BOD and oxygen
-unfoldable pub exactHeadBod : Card → (fed : Bool) (Qu : ℕ) (sum : Fraction) → Fraction
-exactHeadBod card fed Qu sum = exactMixedBod card Qu (exactMean fed Qu sum)
+-- a demand at the head of a reach, by its source, whether there are feeders, Qu, and the feeders' sum of Q × exact foot value
+unfoldable pub exactHeadDemand : Source → (fed : Bool) (Qu : ℕ) (sum : Fraction) → Fraction
+exactHeadDemand source fed Qu sum = exactMixedDemand source Qu (exactMean fed Qu sum)
+
+-- BOD and oxygen at the head of a reach, by its card, whether it has feeders, Qu, and the feeders' sums of Q × exact foot BOD and oxygen
+abbrev pub exactHeadBod : Card → (fed : Bool) (Qu : ℕ) (sum : Fraction) → Fraction
+exactHeadBod card = exactHeadDemand (bodSource card)
 
 unfoldable pub exactHeadOxygen : Card → (fed : Bool) (Qu : ℕ) (sum : Fraction) → Fraction
 exactHeadOxygen card fed Qu sum = exactMixedOxygen card Qu (exactBelowDam card fed Qu (exactMean fed Qu sum))

@@ -14,6 +14,7 @@ use Rattle.river.specs.declared.file.Reading.{Reading}
 use Rattle.river.specs.declared.refusal.Refusal.{Refusal}
 use Rattle.river.specs.declared.flow.FlowTable.{FlowTable}
 use Rattle.river.specs.declared.flow.Checked.{Checked}
+use Rattle.river.specs.declared.accept.Acceptance.{Acceptance}
 use Rattle.river.specs.Bytes.{AreBytes}
 use Rattle.river.specs.Card.{Lawful, river, blank}
 use Rattle.river.specs.Refusal.{accepted, refused, outcomeOf}
@@ -25,9 +26,9 @@ use Rattle.river.proofs.Answers.{after-accepted, after-refused, went}
 use Rattle.river.proofs.Files.{reads-lawful, reads-only-lawful}
 use Rattle.river.proofs.read.Steps.{no-refusal}
 use Rattle.river.proofs.range.Ranges.{last-outlet, later-outlet}
-use Rattle.river.proofs.flow.Checks.{lawful-at}
+use Rattle.river.proofs.flow.Checks.{lawful-at, first-tabled}
 use Rattle.river.proofs.flow.FlowCheck.{flows-of-accepted, accepted-of-flows}
-use Rattle.river.specs.FlowTable.{FlowChecked}
+use Rattle.river.specs.FlowTable.{Underway, FlowChecked}
 use Rattle.river.specs.File.{Reads}
 
 -- a file of lawful cards that pass the flow rules
@@ -107,4 +108,13 @@ reading-checked {file} {r} {k} b h e f =
       lawful = λ q. reading-lawful b h e;
       sound = λ q. flows-of-accepted (sym (f .answer) ∙ ap (λ (o : Outcome). outcomeOf o cards) q);
       tabled = f .tabled;
+    }
+
+-- THEOREM: an accepted river has, at every reach, what the flow check asks for from there on
+pub accepted-underway : {file : List ℕ} {r : Acceptance} → Accepts file r → r .outcome ≡ Outcome.Accepted → {i : ℕ} → i ≤ length (river (r .cards)) → Underway (river (r .cards)) i (r .flows)
+accepted-underway a e l =
+    record {
+      lawful = a .lawful e;
+      within = l;
+      passed = record { sound = λ j k. a .sound e .each j (omega arith); tabled = first-tabled l (a .tabled e) };
     }

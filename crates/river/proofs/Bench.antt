@@ -8,9 +8,9 @@ use Rattle.river.specs.declared.card.Dam.the-variants.{Absent, Aerating}
 use Rattle.river.specs.declared.card.Card.{Card}
 use Rattle.river.specs.Refusal.{accepted, refused, refuse, need, after}
 use Rattle.river.specs.Read.{readFile, readHeader}
-use Rattle.river.specs.Flow.{fed, above, flowOf, massOf, deepest, feedersAmong, joinedIf, flowAt, depthAt, damFits, flowCheck, checksFrom, reachChecks, checksOf}
+use Rattle.river.specs.Flow.{fed, above, flowOf, massOf, deepest, feedersAmong, joinedIf, flowAt, depthAt, damFits, flowCheck, checksFrom, reachChecks}
 use Rattle.river.specs.Saturation.{saturation, saturationThousandths, saturationOf}
-use Rattle.river.specs.Head.{floor, upstreamBod, upstreamOxygen, aerated, belowDam, headBod, headOxygen}
+use Rattle.river.specs.Head.{floor, upstreamDemand, upstreamOxygen, aerated, belowDam, headDemand, headBod, headOxygen}
 use Rattle.river.specs.Accept.{acceptFile}
 
 -- a reach at 20 degrees with no load
@@ -71,7 +71,7 @@ pub record Rows : Type 0 where
 
 -- THEOREM: the bench values of the paper for flows and heads, and the empty file, a row each
 pub bench : Rows
-unfolding saturation saturationThousandths saturationOf flowCheck checksFrom reachChecks checksOf need damFits fed flowOf massOf deepest feedersAmong joinedIf headBod headOxygen upstreamBod upstreamOxygen belowDam aerated floor acceptFile readFile readHeader after
+unfolding saturation saturationThousandths saturationOf flowCheck checksFrom reachChecks need damFits fed flowOf massOf deepest feedersAmong joinedIf headDemand headOxygen upstreamDemand upstreamOxygen belowDam aerated floor acceptFile readFile readHeader after
 bench =
     record {
       saturation-0 = refl;

@@ -2,4 +2,5 @@
 pub mod Table
 pub mod Checks
 pub mod Count
+pub mod Groups
 pub mod FlowCheck

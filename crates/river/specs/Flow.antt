@@ -10,6 +10,19 @@ use Rattle.river.specs.declared.card.Dam.the-variants.{Absent, Aerating}
 use Rattle.river.specs.declared.card.Card.{Card}
 use Rattle.river.specs.Refusal.{Answer, accepted, need}
 use Rattle.river.specs.Card.{blank}
+use Rattle.river.specs.Source.{bodSource, sourceMass}
+
+-- the most litres a second that a reach may carry
+abbrev pub flowLimit : ℕ
+flowLimit = 100_000_000
+
+-- the most undecayed BOD to a litre a second
+abbrev pub massLimit : ℕ
+massLimit = 1_000_000
+
+-- the most rate × volume to a litre a second, above which the reach must be split
+abbrev pub rateLimit : ℕ
+rateLimit = 345_600
 
 -- what flows into a reach: none, or a feeder's card, what flows into that feeder, and the other feeders
 pub data Feeders : Type 0 where
@@ -48,7 +61,7 @@ reachFlow card up = flowOf up + card .inflow
 
 -- the undecayed BOD that a reach itself takes in
 abbrev pub ownMass : Card → ℕ
-ownMass card = card .inflow * card .«inflow_bod» + 1000 * card .load
+ownMass card = sourceMass (bodSource card)
 
 -- the sum of the feeders' undecayed BOD
 unfoldable pub massOf : Feeders → ℕ
@@ -88,20 +101,40 @@ unfoldable pub damFits : Dam → Bool → ℕ → Bool
 damFits Absent fed Qu = true
 damFits (Aerating share generating) fed Qu = fed && leb generating Qu
 
--- the checks of reach i in order, by its card, whether it has feeders, Qu, Q and M
-unfoldable pub checksOf : Card → (fed : Bool) (Qu Q M i : ℕ) → Answer (List Card) → Answer (List Card)
-checksOf card fed Qu Q M i later =
-    need (ltb 0 Q) 7 i
-    (need (leb Q 100000000) 8 i
-    (need (damFits (card .dam) fed Qu) 9 i
-    (need (leb M (1000000 * Q)) 10 i
-    (need (leb (card .k1 * card .volume) (345600 * Q)) 11 i
-    (need (leb (card .k2 * card .volume) (345600 * Q)) 11 i
-    later)))))
+-- a rate times volume is at most 345,600 × Q
+abbrev pub rateFits : (rate volume Q : ℕ) → Bool
+rateFits rate volume Q = leb (rate * volume) (rateLimit * Q)
 
--- the checks of reach i with this card, with what flows into it
-unfoldable pub reachChecks : Card → Feeders → ℕ → Answer (List Card) → Answer (List Card)
-reachChecks card up i later = checksOf card (fed up) (flowOf up) (reachFlow card up) (reachMass card up) i later
+-- a group of checks: the answer that comes later, where all of them pass, or the first refusal
+abbrev pub Checks : Type 0
+Checks = Answer (List Card) → Answer (List Card)
+
+infixr 5 _then_
+-- one group, and then another
+unfoldable pub _then_ : Checks → Checks → Checks
+_then_ first second later = first (second later)
+
+-- 7: Q is 0; 8: Q above 100,000,000; 9: a dam where there are no feeders, or generating flow above Qu
+unfoldable pub flowRules : Dam → (fed : Bool) (Qu Q i : ℕ) → Checks
+flowRules dam fed Qu Q i = need (ltb 0 Q) 7 i then need (leb Q flowLimit) 8 i then need (damFits dam fed Qu) 9 i
+
+-- 10: M above 1,000,000 × Q
+unfoldable pub loadRule : (Q M i : ℕ) → Checks
+loadRule Q M i = need (leb M (massLimit * Q)) 10 i
+
+-- 11: k1 × volume or k2 × volume above 345,600 × Q
+unfoldable pub rateRules : Card → (Q i : ℕ) → Checks
+rateRules card Q i =
+    need (rateFits (card .k1) (card .volume) Q) 11 i then need (rateFits (card .k2) (card .volume) Q) 11 i
+
+-- the checks of reach i in order, by its card, whether it has feeders, Qu, Q and M
+unfoldable pub checksOf : Card → (fed : Bool) (Qu Q M i : ℕ) → Checks
+checksOf card fed Qu Q M i = flowRules (card .dam) fed Qu Q i then loadRule Q M i then rateRules card Q i
+
+-- the checks of reach i with this card, with what flows into it; to unfold them is to unfold their groups
+unfoldable pub reachChecks : Card → Feeders → ℕ → Checks
+unfolding checksOf flowRules loadRule rateRules _then_
+reachChecks card up i = checksOf card (fed up) (flowOf up) (reachFlow card up) (reachMass card up) i
 
 -- the checks by reach number, of m reaches from i on
 unfoldable pub checksFrom : List Card → (i m : ℕ) → Answer (List Card)
@@ -120,11 +153,11 @@ DamRule (Aerating share generating) up = (fed up ≡ true) × (generating ≤ fl
 -- what checks 7 to 11 ask of a reach with this card, with what flows into it
 pub record ReachPasses (card : Card) (up : Feeders) : Type 0 where
   pub flowing : 0 < reachFlow card up
-  pub bounded : reachFlow card up ≤ 100000000
+  pub bounded : reachFlow card up ≤ flowLimit
   pub dam-rule : DamRule (card .dam) up
-  pub mass-rule : reachMass card up ≤ 1000000 * reachFlow card up
-  pub decay-rule : card .k1 * card .volume ≤ 345600 * reachFlow card up
-  pub aeration-rule : card .k2 * card .volume ≤ 345600 * reachFlow card up
+  pub mass-rule : reachMass card up ≤ massLimit * reachFlow card up
+  pub decay-rule : card .k1 * card .volume ≤ rateLimit * reachFlow card up
+  pub aeration-rule : card .k2 * card .volume ≤ rateLimit * reachFlow card up
 
 -- a river passes the flow rules: each of its reaches does
 pub record Flows (cards : List Card) : Type 0 where

@@ -6,17 +6,19 @@ use lib.IntN.{ℤ, pos, negsuc, _+ℤ_, _-ℤ_, _*ℤ_}
 use Rattle.river.specs.declared.card.Dam.{Dam}
 use Rattle.river.specs.declared.card.Dam.the-variants.{Absent, Aerating}
 use Rattle.river.specs.declared.card.Card.{Card}
+use Rattle.river.specs.declared.source.Source.{Source}
 use Rattle.river.specs.Saturation.{saturationOf}
+use Rattle.river.specs.Source.{bodSource}
 
 -- a signed number over a positive one, rounded down: −(n + 1) over d is −(n / d + 1)
 unfoldable pub floor : ℤ → ℕ → ℤ
 floor (pos n) d = pos (n / d)
 floor (negsuc n) d = negsuc (n / d)
 
--- 1. upstream BOD: the flow-weighted mean of the feeders' foot BOD, 0 without feeders; sum is that of Q × foot BOD
-unfoldable pub upstreamBod : (fed : Bool) (Qu sum : ℕ) → ℕ
-upstreamBod false Qu sum = 0
-upstreamBod true Qu sum = sum / Qu
+-- 1. an upstream demand, such as BOD: the flow-weighted mean of the feeders' foot values, 0 without feeders; sum is that of Q × foot value
+unfoldable pub upstreamDemand : (fed : Bool) (Qu sum : ℕ) → ℕ
+upstreamDemand false Qu sum = 0
+upstreamDemand true Qu sum = sum / Qu
 
 -- 1. upstream oxygen likewise
 unfoldable pub upstreamOxygen : (fed : Bool) (Qu : ℕ) (sum : ℤ) → ℤ
@@ -27,7 +29,7 @@ upstreamOxygen true Qu sum = floor sum Qu
 unfoldable pub aerated : Dam → (saturated Qu : ℕ) → ℤ → ℤ
 aerated Absent saturated Qu C = C
 aerated (Aerating share generating) saturated Qu C =
-    C +ℤ floor ((pos saturated -ℤ C) *ℤ pos (share * (Qu - generating))) (1000 * Qu)
+    C +ℤ floor ((pos saturated -ℤ C) *ℤ pos (share * (Qu - generating))) (1_000 * Qu)
 
 -- 2. the dam of a reach, skipped without feeders; saturation is the reach's own
 unfoldable pub belowDam : Card → (fed : Bool) (Qu : ℕ) → ℤ → ℤ
@@ -35,17 +37,21 @@ belowDam card false Qu C = C
 belowDam card true Qu C = aerated (card .dam) (saturationOf card) Qu C
 
 -- 3. mixing with inflow and load
-abbrev pub mixedBod : Card → (Qu upstream : ℕ) → ℕ
-mixedBod card Qu upstream =
-    (Qu * upstream + 1000 * card .inflow * card .«inflow_bod» + 1000000 * card .load) / (Qu + card .inflow)
+abbrev pub mixedDemand : Source → (Qu upstream : ℕ) → ℕ
+mixedDemand source Qu upstream =
+    (Qu * upstream + 1_000 * source .inflow * source .concentration + 1_000_000 * source .load) / (Qu + source .inflow)
 
 abbrev pub mixedOxygen : Card → (Qu : ℕ) (upstream : ℤ) → ℤ
 mixedOxygen card Qu upstream =
-    floor (pos Qu *ℤ upstream +ℤ pos (1000 * card .inflow * card .«inflow_oxygen»)) (Qu + card .inflow)
+    floor (pos Qu *ℤ upstream +ℤ pos (1_000 * card .inflow * card .«inflow_oxygen»)) (Qu + card .inflow)
 
--- the head of a reach, by its card, whether it has feeders, Qu, and the feeders' sums of Q × foot BOD and Q × foot oxygen
-unfoldable pub headBod : Card → (fed : Bool) (Qu sum : ℕ) → ℕ
-headBod card fed Qu sum = mixedBod card Qu (upstreamBod fed Qu sum)
+-- a demand at the head of a reach, by its source, whether there are feeders, Qu, and the feeders' sum of Q × foot value
+unfoldable pub headDemand : Source → (fed : Bool) (Qu sum : ℕ) → ℕ
+headDemand source fed Qu sum = mixedDemand source Qu (upstreamDemand fed Qu sum)
+
+-- BOD and oxygen at the head of a reach, by its card, whether it has feeders, Qu, and the feeders' sums of Q × foot BOD and Q × foot oxygen
+abbrev pub headBod : Card → (fed : Bool) (Qu sum : ℕ) → ℕ
+headBod card = headDemand (bodSource card)
 
 unfoldable pub headOxygen : Card → (fed : Bool) (Qu : ℕ) (sum : ℤ) → ℤ
 headOxygen card fed Qu sum = mixedOxygen card Qu (belowDam card fed Qu (upstreamOxygen fed Qu sum))

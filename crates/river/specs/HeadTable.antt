@@ -4,37 +4,66 @@ use mathlib.Core.Path.{_≡_}
 use mathlib.Core.Bool.{Bool, true}
 use mathlib.Core.List.{List}
 use Prim.Native.Nat.{ℕ, suc, _+_, _*_, _<_, _≤_}
-use lib.ListN.{length, getD}
-use lib.IntN.{subℕ}
+use lib.ListN.{length, getD, replicate}
 use Rattle.river.specs.declared.card.Dam.{Dam}
 use Rattle.river.specs.declared.card.Dam.the-variants.{Absent, Aerating}
 use Rattle.river.specs.declared.card.Card.{Card}
+use Rattle.river.specs.declared.source.Source.{Source}
 use Rattle.river.specs.declared.flow.FlowTable.{FlowTable}
 use Rattle.river.specs.declared.head.FootTable.{FootTable}
 use Rattle.river.specs.declared.head.Head.{Head}
 use Rattle.river.specs.Card.{FieldsInRange, Lawful}
-use Rattle.river.specs.Flow.{Flows, cardOf, above, fed, flowOf, flowAt, massAt}
+use Rattle.river.specs.Source.{sourceMass}
+use Rattle.river.specs.Flow.{flowLimit, massLimit, Flows, cardOf, above, fed, flowOf, flowAt, massAt}
 use Rattle.river.specs.Head.{headBod, headOxygen}
-use Rattle.river.specs.FlowTable.{tableSum, Tabled}
-use Rattle.river.specs.Stored.{oxygenOf}
+use Rattle.river.specs.FlowTable.{feederSum, Tabled}
+use Rattle.river.specs.Stored.{storedLimit, oxygenOf, oxygenSumOf}
 
 -- a dam's share is at most 1,000, and its generating flow at most Qu
 abbrev pub DamWithin : Dam → (Qu : ℕ) → Type 0
 DamWithin Absent Qu = Unit
-DamWithin (Aerating share generating) Qu = (share ≤ 1000) × (generating ≤ Qu)
+DamWithin (Aerating share generating) Qu = (share ≤ 1_000) × (generating ≤ Qu)
 
--- what an accepted river ensures at the head of a reach: of its card, of whether it has feeders, and of Qu
+-- a part of a whole that is small enough for a product with 16 bits
+pub record PartOf (part whole : ℕ) : Type 0 where
+  pub some : 0 < whole
+  pub within : part ≤ whole
+  pub fits : whole ≤ 1_000 * flowLimit
+
+-- what an accepted river ensures of the water at the head of a reach: of its inflow, of whether it has feeders, and of Qu
+pub record HeadFlows (inflow : ℕ) (fed : Bool) (Qu : ℕ) : Type 0 where
+  pub flowing : 0 < Qu + inflow
+  pub bounded : Qu + inflow ≤ flowLimit
+  pub feeders-flow : fed ≡ true → 0 < Qu
+
+-- what it ensures of the reach's card too
 pub record HeadReady (card : Card) (fed : Bool) (Qu : ℕ) : Type 0 where
   pub fields : FieldsInRange card
   pub dam : DamWithin (card .dam) Qu
-  pub flowing : 0 < Qu + card .inflow
-  pub bounded : Qu + card .inflow ≤ 100000000
-  pub feeders-flow : fed ≡ true → 0 < Qu
+  pub flows : HeadFlows (card .inflow) fed Qu
+
+-- the most units of a demand at a head
+abbrev pub demandLimit : ℕ
+demandLimit = 1_000 * massLimit
+
+-- what it ensures of a demand there: what the feeders' feet and the source bring is at most the limit for each unit of flow
+pub record DemandReady (source : Source) (fed : Bool) (Qu sum : ℕ) : Type 0 where
+  pub flows : HeadFlows (source .inflow) fed Qu
+  pub within : sum + 1_000 * sourceMass source ≤ demandLimit * (Qu + source .inflow)
+
+-- what it ensures of oxygen there: each stored foot value fits four bytes
+pub record OxygenReady (card : Card) (fed : Bool) (Qu sum : ℕ) : Type 0 where
+  pub ready : HeadReady card fed Qu
+  pub within : sum ≤ storedLimit * Qu
+
+-- tables of no feet
+abbrev pub noFeet : FootTable
+noFeet = record { bod = replicate 128 0; oxygen = replicate 128 0 }
 
 -- tables of flow × foot BOD and flow × stored foot oxygen of the first n reaches, in the bounds that feet have
 pub record Carried (cards : List Card) (feet : FootTable) (n : ℕ) : Type 0 where
-  pub bod : (j : ℕ) → j < n → getD (feet .bod) j 0 ≤ 1000 * massAt cards (suc j)
-  pub oxygen : (j : ℕ) → j < n → getD (feet .oxygen) j 0 ≤ 4294967295 * flowAt cards (suc j)
+  pub bod : (j : ℕ) → j < n → getD (feet .bod) j 0 ≤ 1_000 * massAt cards (suc j)
+  pub oxygen : (j : ℕ) → j < n → getD (feet .oxygen) j 0 ≤ storedLimit * flowAt cards (suc j)
 
 -- what the head of reach i + 1 needs: an accepted river, its flows and the feet of the reaches before
 pub record HeadInput (cards : List Card) (flows : FlowTable) (feet : FootTable) (i : ℕ) : Type 0 where
@@ -48,8 +77,8 @@ pub record HeadInput (cards : List Card) (flows : FlowTable) (feet : FootTable) 
 pub record HeadOf (cards : List Card) (flows : FlowTable) (feet : FootTable) (i : ℕ) (r : Head) : Type 0 where
   pub bod :
       r .bod ≡
-      headBod (cardOf cards (suc i)) (fed (above cards (suc i))) (flowOf (above cards (suc i))) (tableSum (flows .outlet) (feet .bod) i (suc i))
+      headBod (cardOf cards (suc i)) (fed (above cards (suc i))) (flowOf (above cards (suc i))) (feederSum (flows .outlet) (feet .bod) i)
   pub oxygen :
       oxygenOf (r .oxygen) ≡
-      headOxygen (cardOf cards (suc i)) (fed (above cards (suc i))) (flowOf (above cards (suc i))) (subℕ (tableSum (flows .outlet) (feet .oxygen) i (suc i)) (2147483648 * flowOf (above cards (suc i))))
-  pub mass : flowAt cards (suc i) * r .bod ≤ 1000 * massAt cards (suc i)
+      headOxygen (cardOf cards (suc i)) (fed (above cards (suc i))) (flowOf (above cards (suc i))) (oxygenSumOf (flowOf (above cards (suc i))) (feederSum (flows .outlet) (feet .oxygen) i))
+  pub mass : flowAt cards (suc i) * r .bod ≤ 1_000 * massAt cards (suc i)

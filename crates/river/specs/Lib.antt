@@ -3,6 +3,7 @@ pub mod Refusal
 pub mod Card
 pub mod Read
 pub mod Write
+pub mod Source
 pub mod Flow
 pub mod Saturation
 pub mod Head

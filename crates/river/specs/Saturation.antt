@@ -14,6 +14,9 @@ saturation T = saturationThousandths T / 1000
 unfoldable pub saturationOf : Card → ℕ
 saturationOf card = saturation (card .temperature)
 
--- what saturation asks of a card: a temperature from 0 to 35 degrees
+-- what saturation asks of a temperature, and so of a card: 0 to 35 degrees
+abbrev pub TemperatureInRange : ℕ → Type 0
+TemperatureInRange T = T ≤ 35
+
 abbrev pub SaturationInRange : Card → Type 0
-SaturationInRange card = card .temperature ≤ 35
+SaturationInRange card = TemperatureInRange (card .temperature)

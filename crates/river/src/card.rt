@@ -1,6 +1,6 @@
 // One reach of a river file.
 ghost use mathlib.Core.Path.{_≡_};
-ghost use Rattle.river.specs.Card.{sizeOfDam};
+ghost use Rattle.river.specs.Card.{blank, sizeOfDam};
 
 // A dam is either none or an aeration share, in thousandths, with a generating flow, in litres a second.
 pub enum Dam {
@@ -29,7 +29,9 @@ pub struct Cards {
 }
 
 // A card of zeros.
-pub fn blank() -> Card {
+pub fn blank() -> Card
+    ensures { λ r. ⌜ r ≡ blank ⌝ }
+{
     Card {
         outlet: 0,
         temperature: 0,

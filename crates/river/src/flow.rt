@@ -1,18 +1,27 @@
 // Flow, undecayed BOD and depth of each reach, and the flow check.
 ghost use mathlib.Core.Path.{_≡_};
-ghost use mathlib.Core.List.{List};
-ghost use Prim.Native.Nat.{ℕ, suc, _+_, _*_, _<_, _≤_, max};
-ghost use lib.Dec.{ltb, leb};
-ghost use lib.ListN.{length, set};
-ghost use Rattle.river.specs.Refusal.{Answer, goOn};
-ghost use Rattle.river.specs.Card.{Lawful, river};
-ghost use Rattle.river.specs.Flow.{damFits, checksOf, ownMass};
-ghost use Rattle.river.specs.FlowTable.{tableSum, tableMax, NextInput, NextChecked, FlowChecked};
+ghost use Prim.Native.Nat.{_<_, _≤_, _^_, max};
+ghost use lib.Dec.{ltb};
+ghost use lib.ListN.{length};
+ghost use Rattle.river.specs.Card.{FieldsInRange, Lawful, river};
+ghost use Rattle.river.specs.Flow.{flowLimit, ownMass, damFits, rateFits, flowRules, loadRule, rateRules, checksOf};
+ghost use Rattle.river.specs.FlowTable.{Decides, tableSum, tableMax, SumsFit, UpstreamOf, noFlows, Entered, Underway, NextChecked, FlowChecked};
 use crate::card::Card;
 use crate::card::Cards;
 use crate::card::Dam;
 use crate::refusal::Outcome;
 use crate::refusal::Refusal;
+use crate::source::bod_source;
+use crate::source::source_mass;
+
+// The most litres a second that a reach may carry.
+const FLOW_LIMIT: u64 = 100_000_000;
+
+// The most undecayed BOD to a litre a second.
+const MASS_LIMIT: u64 = 1_000_000;
+
+// The most rate times volume to a litre a second.
+const RATE_LIMIT: u64 = 345_600;
 
 // Tables of the reaches that passed: outlet, flow, undecayed BOD and depth.
 pub struct FlowTable {
@@ -36,8 +45,13 @@ pub struct Upstream {
 }
 
 // The sum of a table over the feeders of a reach among the first n reaches.
-pub fn feeder_sum<'a>(outlet: &'a [u8; 128], values: &'a [u64; 128], n: usize, reach: u8) -> u64
-    requires { ⌜ (n ≤ 128) × (tableSum (now outlet) (now values) n reach < 18446744073709551616) ⌝ }
+pub(crate) fn feeder_sum<'a>(
+    outlet: &'a [u8; 128],
+    values: &'a [u64; 128],
+    n: usize,
+    reach: u8,
+) -> u64
+    requires { ⌜ (n ≤ 128) × (tableSum (now outlet) (now values) n reach < 2 ^ 64) ⌝ }
     ensures { λ r. ⌜ r ≡ tableSum (now (outlet .entry)) (now (values .entry)) n reach ⌝ }
 {
     let mut sum: u64 = 0;
@@ -75,8 +89,8 @@ fn feeder_depth<'a>(outlet: &'a [u8; 128], depth: &'a [u8; 128], n: usize, reach
 
 // What flows into the reach after the first n.
 fn upstream_of(flows: FlowTable, n: usize) -> Upstream
-    requires { ⌜ (n < 128) × (tableSum (flows .outlet) (flows .flow) n (suc n) < 18446744073709551616) × (tableSum (flows .outlet) (flows .mass) n (suc n) < 18446744073709551616) ⌝ }
-    ensures { λ r. ⌜ (r .flow ≡ tableSum (flows .outlet) (flows .flow) n (suc n)) × (r .mass ≡ tableSum (flows .outlet) (flows .mass) n (suc n)) × (r .deepest ≡ tableMax (flows .outlet) (flows .depth) n (suc n)) ⌝ }
+    requires { ⌜ SumsFit flows n ⌝ }
+    ensures { λ r. ⌜ UpstreamOf flows n r ⌝ }
 {
     let reach = (n + 1) as u8;
     let flow = feeder_sum(&flows.outlet, &flows.flow, n, reach);
@@ -110,29 +124,44 @@ fn dam_fits(dam: Dam, up: Upstream) -> bool
 
 // Whether a rate passes check 11.
 fn rate_fits(rate: u16, volume: u32, flow: u64) -> bool
-    requires { ⌜ flow ≤ 100000000 ⌝ }
-    ensures { λ r. ⌜ r ≡ leb (rate * volume) (345600 * flow) ⌝ }
+    requires { ⌜ flow ≤ flowLimit ⌝ }
+    ensures { λ r. ⌜ r ≡ rateFits rate volume flow ⌝ }
 {
-    (rate as u64) * (volume as u64) <= 345600 * flow
+    (rate as u64) * (volume as u64) <= RATE_LIMIT * flow
 }
 
-// The checks of a reach in order.
-fn check(card: Card, up: Upstream, flow: u64, mass: u64, reach: u8) -> Outcome
-    ensures { λ r. ⌜ ((later : Answer (List Card)) → goOn r later ≡ checksOf card (ltb 0 (up .deepest)) (up .flow) flow mass reach later) ⌝ }
+// Checks 7, 8 and 9.
+fn flow_rules(dam: Dam, up: Upstream, flow: u64, reach: u8) -> Outcome
+    ensures { λ r. ⌜ Decides r (flowRules dam (ltb 0 (up .deepest)) (up .flow) flow reach) ⌝ }
 {
-    let dam = card.dam;
     if flow == 0 {
         return Outcome::Refused(Refusal { number: 7, reach });
     }
-    if 100000000 < flow {
+    if FLOW_LIMIT < flow {
         return Outcome::Refused(Refusal { number: 8, reach });
     }
     if !dam_fits(dam, up) {
         return Outcome::Refused(Refusal { number: 9, reach });
     }
-    if 1000000 * flow < mass {
+    Outcome::Accepted
+}
+
+// Check 10.
+fn load_rule(flow: u64, mass: u64, reach: u8) -> Outcome
+    requires { ⌜ flow ≤ flowLimit ⌝ }
+    ensures { λ r. ⌜ Decides r (loadRule flow mass reach) ⌝ }
+{
+    if MASS_LIMIT * flow < mass {
         return Outcome::Refused(Refusal { number: 10, reach });
     }
+    Outcome::Accepted
+}
+
+// Check 11, of each rate.
+fn rate_rules(card: Card, flow: u64, reach: u8) -> Outcome
+    requires { ⌜ flow ≤ flowLimit ⌝ }
+    ensures { λ r. ⌜ Decides r (rateRules card flow reach) ⌝ }
+{
     if !rate_fits(card.k1, card.volume, flow) {
         return Outcome::Refused(Refusal { number: 11, reach });
     }
@@ -142,18 +171,34 @@ fn check(card: Card, up: Upstream, flow: u64, mass: u64, reach: u8) -> Outcome
     Outcome::Accepted
 }
 
+// The checks of a reach in order, group by group.
+fn check(card: Card, up: Upstream, flow: u64, mass: u64, reach: u8) -> Outcome
+    ensures { λ r. ⌜ Decides r (checksOf card (ltb 0 (up .deepest)) (up .flow) flow mass reach) ⌝ }
+{
+    let dam = card.dam;
+    let flows = flow_rules(dam, up, flow, reach);
+    let Outcome::Accepted = flows else {
+        return flows;
+    };
+    let load = load_rule(flow, mass, reach);
+    let Outcome::Accepted = load else {
+        return load;
+    };
+    rate_rules(card, flow, reach)
+}
+
 // The undecayed BOD that a reach itself takes in.
 fn own_mass(card: Card) -> u64
-    requires { ⌜ (card .inflow ≤ 100000000) × (card .«inflow_bod» ≤ 1000000) ⌝ }
+    requires { ⌜ FieldsInRange card ⌝ }
     ensures { λ r. ⌜ r ≡ ownMass card ⌝ }
 {
-    (card.inflow as u64) * (card.inflow_bod as u64) + 1000 * (card.load as u64)
+    source_mass(bod_source(card))
 }
 
 // The tables with one more reach.
 fn entered(flows: FlowTable, i: usize, outlet: u8, flow: u64, mass: u64, depth: u8) -> FlowTable
     requires { ⌜ i < 128 ⌝ }
-    ensures { λ r. ⌜ (r .outlet ≡ set (flows .outlet) i outlet) × (r .flow ≡ set (flows .flow) i flow) × (r .mass ≡ set (flows .mass) i mass) × (r .depth ≡ set (flows .depth) i depth) ⌝ }
+    ensures { λ r. ⌜ Entered flows i outlet flow mass depth r ⌝ }
 {
     let mut flows = flows;
     flows.outlet[i] = outlet;
@@ -163,9 +208,9 @@ fn entered(flows: FlowTable, i: usize, outlet: u8, flow: u64, mass: u64, depth: 
     flows
 }
 
-// The check of the reach after the first i, which passed.
+// The check of the reach after the first i, which passed. A refusal enters nothing.
 fn check_next(cards: Cards, flows: FlowTable, i: usize) -> Checked
-    requires { ⌜ NextInput (river cards) flows i ⌝ }
+    requires { ⌜ Underway (river cards) i flows × (i < length (river cards)) ⌝ }
     ensures { λ r. ⌜ NextChecked (river cards) i r ⌝ }
 {
     let card = cards.at[i];
@@ -173,6 +218,9 @@ fn check_next(cards: Cards, flows: FlowTable, i: usize) -> Checked
     let flow = up.flow + card.inflow as u64;
     let mass = up.mass + own_mass(card);
     let outcome = check(card, up, flow, mass, (i + 1) as u8);
+    let Outcome::Accepted = outcome else {
+        return Checked { outcome, flows };
+    };
     let flows = entered(flows, i, card.outlet, flow, mass, up.deepest + 1);
     Checked { outcome, flows }
 }
@@ -185,7 +233,9 @@ pub fn reach_count(cards: Cards) -> usize
 }
 
 // The tables of no reach.
-pub fn no_flows() -> FlowTable {
+pub(crate) fn no_flows() -> FlowTable
+    ensures { λ r. ⌜ r ≡ noFlows ⌝ }
+{
     FlowTable {
         outlet: [0u8; 128],
         flow: [0u64; 128],
@@ -194,23 +244,21 @@ pub fn no_flows() -> FlowTable {
     }
 }
 
-// The flow check of a river.
-pub fn flow_check(cards: Cards) -> Checked
-    requires { ⌜ Lawful (river cards) ⌝ }
+// The flow check of a river whose first i reaches passed and have their tables, from the next reach on. After a refusal the tables say
+// nothing. A caller has what this asks for, at every reach of an accepted river, from `accept`.
+pub fn check_from(cards: Cards, flows: FlowTable, i: usize) -> Checked
+    requires { ⌜ Underway (river cards) i flows ⌝ }
     ensures { λ r. ⌜ FlowChecked (river cards) r ⌝ }
 {
     let count = reach_count(cards);
-    let mut flows = no_flows();
-    let mut i: usize = 0;
+    let mut flows = flows;
+    let mut i = i;
     while i < count {
         let next = check_next(cards, flows, i);
         let outcome = next.outcome;
-        if let Outcome::Refused(refusal) = outcome {
-            return Checked {
-                outcome: Outcome::Refused(refusal),
-                flows,
-            };
-        }
+        let Outcome::Accepted = outcome else {
+            return next;
+        };
         flows = next.flows;
         i = i + 1;
     }
@@ -218,4 +266,12 @@ pub fn flow_check(cards: Cards) -> Checked
         outcome: Outcome::Accepted,
         flows,
     }
+}
+
+// The flow check of a river. `accept` has lawful cards from its reading.
+pub(crate) fn flow_check(cards: Cards) -> Checked
+    requires { ⌜ Lawful (river cards) ⌝ }
+    ensures { λ r. ⌜ FlowChecked (river cards) r ⌝ }
+{
+    check_from(cards, no_flows(), 0)
 }

@@ -1,23 +1,31 @@
 // Head of a reach: saturation, upstream means, the dam and mixing.
 ghost use mathlib.Core.Path.{_≡_};
 ghost use mathlib.Core.Bool.{true};
-ghost use Prim.Native.Nat.{_+_, _*_, _/_, _<_, _≤_};
+ghost use Prim.Native.Nat.{_*_, _/_, _<_, _≤_};
 ghost use lib.ListN.{set};
-ghost use lib.IntN.{pos, subℕ, _+ℤ_, _-ℤ_, _*ℤ_};
-ghost use Rattle.river.specs.Flow.{ownMass};
+ghost use lib.IntN.{pos, _+ℤ_, _-ℤ_, _*ℤ_};
 ghost use Rattle.river.specs.Saturation as Sat;
-ghost use Rattle.river.specs.Saturation.{saturationOf, SaturationInRange};
-ghost use Rattle.river.specs.Head.{floor, upstreamBod, upstreamOxygen, belowDam, headBod, headOxygen};
+ghost use Rattle.river.specs.Saturation.{saturationOf, TemperatureInRange, SaturationInRange};
+ghost use Rattle.river.specs.Flow.{flowLimit};
+ghost use Rattle.river.specs.Head.{floor, upstreamDemand, upstreamOxygen, belowDam, headDemand, headOxygen};
 ghost use Rattle.river.specs.Card.{river};
-ghost use Rattle.river.specs.Stored.{oxygenOf};
-ghost use Rattle.river.specs.HeadTable.{HeadReady, HeadInput, HeadOf};
+ghost use Rattle.river.specs.Stored.{oxygenOf, oxygenSumOf};
+ghost use Rattle.river.specs.HeadTable.{PartOf, HeadReady, DemandReady, OxygenReady, noFeet, HeadInput, HeadOf};
 use crate::card::Card;
 use crate::card::Cards;
 use crate::card::Dam;
 use crate::flow::FlowTable;
 use crate::flow::feeder_sum;
+use crate::source::Source;
+use crate::source::bod_source;
 
-// Tables of the reaches above: flow times foot BOD, and flow times stored foot oxygen. Oxygen is stored as its units plus 2^31.
+// The number that stores zero oxygen: oxygen is stored as its units plus 2^31.
+pub const STORED_ZERO: u32 = 2_147_483_648;
+
+// The same as a wide number.
+pub const STORED_ZERO_WIDE: u64 = STORED_ZERO as u64;
+
+// Tables of the reaches above: flow times foot BOD, and flow times stored foot oxygen.
 pub struct FootTable {
     pub bod: [u64; 128],
     pub oxygen: [u64; 128],
@@ -30,16 +38,17 @@ pub struct Head {
 }
 
 // Saturation in units at a temperature in degrees C.
-pub fn saturation(temperature: u8) -> u32
-    requires { ⌜ temperature ≤ 35 ⌝ }
+fn saturation(temperature: u8) -> u32
+    requires { ⌜ TemperatureInRange temperature ⌝ }
     ensures { λ r. ⌜ r ≡ Sat.saturation temperature ⌝ }
 {
     let t = temperature as u64;
     let square = t * t;
-    ((14652000000 + 7991000 * square - (410220000 * t + 77774 * (square * t))) / 1000) as u32
+    ((14_652_000_000 + 7_991_000 * square - (410_220_000 * t + 77_774 * (square * t)))
+        / 1_000) as u32
 }
 
-// Saturation of a reach in units.
+// Saturation of a reach in units. The report has the card of an accepted river, whose temperature is in range.
 pub fn saturation_of(card: Card) -> u32
     requires { ⌜ SaturationInRange card ⌝ }
     ensures { λ r. ⌜ r ≡ saturationOf card ⌝ }
@@ -49,7 +58,7 @@ pub fn saturation_of(card: Card) -> u32
 
 // The floor of a * b / d by long division in two chunks of 16 bits of a.
 fn share_of(a: u32, b: u64, d: u64) -> u64
-    requires { ⌜ (0 < d) × (b ≤ d) × (d ≤ 100000000000) ⌝ }
+    requires { ⌜ PartOf b d ⌝ }
     ensures { λ r. ⌜ r ≡ a * b / d ⌝ }
 {
     let high = (a / 65536) as u64;
@@ -61,7 +70,7 @@ fn share_of(a: u32, b: u64, d: u64) -> u64
 
 // Stored oxygen after `weight` parts in `whole` of the water have come to saturation.
 fn aerate(oxygen: u32, saturated: u32, weight: u64, whole: u64) -> u32
-    requires { ⌜ (0 < whole) × (weight ≤ whole) × (whole ≤ 100000000000) ⌝ }
+    requires { ⌜ PartOf weight whole ⌝ }
     ensures { λ r. ⌜ oxygenOf r ≡ oxygenOf oxygen +ℤ floor ((oxygenOf saturated -ℤ oxygenOf oxygen) *ℤ pos weight) whole ⌝ }
 {
     if oxygen <= saturated {
@@ -81,66 +90,70 @@ fn below_dam(card: Card, qu: u64, oxygen: u32) -> u32
         Dam::Absent => oxygen,
         Dam::Aerating { share, generating } => aerate(
             oxygen,
-            2147483648 + saturation_of(card),
+            STORED_ZERO + saturation_of(card),
             (share as u64) * (qu - generating as u64),
-            1000 * qu,
+            1_000 * qu,
         ),
     }
 }
 
 // Stored upstream oxygen below the dam, from the sum of flow times stored foot oxygen.
 fn upstream_oxygen(card: Card, fed: bool, qu: u64, sum: u64) -> u32
-    requires { ⌜ HeadReady card fed qu × (sum ≤ 4294967295 * qu) ⌝ }
-    ensures { λ r. ⌜ oxygenOf r ≡ belowDam card fed qu (upstreamOxygen fed qu (subℕ sum (2147483648 * qu))) ⌝ }
+    requires { ⌜ OxygenReady card fed qu sum ⌝ }
+    ensures { λ r. ⌜ oxygenOf r ≡ belowDam card fed qu (upstreamOxygen fed qu (oxygenSumOf qu sum)) ⌝ }
 {
     if fed {
         below_dam(card, qu, (sum / qu) as u32)
     } else {
-        2147483648
+        STORED_ZERO
     }
-}
-
-// Upstream BOD from the sum of flow times foot BOD.
-fn upstream_bod(fed: bool, qu: u64, sum: u64) -> u64
-    requires { ⌜ (fed ≡ true → 0 < qu) ⌝ }
-    ensures { λ r. ⌜ r ≡ upstreamBod fed qu sum ⌝ }
-{
-    if fed { sum / qu } else { 0 }
-}
-
-// Head BOD.
-fn head_bod(card: Card, fed: bool, qu: u64, sum: u64) -> u32
-    requires { ⌜ HeadReady card fed qu × (sum + 1000 * ownMass card ≤ 1000000000 * (qu + card .inflow)) ⌝ }
-    ensures { λ r. ⌜ r ≡ headBod card fed qu sum ⌝ }
-{
-    let upstream = upstream_bod(fed, qu, sum);
-    let inflow = card.inflow as u64;
-    ((qu * upstream + 1000 * inflow * (card.inflow_bod as u64) + 1000000 * (card.load as u64))
-        / (qu + inflow)) as u32
 }
 
 // Stored head oxygen.
 fn head_oxygen(card: Card, fed: bool, qu: u64, sum: u64) -> u32
-    requires { ⌜ HeadReady card fed qu × (sum ≤ 4294967295 * qu) ⌝ }
-    ensures { λ r. ⌜ oxygenOf r ≡ headOxygen card fed qu (subℕ sum (2147483648 * qu)) ⌝ }
+    requires { ⌜ OxygenReady card fed qu sum ⌝ }
+    ensures { λ r. ⌜ oxygenOf r ≡ headOxygen card fed qu (oxygenSumOf qu sum) ⌝ }
 {
     let upstream = upstream_oxygen(card, fed, qu, sum) as u64;
     let inflow = card.inflow as u64;
-    ((qu * upstream + inflow * (2147483648 + 1000 * (card.inflow_oxygen as u64)))
+    ((qu * upstream + inflow * (STORED_ZERO_WIDE + 1_000 * (card.inflow_oxygen as u64)))
+        / (qu + inflow)) as u32
+}
+
+// An upstream demand from the sum of flow times foot value.
+fn upstream_demand(fed: bool, qu: u64, sum: u64) -> u64
+    requires { ⌜ (fed ≡ true → 0 < qu) ⌝ }
+    ensures { λ r. ⌜ r ≡ upstreamDemand fed qu sum ⌝ }
+{
+    if fed { sum / qu } else { 0 }
+}
+
+// A demand at a head, from its source and the sum of flow times foot value.
+fn head_demand(source: Source, fed: bool, qu: u64, sum: u64) -> u32
+    requires { ⌜ DemandReady source fed qu sum ⌝ }
+    ensures { λ r. ⌜ r ≡ headDemand source fed qu sum ⌝ }
+{
+    let upstream = upstream_demand(fed, qu, sum);
+    let inflow = source.inflow as u64;
+    ((qu * upstream
+        + 1_000 * inflow * (source.concentration as u64)
+        + 1_000_000 * (source.load as u64))
         / (qu + inflow)) as u32
 }
 
 // The tables of no feet.
-pub fn no_feet() -> FootTable {
+pub fn no_feet() -> FootTable
+    ensures { λ r. ⌜ r ≡ noFeet ⌝ }
+{
     FootTable {
         bod: [0u64; 128],
         oxygen: [0u64; 128],
     }
 }
 
-// The tables with the foot of reach i + 1.
+// The tables with the foot of reach i + 1. The report has the flow of an accepted river's reach.
 pub fn put_foot(feet: FootTable, i: usize, flow: u64, bod: u32, oxygen: u32) -> FootTable
-    requires { ⌜ (i < 128) × (flow ≤ 100000000) ⌝ }
+    requires { ⌜ (i < 128) × (flow ≤ flowLimit) ⌝ }
     ensures { λ r. ⌜ (r .bod ≡ set (feet .bod) i (flow * bod)) × (r .oxygen ≡ set (feet .oxygen) i (flow * oxygen)) ⌝ }
 {
     let mut next = feet;
@@ -149,7 +162,8 @@ pub fn put_foot(feet: FootTable, i: usize, flow: u64, bod: u32, oxygen: u32) -> 
     next
 }
 
-// The head of reach i + 1 of an accepted river, from its flows and the feet of the reaches before it.
+// The head of reach i + 1 of an accepted river, from its flows and the feet of the reaches before it. The report has the river from
+// `accept`, and the feet from `put_foot`.
 pub fn head_of(cards: Cards, flows: FlowTable, feet: FootTable, i: usize) -> Head
     requires { ⌜ HeadInput (river cards) flows feet i ⌝ }
     ensures { λ r. ⌜ HeadOf (river cards) flows feet i r ⌝ }
@@ -161,7 +175,7 @@ pub fn head_of(cards: Cards, flows: FlowTable, feet: FootTable, i: usize) -> Hea
     let fed = 1 < flows.depth[i];
     let qu = flows.flow[i] - card.inflow as u64;
     Head {
-        bod: head_bod(card, fed, qu, bod_sum),
+        bod: head_demand(bod_source(card), fed, qu, bod_sum),
         oxygen: head_oxygen(card, fed, qu, oxygen_sum),
     }
 }

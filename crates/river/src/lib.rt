@@ -10,5 +10,6 @@ pub mod range;
 pub mod read;
 pub mod reader;
 pub mod refusal;
+pub mod source;
 pub mod write;
 pub mod writer;

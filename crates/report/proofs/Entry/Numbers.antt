@@ -8,7 +8,7 @@ use lib.ListN.{length, drop}
 use Rattle.river.specs.declared.card.Card.{Card}
 use Rattle.river.specs.Refusal.{Answer, accepted, refused, need, choose, after}
 use Rattle.river.specs.Read.{readHeader, readDam, readReach, readReaches, readFile}
-use Rattle.river.specs.Flow.{checksOf, reachChecks, checksFrom, flowCheck}
+use Rattle.river.specs.Flow.{reachChecks, checksFrom, flowCheck}
 use Rattle.report.specs.Report.{roomAnswer, reportAnswer}
 use Rattle.river.specs.Card.{sizeOf}
 use Rattle.river.specs.Accept.{acceptFile}
@@ -60,7 +60,7 @@ unfolding readFile
 file-numbered s = next _ _ (header s) (λ n. reaches n 1 n (drop 4 s))
 
 checks : (cards : List Card) (i m : ℕ) → Numbered (checksFrom cards i m)
-unfolding checksFrom reachChecks checksOf
+unfolding checksFrom reachChecks
 checks cards i zero = tt
 checks cards i (suc m) =
     needs _ _ _ _ (lit< tt)

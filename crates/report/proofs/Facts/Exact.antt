@@ -9,9 +9,10 @@ use Rattle.decay.proofs.Algebra.Rational.{*ᶠ-comm}
 use Rattle.river.specs.declared.card.Dam.{Dam}
 use Rattle.river.specs.declared.card.Dam.the-variants.{Absent, Aerating}
 use Rattle.river.specs.declared.card.Card.{Card}
+use Rattle.river.specs.declared.source.Source.{Source}
 use Rattle.river.specs.Flow.{Feeders, more, fed, flowOf}
 use Rattle.river.specs.Saturation.{saturation, saturationThousandths, saturationOf}
-use Rattle.report.specs.Recurrence.{exactSaturation, exactMean, exactAerated, exactBelowDam, exactMixedBod, exactMixedOxygen, exactBodSum, exactOxygenSum}
+use Rattle.report.specs.Recurrence.{exactSaturation, exactMean, exactAerated, exactBelowDam, exactMixedDemand, exactMixedOxygen, exactBodSum, exactOxygenSum}
 use Rattle.report.proofs.Forest.{AllAccepted, no-more, one-more}
 use Rattle.report.proofs.Facts.Head.{feeders-flow, damPart}
 
@@ -63,9 +64,9 @@ exact-below-dam card false Qu C =
 exact-below-dam card true Qu C = exact-aerated (card .dam) (exactSaturation card) Qu C
 
 -- mixing times Q
-pub exact-bod-mixed : (card : Card) (Qu : ℕ) (upstream : Fraction) → 0 < Qu + card .inflow → ofℕ (Qu + card .inflow) *ᶠ exactMixedBod card Qu upstream ≈ ofℕ Qu *ᶠ upstream +ᶠ ofℕ (1000 * card .inflow * card .«inflow_bod») +ᶠ ofℕ (1000000 * card .load)
-unfolding exactMixedBod
-exact-bod-mixed card Qu upstream p = times (ofℕ Qu *ᶠ upstream +ᶠ ofℕ (1000 * card .inflow * card .«inflow_bod») +ᶠ ofℕ (1000000 * card .load)) (Qu + card .inflow) p
+pub exact-demand-mixed : (source : Source) (Qu : ℕ) (upstream : Fraction) → 0 < Qu + source .inflow → ofℕ (Qu + source .inflow) *ᶠ exactMixedDemand source Qu upstream ≈ ofℕ Qu *ᶠ upstream +ᶠ ofℕ (1000 * source .inflow * source .concentration) +ᶠ ofℕ (1000000 * source .load)
+unfolding exactMixedDemand
+exact-demand-mixed source Qu upstream p = times (ofℕ Qu *ᶠ upstream +ᶠ ofℕ (1000 * source .inflow * source .concentration) +ᶠ ofℕ (1000000 * source .load)) (Qu + source .inflow) p
 
 pub exact-oxygen-mixed : (card : Card) (Qu : ℕ) (upstream : Fraction) → 0 < Qu + card .inflow → ofℕ (Qu + card .inflow) *ᶠ exactMixedOxygen card Qu upstream ≈ ofℕ Qu *ᶠ upstream +ᶠ ofℕ (1000 * card .inflow * card .«inflow_oxygen»)
 unfolding exactMixedOxygen

@@ -10,10 +10,11 @@ use Rattle.decay.proofs.Algebra.{Nonneg, quote, slack, number, _⊞_, multiple,
 use Rattle.river.specs.declared.card.Dam.{Dam}
 use Rattle.river.specs.declared.card.Dam.the-variants.{Absent, Aerating}
 use Rattle.river.specs.declared.card.Card.{Card}
+use Rattle.river.specs.declared.source.Source.{Source}
 use Rattle.river.specs.Card.{LawfulDam}
 use Rattle.river.specs.Flow.{Feeders, more, fed, flowOf}
 use Rattle.river.specs.Saturation.{saturationOf}
-use Rattle.river.specs.Head.{floor, upstreamBod, upstreamOxygen, aerated, belowDam, mixedBod, mixedOxygen}
+use Rattle.river.specs.Head.{floor, upstreamDemand, upstreamOxygen, aerated, belowDam, mixedDemand, mixedOxygen}
 use Rattle.report.specs.Program.{bodSum, oxygenSum}
 use Rattle.report.proofs.Facts.Floor.{Rounded, floor-rounded, ofℤ-sub}
 use Rattle.report.proofs.Forest.{AllAccepted, no-more, one-more}
@@ -38,12 +39,12 @@ unfolding flowOf
 feeders-flow (one-more own above others) = omega (arith, own .flows .flowing)
 
 -- the means of the feeders' feet
-bod-mean-fed : (Qu sum : ℕ) → 0 < Qu → Rounded (ofℕ Qu) (ofℕ (upstreamBod true Qu sum)) (ofℕ sum)
-unfolding upstreamBod floor
+bod-mean-fed : (Qu sum : ℕ) → 0 < Qu → Rounded (ofℕ Qu) (ofℕ (upstreamDemand true Qu sum)) (ofℕ sum)
+unfolding upstreamDemand floor
 bod-mean-fed Qu sum p = floor-rounded (pos sum) Qu p
 
-pub bod-mean : {up : Feeders} → AllAccepted up → Rounded (ofℕ (flowOf up)) (ofℕ (upstreamBod (fed up) (flowOf up) (bodSum up))) (ofℕ (bodSum up))
-unfolding fed flowOf bodSum upstreamBod
+pub bod-mean : {up : Feeders} → AllAccepted up → Rounded (ofℕ (flowOf up)) (ofℕ (upstreamDemand (fed up) (flowOf up) (bodSum up))) (ofℕ (bodSum up))
+unfolding fed flowOf bodSum upstreamDemand
 bod-mean no-more = zero-rounded
 bod-mean (one-more {card} {up} {rest} own above others) =
     bod-mean-fed (flowOf (more card up rest)) (bodSum (more card up rest)) (feeders-flow (one-more own above others))
@@ -136,12 +137,12 @@ rounded-by {flow} {quotient} {a} {b} e r =
     }
 
 -- mixing with inflow and load
-pub bod-mixed : (card : Card) (Qu upstream : ℕ) → 0 < Qu + card .inflow → Rounded (ofℕ (Qu + card .inflow)) (ofℕ (mixedBod card Qu upstream)) (ofℕ Qu *ᶠ ofℕ upstream +ᶠ ofℕ (1000 * card .inflow * card .«inflow_bod») +ᶠ ofℕ (1000000 * card .load))
+pub demand-mixed : (source : Source) (Qu upstream : ℕ) → 0 < Qu + source .inflow → Rounded (ofℕ (Qu + source .inflow)) (ofℕ (mixedDemand source Qu upstream)) (ofℕ Qu *ᶠ ofℕ upstream +ᶠ ofℕ (1000 * source .inflow * source .concentration) +ᶠ ofℕ (1000000 * source .load))
 unfolding floor
-bod-mixed card Qu upstream p =
-    let a = 1000 * card .inflow * card .«inflow_bod» in
-    let b = 1000000 * card .load in
-    rounded-by (≈-trans (ofℕ-+₃ (Qu * upstream) a b) (+ᶠ-cong (+ᶠ-cong (ofℕ-* Qu upstream) (≈-refl (ofℕ a))) (≈-refl (ofℕ b)))) (floor-rounded (pos (Qu * upstream + a + b)) (Qu + card .inflow) p)
+demand-mixed source Qu upstream p =
+    let a = 1000 * source .inflow * source .concentration in
+    let b = 1000000 * source .load in
+    rounded-by (≈-trans (ofℕ-+₃ (Qu * upstream) a b) (+ᶠ-cong (+ᶠ-cong (ofℕ-* Qu upstream) (≈-refl (ofℕ a))) (≈-refl (ofℕ b)))) (floor-rounded (pos (Qu * upstream + a + b)) (Qu + source .inflow) p)
 
 pub oxygen-mixed : (card : Card) (Qu : ℕ) (upstream : ℤ) → 0 < Qu + card .inflow → Rounded (ofℕ (Qu + card .inflow)) (ofℤ (mixedOxygen card Qu upstream)) (ofℕ Qu *ᶠ ofℤ upstream +ᶠ ofℕ (1000 * card .inflow * card .«inflow_oxygen»))
 oxygen-mixed card Qu upstream p =

@@ -1,21 +1,23 @@
 -- The check of one more reach: what the tables of the reaches that passed say of the next, and the tables after it.
-use mathlib.Core.Path.{_≡_, refl, ap, _∙_}
+use mathlib.Core.Path.{_≡_, refl, sym, ap, _∙_}
 use mathlib.Core.List.{List, [], _∷_}
-use Prim.Native.Nat.{ℕ, zero, suc, _+_, _<_, _≤_}
-use native.Mathlib.Nat.{add-zero, le-trans, mul-le-mul-left, not-suc-le-zero, le-of-suc-le-suc}
+use Prim.Native.Nat.{ℕ, zero, suc, _+_, _*_, _<_, _≤_}
+use native.Mathlib.Nat.{add-zero, le-trans, lt-of-le-of-lt, mul-le-mul-left, not-suc-le-zero, le-of-suc-le-suc}
 use native.Mathlib.Numerals.{one-add}
 use native.Mathlib.Omega.{arith}
-use lib.ListN.{length, getD, set}
-use lib.Dec.{ltb}
+use lib.ListN.{length, getD}
+use lib.Dec.{ltb, lit<}
 use Rattle.river.specs.declared.card.Card.{Card}
 use Rattle.river.specs.declared.refusal.Outcome.{Outcome}
 use Rattle.river.specs.declared.flow.FlowTable.{FlowTable}
+use Rattle.river.specs.declared.refusal.Refusal.{Refusal}
 use Rattle.river.specs.declared.flow.Checked.{Checked}
-use Rattle.river.specs.Refusal.{Answer, goOn}
+use Rattle.river.specs.declared.flow.Upstream.{Upstream}
 use Rattle.river.specs.Card.{Lawful, LawfulCard, LawfulFrom, blank}
-use Rattle.river.specs.Flow.{Feeders, cardOf, above, flowOf, massOf, deepest, reachFlow, reachMass, reachDepth, ownMass, flowAt, massAt, depthAt, checksOf, reachChecks, ReachPasses}
+use Rattle.river.specs.Flow.{flowLimit, massLimit, Feeders, cardOf, above, flowOf, massOf, deepest, reachFlow, reachMass, reachDepth, ownMass, flowAt, massAt, depthAt, checksOf, reachChecks, ReachPasses}
+use Rattle.river.specs.FlowTable.{Decides, feederSum, SumsFit, UpstreamOf, Entered, Tabled, Underway, NextChecked}
+use Rattle.river.proofs.read.Steps.{no-refusal}
 use Rattle.river.proofs.flow.Table.{entered, Adds, TableOf, sum-of-feeders, sum-bounded, max-of-feeders, deepest-few, fed-deepest}
-use Rattle.river.specs.FlowTable.{tableSum, tableMax, Tabled, NextInput, NextChecked}
 
 -- the card of a reach of a lawful river is lawful
 lawful-from : (n i j : ℕ) (cards : List Card) → LawfulFrom n i cards → j < length cards → LawfulCard n (i + j) (getD cards j blank)
@@ -48,9 +50,19 @@ module _ {cards : List Card} {n : ℕ} {t : FlowTable} (h : Tabled cards n t) wh
   pub depth-table : TableOf cards (λ card up. reachDepth up) (t .outlet) (t .depth) n
   depth-table = record { outlet = h .outlet; value = h .depth }
 
--- the flow and the undecayed BOD of a reach that passed are bounded
-pub mass-bounded : {card : Card} {up : Feeders} → ReachPasses card up → reachMass card up ≤ 100000000000000
-mass-bounded {card} {up} s = le-trans (s .mass-rule) (mul-le-mul-left 1000000 (s .bounded))
+-- tables of reaches are tables of the first of them
+pub first-tabled : {cards : List Card} {i n : ℕ} {t : FlowTable} → i ≤ n → Tabled cards n t → Tabled cards i t
+first-tabled l h =
+    record {
+      outlet = λ j k. h .outlet j (omega arith);
+      flow = λ j k. h .flow j (omega arith);
+      mass = λ j k. h .mass j (omega arith);
+      depth = λ j k. h .depth j (omega arith);
+    }
+
+-- the undecayed BOD of a reach that passed is bounded
+pub mass-bounded : {card : Card} {up : Feeders} → ReachPasses card up → reachMass card up ≤ massLimit * flowLimit
+mass-bounded s = le-trans (s .mass-rule) (mul-le-mul-left massLimit (s .bounded))
 
 -- tables of 128 entries
 pub record Full (t : FlowTable) : Type 0 where
@@ -60,74 +72,71 @@ pub record Full (t : FlowTable) : Type 0 where
   pub depth : length (t .depth) ≡ 128
 
 -- the tables with one more reach
-pub next-table : {cards : List Card} {i : ℕ} {t u : FlowTable} {o q m d : ℕ} → Tabled cards i t → i < 128 → Full t → (u .outlet ≡ set (t .outlet) i o) × (u .flow ≡ set (t .flow) i q) × (u .mass ≡ set (t .mass) i m) × (u .depth ≡ set (t .depth) i d) → o ≡ cardOf cards (suc i) .outlet → q ≡ flowAt cards (suc i) → m ≡ massAt cards (suc i) → d ≡ depthAt cards (suc i) → Tabled cards (suc i) u
+next-table : {cards : List Card} {i : ℕ} {t u : FlowTable} {o q m d : ℕ} → Tabled cards i t → i < 128 → Full t → Entered t i o q m d u → o ≡ cardOf cards (suc i) .outlet → q ≡ flowAt cards (suc i) → m ≡ massAt cards (suc i) → d ≡ depthAt cards (suc i) → Tabled cards (suc i) u
 next-table {cards} {i} {t} {u} {o} {q} {m} {d} h few room e eo eq em ed =
     record {
-      outlet = λ j l. rw (e .0) (entered (t .outlet) i o (λ k x. x ≡ cardOf cards (suc k) .outlet) (rw (room .outlet) few) eo (h .outlet) j l);
-      flow = λ j l. rw (e .1) (entered (t .flow) i q (λ k x. x ≡ flowAt cards (suc k)) (rw (room .flow) few) eq (h .flow) j l);
-      mass = λ j l. rw (e .2) (entered (t .mass) i m (λ k x. x ≡ massAt cards (suc k)) (rw (room .mass) few) em (h .mass) j l);
-      depth = λ j l. rw (e .3) (entered (t .depth) i d (λ k x. x ≡ depthAt cards (suc k)) (rw (room .depth) few) ed (h .depth) j l);
+      outlet = λ j l. rw (e .outlet) (entered (t .outlet) i o (λ k x. x ≡ cardOf cards (suc k) .outlet) (rw (room .outlet) few) eo (h .outlet) j l);
+      flow = λ j l. rw (e .flow) (entered (t .flow) i q (λ k x. x ≡ flowAt cards (suc k)) (rw (room .flow) few) eq (h .flow) j l);
+      mass = λ j l. rw (e .mass) (entered (t .mass) i m (λ k x. x ≡ massAt cards (suc k)) (rw (room .mass) few) em (h .mass) j l);
+      depth = λ j l. rw (e .depth) (entered (t .depth) i d (λ k x. x ≡ depthAt cards (suc k)) (rw (room .depth) few) ed (h .depth) j l);
     }
 
-module _ {cards : List Card} {t : FlowTable} {i : ℕ} (h : NextInput cards t i) where
+module _ {cards : List Card} {i : ℕ} {t : FlowTable} (h : Underway cards i t × (i < length cards)) where
   pub index-few : i < 128
-  index-few = omega (arith, h .within, h .lawful .few)
+  index-few = omega (arith, h .0 .lawful .few)
 
-  pub next-flow : tableSum (t .outlet) (t .flow) i (suc i) ≡ flowOf (above cards (suc i))
-  next-flow = sum-of-feeders flows-add (flow-table (h .passed .tabled)) (suc i)
-
-  pub next-mass : tableSum (t .outlet) (t .mass) i (suc i) ≡ massOf (above cards (suc i))
-  next-mass = sum-of-feeders masses-add (mass-table (h .passed .tabled)) (suc i)
-
-  pub next-depth : tableMax (t .outlet) (t .depth) i (suc i) ≡ deepest (above cards (suc i))
-  next-depth = max-of-feeders (depth-table (h .passed .tabled)) (suc i)
-
-  pub flow-fits : tableSum (t .outlet) (t .flow) i (suc i) ≤ 12800000000
-  flow-fits =
+  -- the sums over the feeders are small
+  flow-small : feederSum (t .outlet) (t .flow) i ≤ 128 * flowLimit
+  flow-small =
       le-trans
-      (sum-bounded (t .outlet) (t .flow) 100000000 i (suc i) (λ j l. rw (h .passed .tabled .flow j l) (h .passed .sound j l .bounded)))
+      (sum-bounded (t .outlet) (t .flow) flowLimit i (suc i) (λ j k. rw (h .0 .passed .tabled .flow j k) (h .0 .passed .sound j k .bounded)))
       (omega (arith, index-few))
 
-  pub mass-fits : tableSum (t .outlet) (t .mass) i (suc i) ≤ 12800000000000000
-  mass-fits =
+  mass-small : feederSum (t .outlet) (t .mass) i ≤ 128 * (massLimit * flowLimit)
+  mass-small =
       le-trans
-      (sum-bounded (t .outlet) (t .mass) 100000000000000 i (suc i) (λ j l. rw (h .passed .tabled .mass j l) (mass-bounded (h .passed .sound j l))))
+      (sum-bounded (t .outlet) (t .mass) (massLimit * flowLimit) i (suc i) (λ j k. rw (h .0 .passed .tabled .mass j k) (mass-bounded (h .0 .passed .sound j k))))
       (omega (arith, index-few))
 
-  pub depth-fits : tableMax (t .outlet) (t .depth) i (suc i) ≤ 127
-  depth-fits = rw next-depth (omega (arith, index-few, deepest-few cards i (suc i)))
-
-  pub small-flow : {q : ℕ} → q ≡ tableSum (t .outlet) (t .flow) i (suc i) → q ≤ 12800000000
-  small-flow e = rw e flow-fits
-
-  pub small-mass : {m : ℕ} → m ≡ tableSum (t .outlet) (t .mass) i (suc i) → m ≤ 12800000000000000
-  small-mass e = rw e mass-fits
-
-  pub small-depth : {d : ℕ} → d ≡ tableMax (t .outlet) (t .depth) i (suc i) → d ≤ 127
-  small-depth e = rw e depth-fits
-
-  -- the answer of the checks by the tables is that by the feeders
-  next-answer : (r : Outcome) {card : Card} {q m d own reach : ℕ} → card ≡ getD cards i blank → q ≡ tableSum (t .outlet) (t .flow) i (suc i) → m ≡ tableSum (t .outlet) (t .mass) i (suc i) → d ≡ tableMax (t .outlet) (t .depth) i (suc i) → own ≡ ownMass card → reach ≡ suc i → ((later : Answer (List Card)) → goOn r later ≡ checksOf card (ltb 0 d) q (q + card .inflow) (m + own) reach later) → (later : Answer (List Card)) → goOn r later ≡ reachChecks (cardOf cards (suc i)) (above cards (suc i)) (suc i) later
-  unfolding reachChecks
-  next-answer r ec eq em ed eo er f later =
-      f later ∙ cc (next-flow, next-mass, next-depth, fed-deepest (above cards (suc i)))
-
-  -- what the check of the next reach yields, from what its calls yield
-  pub next-checked : (r : Checked) {card : Card} {q m d own reach : ℕ} → card ≡ getD cards i blank → q ≡ tableSum (t .outlet) (t .flow) i (suc i) → m ≡ tableSum (t .outlet) (t .mass) i (suc i) → d ≡ tableMax (t .outlet) (t .depth) i (suc i) → own ≡ ownMass card → reach ≡ suc i → ((later : Answer (List Card)) → goOn (r .outcome) later ≡ checksOf card (ltb 0 d) q (q + card .inflow) (m + own) reach later) → Full t → (r .flows .outlet ≡ set (t .outlet) i (card .outlet)) × (r .flows .flow ≡ set (t .flow) i (q + card .inflow)) × (r .flows .mass ≡ set (t .mass) i (m + own)) × (r .flows .depth ≡ set (t .depth) i (d + 1)) → NextChecked cards i r
-  next-checked r {card} {q} {m} {d} {own} ec eq em ed eo er f room e =
-      let a : q ≡ flowOf (above cards (suc i)) = eq ∙ next-flow in
-      let b : m ≡ massOf (above cards (suc i)) = em ∙ next-mass in
-      let k : d ≡ deepest (above cards (suc i)) = ed ∙ next-depth in
+  pub sums-fit : SumsFit t i
+  sums-fit =
       record {
-        answer = next-answer (r .outcome) ec eq em ed eo er f;
-        tabled =
-            next-table
-            (h .passed .tabled)
-            index-few
-            room
-            e
-            (ap (λ (x : Card). x .outlet) ec)
-            (cc)
-            (cc)
-            (omega arith);
+        few = index-few;
+        flow = lt-of-le-of-lt flow-small (lit< tt);
+        mass = lt-of-le-of-lt mass-small (lit< tt);
       }
+
+  module _ {u : Upstream} (e : UpstreamOf t i u) where
+    -- what flows into the reach is what the program gathered of it
+    flow-here : u .flow ≡ flowOf (above cards (suc i))
+    flow-here = e .flow ∙ sum-of-feeders flows-add (flow-table (h .0 .passed .tabled)) (suc i)
+
+    mass-here : u .mass ≡ massOf (above cards (suc i))
+    mass-here = e .mass ∙ sum-of-feeders masses-add (mass-table (h .0 .passed .tabled)) (suc i)
+
+    deepest-here : u .deepest ≡ deepest (above cards (suc i))
+    deepest-here = e .deepest ∙ max-of-feeders (depth-table (h .0 .passed .tabled)) (suc i)
+
+    pub gathered-small : (u .flow ≤ 128 * flowLimit) × (u .mass ≤ 128 * (massLimit * flowLimit)) × (u .deepest ≤ 127)
+    gathered-small =
+        (rw (e .flow) flow-small, rw (e .mass) mass-small, rw deepest-here (omega (arith, index-few, deepest-few cards i (suc i))))
+
+    module _ (r : Checked) {card : Card} {own reach : ℕ} (ec : card ≡ cardOf cards (suc i)) (eo : own ≡ ownMass card) (er : reach ≡ suc i) (d : Decides (r .outcome) (checksOf card (ltb 0 (u .deepest)) (u .flow) (u .flow + card .inflow) (u .mass + own) reach)) where
+      -- the answer of the checks by what was gathered is that by the feeders
+      next-answer : Decides (r .outcome) (reachChecks (cardOf cards (suc i)) (above cards (suc i)) (suc i))
+      unfolding reachChecks
+      next-answer =
+          record { answer = λ later. d .answer later ∙ cc (flow-here, mass-here, deepest-here, fed-deepest (above cards (suc i))) }
+
+      -- what the check of the reach yields: a refusal, or its tables
+      pub next-refused : {x : Refusal} → r .outcome ≡ Outcome.Refused x → NextChecked cards i r
+      next-refused e = record { answer = next-answer; tabled = λ q. no-refusal (sym q ∙ e) }
+
+      pub next-passed : Full t → Entered t i (card .outlet) (u .flow + card .inflow) (u .mass + own) (u .deepest + 1) (r .flows) → NextChecked cards i r
+      next-passed full k =
+          record {
+            answer = next-answer;
+            tabled =
+                λ _. next-table (h .0 .passed .tabled) index-few full k
+                (ap (λ (x : Card). x .outlet) ec) (cc (flow-here)) (cc (mass-here)) (omega (arith, deepest-here));
+          }

@@ -28,7 +28,7 @@ pub card-in-range : (cs : Cards) (i : ℕ) → Lawful (river cs) → i < length 
 card-in-range cs i h l = rw (card-of-river cs i l) (lawful-at h i l .in-range)
 
 -- what a reach itself takes in is bounded
-pub own-mass-few : (cs : Cards) (i : ℕ) → Lawful (river cs) → i < length (river cs) → {own : ℕ} → own ≡ ownMass (getD (cs .at) i blank) → own ≤ 104294967296000
+pub own-mass-few : (cs : Cards) (i : ℕ) → Lawful (river cs) → i < length (river cs) → {own : ℕ} → own ≡ ownMass (getD (cs .at) i blank) → own ≤ 104_294_967_296_000
 own-mass-few cs i h l e =
     let k = lawful-at h i l in
     rw (e, card-of-river cs i l) (omega (arith, mul-le-mul (k .in-range .inflow) (k .in-range .inflow-bod), k .load))

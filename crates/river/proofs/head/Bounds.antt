@@ -1,16 +1,19 @@
 -- Ranges at the head of a reach: saturation, a share, head BOD against the undecayed BOD, and stored oxygen.
 use mathlib.Core.Path.{_≡_, sym, ap, _∙_}
 use mathlib.Core.Bool.{Bool, true, false}
-use Prim.Native.Nat.{ℕ, _+_, _*_, _/_, _%_, _≤_, _<_}
-use native.Mathlib.Nat.{mul-le-mul, mul-le-mul-left, mul-le-mul-right, mul-comm, mul-div-le, div-le-of-le-mul, div-lt-iff-lt-mul, div-add-mod', mul-add-div-right}
+use Prim.Native.Nat.{ℕ, _+_, _*_, _/_, _%_, _^_, _≤_, _<_}
+use native.Mathlib.Nat.{le-trans, mul-le-mul, mul-le-mul-left, mul-le-mul-right, mul-comm, mul-div-le, div-le-of-le-mul, div-add-mod', mul-add-div-right}
 use native.Mathlib.Omega.{arith}
 use Rattle.river.specs.declared.card.Dam.{Dam}
 use Rattle.river.specs.declared.card.Dam.the-variants.{Aerating}
 use Rattle.river.specs.declared.card.Card.{Card}
-use Rattle.river.specs.Flow.{ownMass}
+use Rattle.river.specs.declared.source.Source.{Source}
+use Rattle.river.specs.Source.{sourceMass}
+use Rattle.river.specs.Flow.{flowLimit}
 use Rattle.river.specs.Saturation.{saturation, saturationThousandths, saturationOf, SaturationInRange}
-use Rattle.river.specs.Head.{upstreamBod, headBod}
-use Rattle.river.specs.HeadTable.{DamWithin}
+use Rattle.river.specs.Head.{upstreamDemand, mixedDemand, headDemand}
+use Rattle.river.specs.HeadTable.{DamWithin, demandLimit, DemandReady}
+use Rattle.river.specs.Stored.{storedZero, storedLimit}
 
 -- the falling terms of the polynomial are at most the others
 pub saturation-positive : (T : ℕ) → T ≤ 35 → 410220000 * T + 77774 * (T * T * T) ≤ 14652000000 + 7991000 * (T * T)
@@ -38,28 +41,40 @@ long-division a b d p =
     chunks : (h l q r : ℕ) → h * 65536 + l ≡ a → q * d + r ≡ h * b → a * b ≡ q * 65536 * d + (r * 65536 + l * b)
     chunks h l q r e f = rw (← e) (omega arith)
 
--- Qu times upstream BOD is at most the feeders' sum, and what is mixed at most that and 1,000 times what the reach itself takes in
-pub upstream-kept : (fed : Bool) (Qu sum : ℕ) → Qu * upstreamBod fed Qu sum ≤ sum
-unfolding upstreamBod
+-- Qu times an upstream demand is at most the feeders' sum, and what is mixed at most that and 1,000 times what the source brings
+pub upstream-kept : (fed : Bool) (Qu sum : ℕ) → Qu * upstreamDemand fed Qu sum ≤ sum
+unfolding upstreamDemand
 upstream-kept false Qu sum = omega arith
 upstream-kept true Qu sum = mul-div-le sum Qu
 
-pub mixed-total : (card : Card) (fed : Bool) (Qu sum : ℕ) → Qu * upstreamBod fed Qu sum + 1000 * card .inflow * card .«inflow_bod» + 1000000 * card .load ≤ sum + 1000 * ownMass card
-mixed-total card fed Qu sum = omega (arith, upstream-kept fed Qu sum)
+pub mixed-total : (source : Source) (fed : Bool) (Qu sum : ℕ) → Qu * upstreamDemand fed Qu sum + 1000 * source .inflow * source .concentration + 1000000 * source .load ≤ sum + 1000 * sourceMass source
+mixed-total source fed Qu sum = omega (arith, upstream-kept fed Qu sum)
 
--- head BOD is at most 10^9 units where the undecayed BOD is at most that times the flow
-pub head-bod-small : (card : Card) (fed : Bool) (Qu sum : ℕ) → sum + 1000 * ownMass card ≤ 1000000000 * (Qu + card .inflow) → headBod card fed Qu sum ≤ 1000000000
-unfolding headBod
-head-bod-small card fed Qu sum h = div-le-of-le-mul (Qu + card .inflow) (omega (arith, mixed-total card fed Qu sum))
+-- flow × a demand at a head is at most what comes down and comes in
+pub head-demand-kept : (source : Source) (fed : Bool) (Qu sum : ℕ) → (Qu + source .inflow) * headDemand source fed Qu sum ≤ sum + 1000 * sourceMass source
+unfolding headDemand
+head-demand-kept source fed Qu sum = le-trans (mul-div-le _ (Qu + source .inflow)) (mixed-total source fed Qu sum)
 
--- stored oxygen of a mixture fits four bytes
-pub mixed-fits : (Qu i u o : ℕ) → 0 < Qu + i → u < 4294967296 → o ≤ 20000 → (Qu * u + i * (2147483648 + 1000 * o)) / (Qu + i) < 4294967296
-mixed-fits Qu i u o p h k = div-lt-iff-lt-mul p .1 (omega (arith, mul-le-mul-left Qu h, mul-le-mul-left i k))
+-- what is mixed of a demand is at most the limit times the flow, and so the demand at most the limit
+module _ {source : Source} {fed : Bool} {Qu sum upstream : ℕ} (h : DemandReady source fed Qu sum) (e : upstream ≡ upstreamDemand fed Qu sum) where
+  pub demand-total : Qu * upstream + 1000 * source .inflow * source .concentration + 1000000 * source .load ≤ demandLimit * (Qu + source .inflow)
+  demand-total = rw e (le-trans (mixed-total source fed Qu sum) (h .within))
+
+  pub demand-small : mixedDemand source Qu upstream ≤ demandLimit
+  demand-small = div-le-of-le-mul (Qu + source .inflow) (omega (arith, demand-total))
+
+-- what is mixed of stored oxygen is at most the largest stored number times the flow, and so is stored in four bytes
+module _ (Qu i : ℕ) {u o : ℕ} (h : u ≤ storedLimit) (k : o ≤ 20000) where
+  pub oxygen-total : Qu * u + i * (storedZero + 1000 * o) ≤ storedLimit * (Qu + i)
+  oxygen-total = omega (arith, mul-le-mul-left Qu h, mul-le-mul-left i k)
+
+  pub oxygen-small : (Qu * u + i * (storedZero + 1000 * o)) / (Qu + i) ≤ storedLimit
+  oxygen-small = div-le-of-le-mul (Qu + i) (omega (arith, oxygen-total))
 
 -- the numbers of a dam
 pub dam-numbers : {dam : Dam} {share generating Qu : ℕ} → dam ≡ Aerating share generating → DamWithin dam Qu → (share ≤ 1000) × (generating ≤ Qu)
 dam-numbers e h = rw e at h
 
 -- a share of a flow fits eight bytes
-pub weight-fits : {share flow : ℕ} → share ≤ 1000 → flow ≤ 100000000 → share * flow < 18446744073709551616
+pub weight-fits : {share flow : ℕ} → share ≤ 1000 → flow ≤ flowLimit → share * flow < 2 ^ 64
 weight-fits h k = omega (arith, mul-le-mul h k)

@@ -2,28 +2,29 @@
 use mathlib.Core.Path.{_≡_, ap, _∙_}
 use mathlib.Core.Bool.{Bool, true, false}
 use mathlib.Core.List.{List}
-use Prim.Native.Nat.{ℕ, zero, suc, _+_, _*_, _-_, _<_, _≤_}
-use native.Mathlib.Nat.{le-refl, le-trans, mul-div-le, lt-of-lt-of-le, le-add-right}
+use Prim.Native.Nat.{ℕ, zero, suc, _+_, _*_, _-_, _^_, _<_, _≤_}
+use native.Mathlib.Nat.{le-refl, le-of-lt, le-trans, lt-of-lt-of-le, le-add-right}
 use native.Mathlib.Numerals.{one-add, add-one}
 use native.Mathlib.Omega.{arith}
 use lib.ListN.{getD}
-use lib.IntN.{subℕ}
 use lib.Dec.{ltb, eqb, leb·suc-suc}
 use Rattle.river.specs.declared.card.Card.{Card}
 use Rattle.river.specs.declared.card.Dam.{Dam}
 use Rattle.river.specs.declared.card.Dam.the-variants.{Absent, Aerating}
+use Rattle.river.specs.declared.source.Source.{Source}
 use Rattle.river.specs.declared.flow.FlowTable.{FlowTable}
 use Rattle.river.specs.declared.head.FootTable.{FootTable}
 use Rattle.river.specs.declared.head.Head.{Head}
 use Rattle.river.specs.Card.{LawfulDam, blank}
 use Rattle.river.specs.Flow.{Feeders, cardOf, above, feedersAmong, joinedIf, flowOf, massOf, deepest, fed, reachFlow, reachMass, ownMass, ReachPasses, DamRule}
-use Rattle.river.specs.Head.{upstreamBod, headBod, headOxygen}
+use Rattle.river.specs.Head.{headDemand, headBod, headOxygen}
 use Rattle.river.proofs.flow.Table.{sum-of-feeders, sum-scaled, fed-deepest}
-use Rattle.river.proofs.head.Bounds.{mixed-total}
-use Rattle.river.proofs.flow.Checks.{lawful-at, flows-add, masses-add, flow-table, mass-table, mass-bounded}
-use Rattle.river.specs.FlowTable.{tableSum, Tabled}
-use Rattle.river.specs.Stored.{oxygenOf}
-use Rattle.river.specs.HeadTable.{DamWithin, HeadReady, HeadInput, HeadOf}
+use Rattle.river.proofs.head.Bounds.{head-demand-kept}
+use Rattle.river.proofs.flow.Checks.{lawful-at, first-tabled, flows-add, masses-add, flow-table, mass-table, mass-bounded}
+use Rattle.river.specs.FlowTable.{tableSum, feederSum, Tabled}
+use Rattle.river.specs.Source.{bodSource}
+use Rattle.river.specs.Stored.{storedLimit, oxygenOf, oxygenSumOf}
+use Rattle.river.specs.HeadTable.{DamWithin, demandLimit, HeadReady, DemandReady, OxygenReady, HeadInput, HeadOf}
 
 -- feeders that pass have water
 pub feeders-flow : (cards : List Card) (n i : ℕ) → ((j : ℕ) → j < n → ReachPasses (cardOf cards (suc j)) (above cards (suc j))) → fed (feedersAmong cards n i) ≡ true → 0 < flowOf (feedersAmong cards n i)
@@ -43,40 +44,38 @@ dam-within (Aerating share generating) up l r = (l .share, r .1)
 
 -- THEOREM: Q × BOD is at most 1,000 × M at the head, if the feeders' sum of Q × BOD is at most 1,000 times theirs
 pub head-bod-within-mass : (card : Card) (up : Feeders) (sum : ℕ) → sum ≤ 1000 * massOf up → reachFlow card up * headBod card (fed up) (flowOf up) sum ≤ 1000 * reachMass card up
-unfolding headBod
 head-bod-within-mass card up sum h =
-    le-trans
-    (mul-div-le (flowOf up * upstreamBod (fed up) (flowOf up) sum + 1000 * card .inflow * card .«inflow_bod» + 1000000 * card .load) (flowOf up + card .inflow))
-    (omega (arith, mixed-total card (fed up) (flowOf up) sum))
+    le-trans (head-demand-kept (bodSource card) (fed up) (flowOf up) sum) (omega (arith, h))
+
+-- Qu of reach i + 1, and whether it has feeders, by the tables
+abbrev quBy : FlowTable → ℕ → Card → ℕ
+quBy flows i card = getD (flows .flow) i 0 - card .inflow
+
+abbrev fedBy : FlowTable → ℕ → Bool
+fedBy flows i = ltb 1 (getD (flows .depth) i 0)
 
 module _ {cards : List Card} {flows : FlowTable} {feet : FootTable} {i : ℕ} (h : HeadInput cards flows feet i) where
   -- the tables of the reaches before
   prior : Tabled cards i flows
-  prior =
-      record {
-        outlet = λ j l. h .tabled .outlet j (omega (arith, h .within));
-        flow = λ j l. h .tabled .flow j (omega (arith, h .within));
-        mass = λ j l. h .tabled .mass j (omega (arith, h .within));
-        depth = λ j l. h .tabled .depth j (omega (arith, h .within));
-      }
+  prior = first-tabled (le-of-lt (h .within)) (h .tabled)
 
   here : ReachPasses (cardOf cards (suc i)) (above cards (suc i))
   here = h .sound .each i (h .within)
 
-  pub sum-bod : tableSum (flows .outlet) (feet .bod) i (suc i) ≤ 1000 * massOf (above cards (suc i))
+  pub sum-bod : feederSum (flows .outlet) (feet .bod) i ≤ 1000 * massOf (above cards (suc i))
   sum-bod =
       rw (sum-of-feeders masses-add (mass-table prior) (suc i)) at
       (sum-scaled (flows .outlet) (feet .bod) (flows .mass) 1000 i (suc i) (λ j l. rw (prior .mass j l) (h .carried .bod j l)))
 
-  pub sum-oxygen : tableSum (flows .outlet) (feet .oxygen) i (suc i) ≤ 4294967295 * flowOf (above cards (suc i))
+  pub sum-oxygen : feederSum (flows .outlet) (feet .oxygen) i ≤ storedLimit * flowOf (above cards (suc i))
   sum-oxygen =
       rw (sum-of-feeders flows-add (flow-table prior) (suc i)) at
-      (sum-scaled (flows .outlet) (feet .oxygen) (flows .flow) 4294967295 i (suc i) (λ j l. rw (prior .flow j l) (h .carried .oxygen j l)))
+      (sum-scaled (flows .outlet) (feet .oxygen) (flows .flow) storedLimit i (suc i) (λ j l. rw (prior .flow j l) (h .carried .oxygen j l)))
 
-  pub sum-bod-fits : tableSum (flows .outlet) (feet .bod) i (suc i) < 18446744073709551616
+  pub sum-bod-fits : feederSum (flows .outlet) (feet .bod) i < 2 ^ 64
   sum-bod-fits = omega (arith, sum-bod, mass-bounded here)
 
-  pub sum-oxygen-fits : tableSum (flows .outlet) (feet .oxygen) i (suc i) < 18446744073709551616
+  pub sum-oxygen-fits : feederSum (flows .outlet) (feet .oxygen) i < 2 ^ 64
   sum-oxygen-fits = omega (arith, sum-oxygen, here .bounded)
 
   pub reach-few : i < 128
@@ -86,7 +85,7 @@ module _ {cards : List Card} {flows : FlowTable} {feet : FootTable} {i : ℕ} (h
   pub flow-here : getD (flows .flow) i 0 ≡ flowOf (above cards (suc i)) + cardOf cards (suc i) .inflow
   flow-here = h .tabled .flow i (h .within)
 
-  pub fed-here : ltb 1 (getD (flows .depth) i 0) ≡ fed (above cards (suc i))
+  pub fed-here : fedBy flows i ≡ fed (above cards (suc i))
   fed-here =
       let d = deepest (above cards (suc i)) in
       ap (ltb 1) (h .tabled .depth i (h .within) ∙ one-add d) ∙ leb·suc-suc 1 d ∙ fed-deepest (above cards (suc i))
@@ -96,12 +95,15 @@ module _ {cards : List Card} {flows : FlowTable} {feet : FootTable} {i : ℕ} (h
       record {
         fields = lawful-at (h .lawful) i (h .within) .in-range;
         dam = dam-within (cardOf cards (suc i) .dam) (above cards (suc i)) (lawful-at (h .lawful) i (h .within) .dam) (here .dam-rule);
-        flowing = here .flowing;
-        bounded = here .bounded;
-        feeders-flow = feeders-flow cards i (suc i) (λ j l. h .sound .each j (omega (arith, h .within)));
+        flows =
+            record {
+              flowing = here .flowing;
+              bounded = here .bounded;
+              feeders-flow = feeders-flow cards i (suc i) (λ j l. h .sound .each j (omega (arith, h .within)));
+            };
       }
 
-  pub bod-ready : tableSum (flows .outlet) (feet .bod) i (suc i) + 1000 * ownMass (cardOf cards (suc i)) ≤ 1000000000 * (flowOf (above cards (suc i)) + cardOf cards (suc i) .inflow)
+  bod-ready : feederSum (flows .outlet) (feet .bod) i + 1000 * ownMass (cardOf cards (suc i)) ≤ demandLimit * (flowOf (above cards (suc i)) + cardOf cards (suc i) .inflow)
   bod-ready = omega (arith, sum-bod, here .mass-rule)
 
   -- the same of the numbers that the program works with
@@ -109,21 +111,21 @@ module _ {cards : List Card} {flows : FlowTable} {feet : FootTable} {i : ℕ} (h
     pub inflow-within : card .inflow ≤ getD (flows .flow) i 0
     inflow-within = omega (arith, flow-here, ap (λ (x : Card). x .inflow) ec)
 
-    qu-here : getD (flows .flow) i 0 - card .inflow ≡ flowOf (above cards (suc i))
+    qu-here : quBy flows i card ≡ flowOf (above cards (suc i))
     qu-here = omega (arith, flow-here, ap (λ (x : Card). x .inflow) ec)
 
-    ready-here : HeadReady card (ltb 1 (getD (flows .depth) i 0)) (getD (flows .flow) i 0 - card .inflow)
+    ready-here : HeadReady card (fedBy flows i) (quBy flows i card)
     ready-here = rw (qu-here, fed-here, ec) ready
 
-    pub bod-input : {sum : ℕ} → sum ≡ tableSum (flows .outlet) (feet .bod) i (i + 1) → HeadReady card (ltb 1 (getD (flows .depth) i 0)) (getD (flows .flow) i 0 - card .inflow) × (sum + 1000 * ownMass card ≤ 1000000000 * (getD (flows .flow) i 0 - card .inflow + card .inflow))
-    bod-input e = (ready-here, rw (e, add-one, qu-here, ec) bod-ready)
+    pub bod-input : {source : Source} {sum : ℕ} → source ≡ bodSource card → sum ≡ tableSum (flows .outlet) (feet .bod) i (i + 1) → DemandReady source (fedBy flows i) (quBy flows i card) sum
+    bod-input es e = rw es record { flows = ready-here .flows; within = rw (e, add-one, qu-here, ec) bod-ready }
 
-    pub oxygen-input : {sum : ℕ} → sum ≡ tableSum (flows .outlet) (feet .oxygen) i (i + 1) → HeadReady card (ltb 1 (getD (flows .depth) i 0)) (getD (flows .flow) i 0 - card .inflow) × (sum ≤ 4294967295 * (getD (flows .flow) i 0 - card .inflow))
-    oxygen-input e = (ready-here, rw (e, add-one, qu-here) sum-oxygen)
+    pub oxygen-input : {sum : ℕ} → sum ≡ tableSum (flows .outlet) (feet .oxygen) i (i + 1) → OxygenReady card (fedBy flows i) (quBy flows i card) sum
+    oxygen-input e = record { ready = ready-here; within = rw (e, add-one, qu-here) sum-oxygen }
 
-    pub head-made : (r : Head) {b o : ℕ} → b ≡ tableSum (flows .outlet) (feet .bod) i (i + 1) → o ≡ tableSum (flows .outlet) (feet .oxygen) i (i + 1) → r .bod ≡ headBod card (ltb 1 (getD (flows .depth) i 0)) (getD (flows .flow) i 0 - card .inflow) b → oxygenOf (r .oxygen) ≡ headOxygen card (ltb 1 (getD (flows .depth) i 0)) (getD (flows .flow) i 0 - card .inflow) (subℕ o (2147483648 * (getD (flows .flow) i 0 - card .inflow))) → HeadOf cards flows feet i r
-    head-made r eb eo e f =
-        let bod = rw (qu-here, fed-here, ec, eb, add-one) at e in
+    pub head-made : (r : Head) {source : Source} {b o : ℕ} → source ≡ bodSource card → b ≡ tableSum (flows .outlet) (feet .bod) i (i + 1) → o ≡ tableSum (flows .outlet) (feet .oxygen) i (i + 1) → r .bod ≡ headDemand source (fedBy flows i) (quBy flows i card) b → oxygenOf (r .oxygen) ≡ headOxygen card (fedBy flows i) (quBy flows i card) (oxygenSumOf (quBy flows i card) o) → HeadOf cards flows feet i r
+    head-made r es eb eo e f =
+        let bod = rw (es, qu-here, fed-here, ec, eb, add-one) at e in
         record {
           bod = bod;
           oxygen = rw (qu-here, fed-here, ec, eo, add-one) at f;

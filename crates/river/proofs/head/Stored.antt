@@ -6,29 +6,29 @@ use native.Mathlib.Omega.{arith}
 use lib.IntN.{ℤ, pos, subℕ, _+ℤ_, _-ℤ_, _*ℤ_}
 use Rattle.river.specs.Head.{floor}
 use Rattle.river.proofs.head.Offset.{sub-pos, sub-eq, sub-plus, sub-add, sub-minus, sub-times, times-sub, floor-offset}
-use Rattle.river.specs.Stored.{oxygenOf}
+use Rattle.river.specs.Stored.{storedZero, oxygenOf, oxygenSumOf}
 
 -- saturation
-pub saturated-stored : (s : ℕ) → oxygenOf (2147483648 + s) ≡ pos s
+pub saturated-stored : (s : ℕ) → oxygenOf (storedZero + s) ≡ pos s
 unfolding oxygenOf
-saturated-stored s = sub-pos (2147483648 + s) 2147483648 (omega arith) ∙ ap pos (omega arith)
+saturated-stored s = sub-pos (storedZero + s) storedZero (omega arith) ∙ ap pos (omega arith)
 
 -- the mean of the feeders
-pub mean-stored : (Qu sum : ℕ) → 0 < Qu → oxygenOf (sum / Qu) ≡ floor (subℕ sum (2147483648 * Qu)) Qu
+pub mean-stored : (Qu sum : ℕ) → 0 < Qu → oxygenOf (sum / Qu) ≡ floor (oxygenSumOf Qu sum) Qu
 unfolding oxygenOf
-mean-stored Qu sum p = sym (floor-offset sum 2147483648 Qu p)
+mean-stored Qu sum p = sym (floor-offset sum storedZero Qu p)
 
 -- mixing with an inflow i of oxygen o
-pub mixed-stored : (Qu i u o : ℕ) → 0 < Qu + i → oxygenOf ((Qu * u + i * (2147483648 + 1000 * o)) / (Qu + i)) ≡ floor (pos Qu *ℤ oxygenOf u +ℤ pos (1000 * i * o)) (Qu + i)
+pub mixed-stored : (Qu i u o : ℕ) → 0 < Qu + i → oxygenOf ((Qu * u + i * (storedZero + 1000 * o)) / (Qu + i)) ≡ floor (pos Qu *ℤ oxygenOf u +ℤ pos (1000 * i * o)) (Qu + i)
 unfolding oxygenOf
 mixed-stored Qu i u o p =
-    sym (floor-offset (Qu * u + i * (2147483648 + 1000 * o)) 2147483648 (Qu + i) p) ∙ ap (λ (z : ℤ). floor z (Qu + i)) (sym together)
+    sym (floor-offset (Qu * u + i * (storedZero + 1000 * o)) storedZero (Qu + i) p) ∙ ap (λ (z : ℤ). floor z (Qu + i)) (sym together)
   where
-    together : pos Qu *ℤ subℕ u 2147483648 +ℤ pos (1000 * i * o) ≡ subℕ (Qu * u + i * (2147483648 + 1000 * o)) (2147483648 * (Qu + i))
+    together : pos Qu *ℤ subℕ u storedZero +ℤ pos (1000 * i * o) ≡ subℕ (Qu * u + i * (storedZero + 1000 * o)) (storedZero * (Qu + i))
     together =
-        ap (λ (z : ℤ). z +ℤ pos (1000 * i * o)) (times-sub Qu u 2147483648)
-        ∙ sub-plus (Qu * u) (Qu * 2147483648) (1000 * i * o)
-        ∙ sub-eq (Qu * u + 1000 * i * o) (Qu * 2147483648) (Qu * u + i * (2147483648 + 1000 * o)) (2147483648 * (Qu + i)) (omega arith)
+        ap (λ (z : ℤ). z +ℤ pos (1000 * i * o)) (times-sub Qu u storedZero)
+        ∙ sub-plus (Qu * u) (Qu * storedZero) (1000 * i * o)
+        ∙ sub-eq (Qu * u + 1000 * i * o) (Qu * storedZero) (Qu * u + i * (storedZero + 1000 * o)) (storedZero * (Qu + i)) (omega arith)
 
 -- oxygen c on the way to saturation z, w / d of it
 abbrev Aerated : (c z w d r : ℕ) → Type 0
@@ -38,7 +38,7 @@ Aerated c z w d r = oxygenOf r ≡ oxygenOf c +ℤ floor ((oxygenOf z -ℤ oxyge
 pub rise-stored : (c z w d : ℕ) → c ≤ z → Aerated c z w d (c + (z - c) * w / d)
 unfolding oxygenOf floor
 rise-stored c z w d h =
-    sym (ap (λ (y : ℤ). subℕ c 2147483648 +ℤ floor (y *ℤ pos w) d) (sub-minus z c 2147483648 ∙ sub-pos z c h) ∙ sub-plus c 2147483648 ((z - c) * w / d))
+    sym (ap (λ (y : ℤ). subℕ c storedZero +ℤ floor (y *ℤ pos w) d) (sub-minus z c storedZero ∙ sub-pos z c h) ∙ sub-plus c storedZero ((z - c) * w / d))
 
 -- and falls from above, where what stays away is the rest of the water
 fall : (z e v w d : ℕ) → 0 < d → v + w ≡ d → Aerated (z + e) z w d (z + e * v / d)
@@ -47,10 +47,10 @@ fall z e v w d p h =
     let c = z + e in
     let f = e * v / d in
     sym
-    (ap (λ (y : ℤ). subℕ c 2147483648 +ℤ floor y d) (ap (λ (y : ℤ). y *ℤ pos w) (sub-minus z c 2147483648) ∙ sub-times z c w ∙ sub-eq (z * w) (c * w) (e * v) (e * d) rest)
-    ∙ ap (λ (y : ℤ). subℕ c 2147483648 +ℤ y) (floor-offset (e * v) e d p)
-    ∙ sub-add c 2147483648 f e
-    ∙ sub-eq (c + f) (2147483648 + e) (z + f) 2147483648 (omega arith))
+    (ap (λ (y : ℤ). subℕ c storedZero +ℤ floor y d) (ap (λ (y : ℤ). y *ℤ pos w) (sub-minus z c storedZero) ∙ sub-times z c w ∙ sub-eq (z * w) (c * w) (e * v) (e * d) rest)
+    ∙ ap (λ (y : ℤ). subℕ c storedZero +ℤ y) (floor-offset (e * v) e d p)
+    ∙ sub-add c storedZero f e
+    ∙ sub-eq (c + f) (storedZero + e) (z + f) storedZero (omega arith))
   where
     rest : z * w + e * d ≡ e * v + (z + e) * w
     rest = rw (← h) (omega arith)

@@ -1,102 +1,65 @@
--- `river::flow::check` meets its contract: each answer is that of the chain of checks, by the tests that led to it.
-use mathlib.Core.Path.{_≡_, sym, _∙_}
-use mathlib.Core.Bool.{true, false}
-use Prim.Native.Nat.{_*_}
-use native.Mathlib.Omega.{arith}
-use lib.Dec.{ltb, leb}
+-- `river::flow::check` meets its contract: the outcomes of its groups join, and where 8 has passed the flow is small enough for the rest.
 use borrow.Author.Needs.{needs}
-use borrow.Author.Tests.{lt-ltb, le-ltb, le-leb, lt-leb, not-true, not-false}
-use Rattle.river.specs.Refusal.{need, goOn}
-use Rattle.river.specs.Flow.{checksOf, damFits}
+use Rattle.river.specs.Flow.{checksOf}
+use Rattle.river.proofs.flow.Groups.{flow-rules-ask, decided, stops, leaves}
 use Rattle.river.proofs.flow.check.Statement.{statement}
 use Rattle.river.proofs.flow.check.Tie as tie
 
+flow-rules-requires : tie.Need-flow-rules-requires
+flow-rules-requires c κs = search needs
+
+enum-told : tie.Need-enum-told
+enum-told c = search needs
+
+enum-told-2 : tie.Need-enum-told-2
+enum-told-2 c = search needs
+
 returns : tie.Need-returns
-unfolding checksOf need goOn
-returns c later =
-    let q : ltb 0 (c .before .args .flow) ≡ false = le-ltb 0 (c .before .args .flow) (omega arith) in
-    simp q
+unfolding checksOf
+returns c = stops (c .before .before .flow-rules .ensures) _ (c .enum-told2 .given .1)
+
+load-rule-requires : tie.Need-load-rule-requires
+load-rule-requires c κs =
+    decided (c .before .before .flow-rules .ensures) (flow-rules-ask _ _ _ _ _) (c .enum-told .given .1) .1 .0
+
+enum-told-3 : tie.Need-enum-told-3
+enum-told-3 c = search needs
+
+enum-told-4 : tie.Need-enum-told-4
+enum-told-4 c = search needs
 
 returns-2 : tie.Need-returns-2
-unfolding checksOf need goOn
-returns-2 c later =
-    let q : ltb 0 (c .before .before .args .flow) ≡ true = lt-ltb 0 (c .before .before .args .flow) (omega arith) in
-    let b : leb (c .before .before .args .flow) 100000000 ≡ false = lt-leb (c .before .before .args .flow) 100000000 (omega arith) in
-    simp (q, b)
+unfolding checksOf
+returns-2 c =
+    let load = c .before .before in
+    let flow = load .before in
+    leaves (flow .before .before .flow-rules .ensures) (flow .enum-told .given .1)
+    (stops (load .load-rule .ensures) _ (c .enum-told4 .given .1))
 
-dam-fits-requires : tie.Need-dam-fits-requires
-dam-fits-requires c κs = search needs
+rate-rules-requires : tie.Need-rate-rules-requires
+rate-rules-requires c κs =
+    let flow = c .before .before .before in
+    decided (flow .before .before .flow-rules .ensures) (flow-rules-ask _ _ _ _ _) (flow .enum-told .given .1) .1 .0
 
 returns-3 : tie.Need-returns-3
-unfolding checksOf need goOn
-returns-3 c later =
-    let q : ltb 0 (c .before .before .before .before .args .flow) ≡ true = lt-ltb 0 (c .before .before .before .before .args .flow) (omega arith) in
-    let b : leb (c .before .before .before .before .args .flow) 100000000 ≡ true = le-leb (c .before .before .before .before .args .flow) 100000000 (omega arith) in
-    let d : damFits (c .before .before .before .before .args .card .dam) (ltb 0 (c .before .before .before .before .args .up .deepest)) (c .before .before .before .before .args .up .flow) ≡ false = sym (c .before .dam-fits .ensures) ∙ not-true _ (c .if3 .taken) in
-    simp (q, b, d)
-
-mul-if4 : tie.Need-mul-if4
-mul-if4 c = search needs
-
-returns-4 : tie.Need-returns-4
-unfolding checksOf need goOn
-returns-4 c later =
-    let q : ltb 0 (c .before .before .before .before .before .args .flow) ≡ true = lt-ltb 0 (c .before .before .before .before .before .args .flow) (omega arith) in
-    let b : leb (c .before .before .before .before .before .args .flow) 100000000 ≡ true = le-leb (c .before .before .before .before .before .args .flow) 100000000 (omega arith) in
-    let d : damFits (c .before .before .before .before .before .args .card .dam) (ltb 0 (c .before .before .before .before .before .args .up .deepest)) (c .before .before .before .before .before .args .up .flow) ≡ true = sym (c .before .before .dam-fits .ensures) ∙ not-false _ (c .before .if3 .left) in
-    let m : leb (c .before .before .before .before .before .args .mass) (1000000 * c .before .before .before .before .before .args .flow) ≡ false = lt-leb (c .before .before .before .before .before .args .mass) (1000000 * c .before .before .before .before .before .args .flow) (omega arith) in
-    simp (q, b, d, m)
-
-rate-fits-requires : tie.Need-rate-fits-requires
-rate-fits-requires c κs = search needs
-
-returns-5 : tie.Need-returns-5
-unfolding checksOf need goOn
-returns-5 c later =
-    let q : ltb 0 (c .before .before .before .before .before .before .before .args .flow) ≡ true = lt-ltb 0 (c .before .before .before .before .before .before .before .args .flow) (omega arith) in
-    let b : leb (c .before .before .before .before .before .before .before .args .flow) 100000000 ≡ true = le-leb (c .before .before .before .before .before .before .before .args .flow) 100000000 (omega arith) in
-    let d : damFits (c .before .before .before .before .before .before .before .args .card .dam) (ltb 0 (c .before .before .before .before .before .before .before .args .up .deepest)) (c .before .before .before .before .before .before .before .args .up .flow) ≡ true = sym (c .before .before .before .before .dam-fits .ensures) ∙ not-false _ (c .before .before .before .if3 .left) in
-    let m : leb (c .before .before .before .before .before .before .before .args .mass) (1000000 * c .before .before .before .before .before .before .before .args .flow) ≡ true = le-leb (c .before .before .before .before .before .before .before .args .mass) (1000000 * c .before .before .before .before .before .before .before .args .flow) (omega arith) in
-    let x : leb (c .before .before .before .before .before .before .before .args .card .k1 * c .before .before .before .before .before .before .before .args .card .volume) (345600 * c .before .before .before .before .before .before .before .args .flow) ≡ false = sym (c .before .rate-fits .ensures) ∙ not-true _ (c .if5 .taken) in
-    simp (q, b, d, m, x)
-
-rate-fits-requires-2 : tie.Need-rate-fits-requires-2
-rate-fits-requires-2 c κs = search needs
-
-returns-6 : tie.Need-returns-6
-unfolding checksOf need goOn
-returns-6 c later =
-    let q : ltb 0 (c .before .before .before .before .before .before .before .before .before .args .flow) ≡ true = lt-ltb 0 (c .before .before .before .before .before .before .before .before .before .args .flow) (omega arith) in
-    let b : leb (c .before .before .before .before .before .before .before .before .before .args .flow) 100000000 ≡ true = le-leb (c .before .before .before .before .before .before .before .before .before .args .flow) 100000000 (omega arith) in
-    let d : damFits (c .before .before .before .before .before .before .before .before .before .args .card .dam) (ltb 0 (c .before .before .before .before .before .before .before .before .before .args .up .deepest)) (c .before .before .before .before .before .before .before .before .before .args .up .flow) ≡ true = sym (c .before .before .before .before .before .before .dam-fits .ensures) ∙ not-false _ (c .before .before .before .before .before .if3 .left) in
-    let m : leb (c .before .before .before .before .before .before .before .before .before .args .mass) (1000000 * c .before .before .before .before .before .before .before .before .before .args .flow) ≡ true = le-leb (c .before .before .before .before .before .before .before .before .before .args .mass) (1000000 * c .before .before .before .before .before .before .before .before .before .args .flow) (omega arith) in
-    let x : leb (c .before .before .before .before .before .before .before .before .before .args .card .k1 * c .before .before .before .before .before .before .before .before .before .args .card .volume) (345600 * c .before .before .before .before .before .before .before .before .before .args .flow) ≡ true = sym (c .before .before .before .rate-fits .ensures) ∙ not-false _ (c .before .before .if5 .left) in
-    let y : leb (c .before .before .before .before .before .before .before .before .before .args .card .k2 * c .before .before .before .before .before .before .before .before .before .args .card .volume) (345600 * c .before .before .before .before .before .before .before .before .before .args .flow) ≡ false = sym (c .before .rate-fits2 .ensures) ∙ not-true _ (c .if6 .taken) in
-    simp (q, b, d, m, x, y)
-
-returns-7 : tie.Need-returns-7
-unfolding checksOf need goOn
-returns-7 c later =
-    let q : ltb 0 (c .before .before .before .before .before .before .before .before .before .args .flow) ≡ true = lt-ltb 0 (c .before .before .before .before .before .before .before .before .before .args .flow) (omega arith) in
-    let b : leb (c .before .before .before .before .before .before .before .before .before .args .flow) 100000000 ≡ true = le-leb (c .before .before .before .before .before .before .before .before .before .args .flow) 100000000 (omega arith) in
-    let d : damFits (c .before .before .before .before .before .before .before .before .before .args .card .dam) (ltb 0 (c .before .before .before .before .before .before .before .before .before .args .up .deepest)) (c .before .before .before .before .before .before .before .before .before .args .up .flow) ≡ true = sym (c .before .before .before .before .before .before .dam-fits .ensures) ∙ not-false _ (c .before .before .before .before .before .if3 .left) in
-    let m : leb (c .before .before .before .before .before .before .before .before .before .args .mass) (1000000 * c .before .before .before .before .before .before .before .before .before .args .flow) ≡ true = le-leb (c .before .before .before .before .before .before .before .before .before .args .mass) (1000000 * c .before .before .before .before .before .before .before .before .before .args .flow) (omega arith) in
-    let x : leb (c .before .before .before .before .before .before .before .before .before .args .card .k1 * c .before .before .before .before .before .before .before .before .before .args .card .volume) (345600 * c .before .before .before .before .before .before .before .before .before .args .flow) ≡ true = sym (c .before .before .before .rate-fits .ensures) ∙ not-false _ (c .before .before .if5 .left) in
-    let y : leb (c .before .before .before .before .before .before .before .before .before .args .card .k2 * c .before .before .before .before .before .before .before .before .before .args .card .volume) (345600 * c .before .before .before .before .before .before .before .before .before .args .flow) ≡ true = sym (c .before .rate-fits2 .ensures) ∙ not-false _ (c .if6 .left) in
-    simp (q, b, d, m, x, y)
+unfolding checksOf
+returns-3 c =
+    let load = c .before .before .before in
+    let flow = load .before in
+    leaves (flow .before .before .flow-rules .ensures) (flow .enum-told .given .1)
+    (leaves (load .load-rule .ensures) (c .before .enum-told3 .given .1) (c .rate-rules .ensures))
 
 pub check-spec : {M : Type 1} → statement M
 check-spec =
     tie.close
     (tie.spec
+    flow-rules-requires
+    enum-told
+    enum-told-2
     returns
+    load-rule-requires
+    enum-told-3
+    enum-told-4
     returns-2
-    dam-fits-requires
-    returns-3
-    mul-if4
-    returns-4
-    rate-fits-requires
-    returns-5
-    rate-fits-requires-2
-    returns-6
-    returns-7)
+    rate-rules-requires
+    returns-3)

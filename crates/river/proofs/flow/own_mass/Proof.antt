@@ -1,32 +1,17 @@
--- `river::flow::own_mass` meets its contract: a product of numbers in range fits.
+-- `river::flow::own_mass` meets its contract: the ranges of the card are those of its source.
 use borrow.Author.Needs.{needs}
-use native.Mathlib.Nat.{mul-le-mul}
-use native.Mathlib.Omega.{arith}
 use Rattle.river.proofs.flow.own_mass.Statement.{statement}
 use Rattle.river.proofs.flow.own_mass.Tie as tie
 
-cast-result : tie.Need-cast-result
-cast-result c = search needs
+bod-source-requires : tie.Need-bod-source-requires
+bod-source-requires c κs = search needs
 
-cast-result-2 : tie.Need-cast-result-2
-cast-result-2 c = search needs
-
-mul-result : tie.Need-mul-result
-mul-result c = omega (arith, mul-le-mul (c .before .before .pre .0) (c .before .before .pre .1))
-
-cast-result-3 : tie.Need-cast-result-3
-cast-result-3 c = search needs
-
-mul-result-2 : tie.Need-mul-result-2
-mul-result-2 c = search needs
-
-add-result : tie.Need-add-result
-add-result c = omega (arith, mul-le-mul (c .before .before .before .pre .0) (c .before .before .before .pre .1))
+source-mass-requires : tie.Need-source-mass-requires
+source-mass-requires c κs =
+    rw (c .bod-source .ensures) record { inflow = c .before .pre .inflow; concentration = c .before .pre .inflow-bod }
 
 returns : tie.Need-returns
-returns c = search needs
+returns c = rw (c .before .bod-source .ensures) at (c .source-mass .ensures)
 
 pub own-mass-spec : {M : Type 1} → statement M
-own-mass-spec =
-    tie.close
-    (tie.spec cast-result cast-result-2 mul-result cast-result-3 mul-result-2 add-result returns)
+own-mass-spec = tie.close (tie.spec bod-source-requires source-mass-requires returns)

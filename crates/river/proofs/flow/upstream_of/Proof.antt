@@ -11,21 +11,22 @@ cast-reach : tie.Need-cast-reach
 cast-reach c = search needs
 
 feeder-sum-requires : tie.Need-feeder-sum-requires
-feeder-sum-requires c κs = (search needs, rw add-one (c .before .before .before .pre .1))
+feeder-sum-requires c κs = (search needs, rw add-one (c .before .before .before .pre .flow))
 
 feeder-sum-requires-2 : tie.Need-feeder-sum-requires-2
 feeder-sum-requires-2 c κs =
-    (search needs, rw add-one (c .before .before .before .before .before .before .before .pre .2))
+    (search needs, rw add-one (c .before .before .before .before .before .before .before .pre .mass))
 
 feeder-depth-requires : tie.Need-feeder-depth-requires
 feeder-depth-requires c κs = search needs
 
 returns : tie.Need-returns
-returns c = (
-  rw add-one at (c .before .before .before .before .before .before .before .before .feeder-sum .ensures),
-  rw add-one at (c .before .before .before .before .feeder-sum2 .ensures),
-  rw add-one at (c .feeder-depth .ensures),
-)
+returns c =
+    record {
+      flow = rw add-one at (c .before .before .before .before .before .before .before .before .feeder-sum .ensures);
+      mass = rw add-one at (c .before .before .before .before .feeder-sum2 .ensures);
+      deepest = rw add-one at (c .feeder-depth .ensures);
+    }
 
 pub upstream-of-spec : {M : Type 1} → statement M
 upstream-of-spec =

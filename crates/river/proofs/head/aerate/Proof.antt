@@ -16,7 +16,7 @@ cast-result c =
     let s = c .before .before .args .saturated in
     let w = c .before .before .args .weight in
     let d = c .before .before .args .whole in
-    omega (arith, share-small (s - o) w d (c .before .before .pre .1))
+    omega (arith, share-small (s - o) w d (c .before .before .pre .within))
 
 add-result : tie.Need-add-result
 add-result c =
@@ -24,7 +24,7 @@ add-result c =
     let s = c .before .before .args .saturated in
     let w = c .before .before .args .weight in
     let d = c .before .before .args .whole in
-    omega (arith, share-small (s - o) w d (c .before .before .pre .1))
+    omega (arith, share-small (s - o) w d (c .before .before .pre .within))
 
 sub-share-of : tie.Need-sub-share-of
 sub-share-of c = search needs
@@ -65,7 +65,7 @@ returns-2 c =
     let s = c .before .before .args .saturated in
     let w = c .before .before .args .weight in
     let d = c .before .before .args .whole in
-    rw (c .share-of2 .ensures) (fall-stored o s w d (c .before .before .pre .0) (c .before .before .pre .1) (omega arith))
+    rw (c .share-of2 .ensures) (fall-stored o s w d (c .before .before .pre .some) (c .before .before .pre .within) (omega arith))
 
 pub aerate-spec : {M : Type 1} → statement M
 aerate-spec =

@@ -38,7 +38,7 @@ mul-aerate : tie.Need-mul-aerate
 mul-aerate c =
     let start = c .before .before .before .before in
     let w = dam-numbers (c .before .before .dam .given .1) (start .pre .dam) in
-    record { fits = weight-fits (w .0) (omega (arith, start .pre .bounded)) }
+    record { fits = weight-fits (w .0) (omega (arith, start .pre .flows .bounded)) }
 
 mul-aerate-2 : tie.Need-mul-aerate-2
 mul-aerate-2 c = search needs
@@ -47,7 +47,11 @@ aerate-requires : tie.Need-aerate-requires
 aerate-requires c κs =
     let start = c .before .before .before .before in
     let w = dam-numbers (c .before .before .dam .given .1) (start .pre .dam) in
-    (omega (arith, start .pre .feeders-flow refl), mul-le-mul (w .0) (omega arith), omega (arith, start .pre .bounded))
+    record {
+      some = omega (arith, start .pre .flows .feeders-flow refl);
+      within = mul-le-mul (w .0) (omega arith);
+      fits = omega (arith, start .pre .flows .bounded);
+    }
 
 returns : tie.Need-returns
 unfolding belowDam aerated

@@ -1,4 +1,4 @@
--- `river::head::head_of` meets its contract: the laws of proofs/Heads over what its calls yield.
+-- `river::head::head_of` meets its contract: the laws of proofs/head/Heads over what its calls yield.
 use borrow.Author.Needs.{needs}
 use native.Mathlib.Nat.{le-of-lt}
 use native.Mathlib.Numerals.{add-one}
@@ -20,10 +20,14 @@ cast-reach : tie.Need-cast-reach
 cast-reach c = search needs
 
 feeder-sum-requires : tie.Need-feeder-sum-requires
-feeder-sum-requires c κs = (le-of-lt (reach-few (c .before .before .before .before .before .pre)), rw add-one (sum-bod-fits (c .before .before .before .before .before .pre)))
+feeder-sum-requires c κs =
+    let s = c .before .before .before .before .before in
+    (le-of-lt (reach-few (s .pre)), rw add-one (sum-bod-fits (s .pre)))
 
 feeder-sum-requires-2 : tie.Need-feeder-sum-requires-2
-feeder-sum-requires-2 c κs = (le-of-lt (reach-few (c .before .before .before .before .before .before .before .before .before .before .pre)), rw add-one (sum-oxygen-fits (c .before .before .before .before .before .before .before .before .before .before .pre)))
+feeder-sum-requires-2 c κs =
+    let s = c .before .before .before .before .before .before .before .before .before .before in
+    (le-of-lt (reach-few (s .pre)), rw add-one (sum-oxygen-fits (s .pre)))
 
 element-copy-out-fed : tie.Need-element-copy-out-fed
 element-copy-out-fed c = search needs
@@ -40,26 +44,30 @@ cast-qu c = search needs
 sub-qu : tie.Need-sub-qu
 sub-qu c =
     let s = c .before .before .before .before .before .before .before .before .before .before .before .before .before .before in
-    let card = card-of-river (s .args .t1) (s .args .i) (s .pre .within) in
-    inflow-within (s .pre) card
+    inflow-within (s .pre) (card-of-river (s .args .t1) (s .args .i) (s .pre .within))
 
-head-bod-requires : tie.Need-head-bod-requires
-head-bod-requires c κs =
-    let s = c .before .before .before .before .before .before .before .before .before .before .before .before .before .before in
-    let card = card-of-river (s .args .t1) (s .args .i) (s .pre .within) in
-    bod-input (s .pre) card (c .before .before .before .before .before .before .before .before .feeder-sum .ensures)
+bod-source-requires : tie.Need-bod-source-requires
+bod-source-requires c κs = search needs
+
+head-demand-requires : tie.Need-head-demand-requires
+head-demand-requires c κs =
+    let bod = c .before .before .before .before .before .before .before .before .before in
+    let s = bod .before .before .before .before .before .before in
+    bod-input (s .pre) (card-of-river (s .args .t1) (s .args .i) (s .pre .within)) (c .bod-source .ensures) (bod .feeder-sum .ensures)
 
 head-oxygen-requires : tie.Need-head-oxygen-requires
 head-oxygen-requires c κs =
-    let s = c .before .before .before .before .before .before .before .before .before .before .before .before .before .before .before in
-    let card = card-of-river (s .args .t1) (s .args .i) (s .pre .within) in
-    oxygen-input (s .pre) card (c .before .before .before .before .feeder-sum2 .ensures)
+    let oxygen = c .before .before .before .before .before in
+    let s = oxygen .before .before .before .before .before .before .before .before .before .before .before in
+    oxygen-input (s .pre) (card-of-river (s .args .t1) (s .args .i) (s .pre .within)) (oxygen .feeder-sum2 .ensures)
 
 returns : tie.Need-returns
 returns c =
-    let s = c .before .before .before .before .before .before .before .before .before .before .before .before .before .before .before .before in
-    let card = card-of-river (s .args .t1) (s .args .i) (s .pre .within) in
-    head-made (s .pre) card _ (c .before .before .before .before .before .before .before .before .before .before .feeder-sum .ensures) (c .before .before .before .before .before .feeder-sum2 .ensures) (c .before .head-bod .ensures) (c .head-oxygen .ensures)
+    let source = c .before .before in
+    let oxygen = source .before .before .before .before in
+    let bod = oxygen .before .before .before .before .before in
+    let s = bod .before .before .before .before .before .before in
+    head-made (s .pre) (card-of-river (s .args .t1) (s .args .i) (s .pre .within)) _ (source .bod-source .ensures) (bod .feeder-sum .ensures) (oxygen .feeder-sum2 .ensures) (c .before .head-demand .ensures) (c .head-oxygen .ensures)
 
 pub head-of-spec : {M : Type 1} → statement M
 head-of-spec =
@@ -76,6 +84,7 @@ head-of-spec =
     element-copy-out-qu
     cast-qu
     sub-qu
-    head-bod-requires
+    bod-source-requires
+    head-demand-requires
     head-oxygen-requires
     returns)

@@ -3,11 +3,12 @@ use borrow.Author.Needs.{needs}
 use Prim.Native.Nat.{_≤_}
 use native.Mathlib.Nat.{mul-le-mul}
 use native.Mathlib.Omega.{arith}
+use Rattle.river.specs.Stored.{storedLimit}
 use Rattle.river.proofs.head.put_foot.Statement.{statement}
 use Rattle.river.proofs.head.put_foot.Tie as tie
 
 mul-next : tie.Need-mul-next
-mul-next c = let b : c .args .bod ≤ 4294967295 = omega arith in omega (arith, mul-le-mul (c .pre .1) b)
+mul-next c = let b : c .args .bod ≤ storedLimit = omega arith in omega (arith, mul-le-mul (c .pre .1) b)
 
 mul-next-2 : tie.Need-mul-next-2
 mul-next-2 c = search needs
@@ -16,7 +17,7 @@ element-write-next : tie.Need-element-write-next
 element-write-next c = search needs
 
 mul-next-3 : tie.Need-mul-next-3
-mul-next-3 c = let b : c .args .oxygen ≤ 4294967295 = omega arith in omega (arith, mul-le-mul (c .pre .1) b)
+mul-next-3 c = let b : c .args .oxygen ≤ storedLimit = omega arith in omega (arith, mul-le-mul (c .pre .1) b)
 
 mul-next-4 : tie.Need-mul-next-4
 mul-next-4 c = search needs

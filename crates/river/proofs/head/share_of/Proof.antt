@@ -3,6 +3,7 @@ use borrow.Author.Needs.{needs}
 use Prim.Native.Nat.{_≤_, _/_, _%_, _*_}
 use native.Mathlib.Nat.{mul-le-mul, mod-lt}
 use native.Mathlib.Omega.{arith}
+use Rattle.river.specs.Flow.{flowLimit}
 use Rattle.river.proofs.head.Bounds.{share-small, long-division}
 use Rattle.river.proofs.head.share_of.Statement.{statement}
 use Rattle.river.proofs.head.share_of.Tie as tie
@@ -18,7 +19,7 @@ mul-first c =
     let a = c .args .a in
     let b = c .args .b in
     let h : a / 65536 ≤ 65535 = omega arith in
-    let k : b ≤ 100000000000 = omega arith in
+    let k : b ≤ 1000 * flowLimit = omega arith in
     omega (arith, mul-le-mul h k)
 
 rem-rest : tie.Need-rem-rest
@@ -28,14 +29,14 @@ mul-rest : tie.Need-mul-rest
 mul-rest c =
     let a = c .args .a in
     let b = c .args .b in
-    omega (arith, mod-lt (a / 65536 * b) (c .pre .0))
+    omega (arith, mod-lt (a / 65536 * b) (c .pre .some))
 
 mul-rest-2 : tie.Need-mul-rest-2
 mul-rest-2 c =
     let a = c .args .a in
     let b = c .args .b in
     let h : a % 65536 ≤ 65535 = omega arith in
-    let k : b ≤ 100000000000 = omega arith in
+    let k : b ≤ 1000 * flowLimit = omega arith in
     omega (arith, mul-le-mul h k)
 
 add-rest : tie.Need-add-rest
@@ -43,8 +44,8 @@ add-rest c =
     let a = c .args .a in
     let b = c .args .b in
     let h : a % 65536 ≤ 65535 = omega arith in
-    let k : b ≤ 100000000000 = omega arith in
-    omega (arith, mod-lt (a / 65536 * b) (c .pre .0), mul-le-mul h k)
+    let k : b ≤ 1000 * flowLimit = omega arith in
+    omega (arith, mod-lt (a / 65536 * b) (c .pre .some), mul-le-mul h k)
 
 div-result : tie.Need-div-result
 div-result c = search needs
@@ -54,7 +55,7 @@ mul-result c =
     let a = c .args .a in
     let b = c .args .b in
     let d = c .args .d in
-    omega (arith, share-small (a / 65536) b d (c .pre .1))
+    omega (arith, share-small (a / 65536) b d (c .pre .within))
 
 div-result-2 : tie.Need-div-result-2
 div-result-2 c = search needs
@@ -64,14 +65,14 @@ add-result c =
     let a = c .args .a in
     let b = c .args .b in
     let d = c .args .d in
-    omega (arith, long-division a b d (c .pre .0), share-small a b d (c .pre .1))
+    omega (arith, long-division a b d (c .pre .some), share-small a b d (c .pre .within))
 
 returns : tie.Need-returns
 returns c =
     let a = c .args .a in
     let b = c .args .b in
     let d = c .args .d in
-    long-division a b d (c .pre .0)
+    long-division a b d (c .pre .some)
 
 pub share-of-spec : {M : Type 1} → statement M
 share-of-spec =

@@ -1,7 +1,7 @@
 -- `river::head::upstream_oxygen` meets its contract, with feeders and without.
 use mathlib.Core.Path.{ap, _∙_}
 use mathlib.Core.Bool.{true}
-use Prim.Native.Nat.{_/_, _<_}
+use Prim.Native.Nat.{_/_, _^_, _<_}
 use native.Mathlib.Nat.{div-lt-iff-lt-mul}
 use native.Mathlib.Omega.{arith}
 use Rattle.river.specs.Head.{upstreamOxygen, belowDam}
@@ -11,24 +11,23 @@ use Rattle.river.specs.Stored.{oxygenOf}
 use Rattle.river.proofs.head.upstream_oxygen.Tie as tie
 
 div-below-dam : tie.Need-div-below-dam
-div-below-dam c = c .before .pre .0 .feeders-flow (c .if1 .taken)
+div-below-dam c = c .before .pre .ready .flows .feeders-flow (c .if1 .taken)
 
 cast-below-dam : tie.Need-cast-below-dam
 cast-below-dam c =
-    let p = c .before .pre .0 .feeders-flow (c .if1 .taken) in
-    let f : c .before .args .sum / c .before .args .qu < 4294967296 = div-lt-iff-lt-mul p .1 (omega arith) in
+    let p = c .before .pre .ready .flows .feeders-flow (c .if1 .taken) in
+    let f : c .before .args .sum / c .before .args .qu < 2 ^ 32 = div-lt-iff-lt-mul p .1 (omega arith) in
     omega (arith, f)
 
 below-dam-requires : tie.Need-below-dam-requires
 below-dam-requires c κs =
-    let r = c .before .pre .0 in
-    record { fields = r .fields; dam = r .dam; flowing = r .flowing; bounded = r .bounded; feeders-flow = λ e. r .feeders-flow (c .if1 .taken) }
+    rw (c .if1 .taken) at (c .before .pre .ready)
 
 returns : tie.Need-returns
 unfolding upstreamOxygen
 returns c =
     let start = c .before .before in
-    let p = start .pre .0 .feeders-flow (c .before .if1 .taken) in
+    let p = start .pre .ready .flows .feeders-flow (c .before .if1 .taken) in
     rw (c .before .if1 .taken) (c .below-dam .ensures ∙ ap (belowDam (start .args .card) true (start .args .qu)) (mean-stored (start .args .qu) (start .args .sum) p))
 
 returns-2 : tie.Need-returns-2

@@ -1,0 +1,72 @@
+-- Groups of checks: which facts each asks for, and how the program's outcomes of two groups join.
+use mathlib.Core.Path.{_≡_, sym, ap, _∙_}
+use mathlib.Core.Bool.{Bool, true}
+use mathlib.Core.List.{List, []}
+use Prim.Native.Nat.{ℕ, _*_, _<_, _≤_}
+use lib.Dec.{leb}
+use borrow.Author.Tests.{ltb-true, leb-true, lt-ltb, le-leb}
+use Rattle.river.specs.declared.card.Card.{Card}
+use Rattle.river.specs.declared.card.Dam.{Dam}
+use Rattle.river.specs.declared.refusal.Outcome.{Outcome}
+use Rattle.river.specs.declared.refusal.Refusal.{Refusal}
+use Rattle.river.specs.Refusal.{Answer, accepted, need, goOn}
+use Rattle.river.specs.Flow.{flowLimit, massLimit, rateLimit, damFits, Checks, _then_, flowRules, loadRule, rateRules}
+use Rattle.river.specs.FlowTable.{Decides}
+use Rattle.river.proofs.Answers.{need-true, passed}
+
+-- checks that ask for a fact: with it they go on, and where they led to an accepted answer it holds
+pub record Asks (f : Checks) (P : Type 0) : Type 0 where
+  pub on : P → (later : Answer (List Card)) → f later ≡ later
+  pub told : {later : Answer (List Card)} {cards : List Card} → f later ≡ accepted cards → P × (later ≡ accepted cards)
+
+-- a check by its test
+ask : {P : Type 0} (b : Bool) (n i : ℕ) → (P → b ≡ true) → (b ≡ true → P) → Asks (need b n i) P
+ask b n i to from =
+    record {
+      on = λ p later. need-true b n i later (to p);
+      told = λ e. let k = passed b n i _ e in (from (k .test), k .rest);
+    }
+
+ask-most : (m most n i : ℕ) → Asks (need (leb m most) n i) (m ≤ most)
+ask-most m most n i = ask _ n i (le-leb m most) (leb-true m most)
+
+-- checks, and then others
+pub asks-both : {f g : Checks} {P Q : Type 0} → Asks f P → Asks g Q → Asks (f then g) (P × Q)
+unfolding _then_
+asks-both a b =
+    record {
+      on = λ p later. a .on (p .0) _ ∙ b .on (p .1) later;
+      told = λ e. let k = a .told e in let l = b .told (k .1) in ((k .0, l .0), l .1);
+    }
+
+-- what each group asks for
+pub flow-rules-ask : (dam : Dam) (fed : Bool) (Qu Q i : ℕ) → Asks (flowRules dam fed Qu Q i) ((0 < Q) × ((Q ≤ flowLimit) × (damFits dam fed Qu ≡ true)))
+unfolding flowRules
+flow-rules-ask dam fed Qu Q i =
+    asks-both (ask _ 7 i (lt-ltb 0 Q) (ltb-true 0 Q)) (asks-both (ask-most Q flowLimit 8 i) (ask _ 9 i (λ e. e) (λ e. e)))
+
+pub load-rule-asks : (Q M i : ℕ) → Asks (loadRule Q M i) (M ≤ massLimit * Q)
+unfolding loadRule
+load-rule-asks Q M i = ask-most M (massLimit * Q) 10 i
+
+pub rate-rules-ask : (card : Card) (Q i : ℕ) → Asks (rateRules card Q i) ((card .k1 * card .volume ≤ rateLimit * Q) × (card .k2 * card .volume ≤ rateLimit * Q))
+unfolding rateRules
+rate-rules-ask card Q i =
+    asks-both (ask-most (card .k1 * card .volume) (rateLimit * Q) 11 i) (ask-most (card .k2 * card .volume) (rateLimit * Q) 11 i)
+
+module _ {f : Checks} {r : Outcome} (d : Decides r f) where
+  -- an accepted outcome has what its checks ask for
+  pub decided : {P : Type 0} → Asks f P → r ≡ Outcome.Accepted → P
+  unfolding goOn
+  decided a e = a .told (sym (d .answer (accepted [])) ∙ ap (λ (o : Outcome). goOn o (accepted [])) e) .0
+
+  -- the outcome of checks, and then of others: a refusal stops, and an accepted one leaves it to the others
+  pub stops : {x : Refusal} (g : Checks) → r ≡ Outcome.Refused x → Decides r (f then g)
+  unfolding goOn _then_
+  stops g e =
+      record { answer = λ later. ap (λ (o : Outcome). goOn o later) e ∙ sym (ap (λ (o : Outcome). goOn o (g later)) e) ∙ d .answer (g later) }
+
+  pub leaves : {g : Checks} {s : Outcome} → r ≡ Outcome.Accepted → Decides s g → Decides s (f then g)
+  unfolding goOn _then_
+  leaves {g} e k =
+      record { answer = λ later. k .answer later ∙ sym (ap (λ (o : Outcome). goOn o (g later)) e) ∙ d .answer (g later) }

@@ -1,0 +1,70 @@
+-- `river::flow::check_from` meets its contract: the laws of the loop in proofs/flow/FlowCheck.
+use mathlib.Core.Path.{_≡_}
+use Prim.Native.Nat.{_-_}
+use native.Mathlib.Omega.{arith}
+use lib.ListN.{length}
+use borrow.Author.Needs.{needs}
+use Rattle.river.specs.Card.{river}
+use Rattle.river.specs.FlowTable.{Underway}
+use Rattle.river.proofs.flow.FlowCheck.{at-refusal, at-next, at-end}
+use Rattle.river.proofs.flow.check_from.Statement.{statement}
+use Rattle.river.proofs.flow.check_from.Tie as tie
+
+abbrev Inv-loop : tie.InvT-loop
+Inv-loop cards from count flows₀ i₀ flows i = (count ≡ length (river cards)) × Underway (river cards) i flows
+
+abbrev μ-loop : tie.MeasureT-loop
+μ-loop cards from count flows₀ i₀ flows i = count - i
+
+reach-count-requires : tie.Need-reach-count-requires Inv-loop μ-loop
+reach-count-requires c κs = search needs
+
+loop-holds : tie.Need-loop-holds Inv-loop μ-loop
+loop-holds c = (c .reach-count .ensures, c .before .pre)
+
+check-next-requires : tie.Need-check-next-requires Inv-loop μ-loop
+check-next-requires c κs = (c .before .loop .inv .1, omega (arith, c .before .loop .inv .0))
+
+enum-told : tie.Need-enum-told Inv-loop μ-loop
+enum-told c = search needs
+
+enum-told-2 : tie.Need-enum-told-2 Inv-loop μ-loop
+enum-told-2 c = search needs
+
+returns : tie.Need-returns Inv-loop μ-loop
+returns c =
+    let next = c .before .before in
+    let inv = next .before .before .loop .inv in
+    at-refusal (inv .1) (omega (arith, inv .0)) (next .check-next .ensures) (c .enum-told2 .given .1)
+
+add-i : tie.Need-add-i Inv-loop μ-loop
+add-i c = omega arith
+
+loop-less : tie.Need-loop-less Inv-loop μ-loop
+loop-less c = omega arith
+
+loop-again : tie.Need-loop-again Inv-loop μ-loop
+loop-again c =
+    let next = c .before .before .before in
+    let inv = next .before .before .loop .inv in
+    (inv .0, at-next (inv .1) (omega (arith, inv .0)) (next .check-next .ensures) (c .before .enum-told .given .1))
+
+returns-2 : tie.Need-returns-2 Inv-loop μ-loop
+returns-2 c = at-end (c .before .loop .inv .1) (omega (arith, c .before .loop .inv .0))
+
+pub check-from-spec : {M : Type 1} → statement M
+check-from-spec =
+    tie.close
+    (tie.spec
+    Inv-loop
+    μ-loop
+    reach-count-requires
+    loop-holds
+    check-next-requires
+    enum-told
+    enum-told-2
+    returns
+    add-i
+    loop-less
+    loop-again
+    returns-2)

@@ -1,0 +1,36 @@
+-- `river::flow::flow_rules` meets its contract: each answer follows from the tests that led to it.
+use mathlib.Core.Path.{sym, _∙_}
+use native.Mathlib.Omega.{arith}
+use borrow.Author.Needs.{needs}
+use borrow.Author.Tests.{lt-ltb, le-ltb, le-leb, lt-leb, not-true, not-false}
+use Rattle.river.specs.Refusal.{need, goOn}
+use Rattle.river.specs.Flow.{_then_, flowRules}
+use Rattle.river.proofs.flow.flow_rules.Statement.{statement}
+use Rattle.river.proofs.flow.flow_rules.Tie as tie
+
+returns : tie.Need-returns
+unfolding flowRules _then_ need goOn
+returns c = record { answer = λ later. rw (le-ltb 0 (c .before .args .flow) (omega arith)) }
+
+returns-2 : tie.Need-returns-2
+unfolding flowRules _then_ need goOn
+returns-2 c =
+    record { answer = λ later. rw (lt-ltb 0 (c .before .before .args .flow) (omega arith), lt-leb _ _ (c .if2 .taken)) }
+
+dam-fits-requires : tie.Need-dam-fits-requires
+dam-fits-requires c κs = search needs
+
+returns-3 : tie.Need-returns-3
+unfolding flowRules _then_ need goOn
+returns-3 c =
+    let q = c .before .before .before .before .args .flow in
+    record { answer = λ later. rw (lt-ltb 0 q (omega arith), le-leb _ _ (c .before .before .if2 .left), sym (c .before .dam-fits .ensures) ∙ not-true _ (c .if3 .taken)) }
+
+returns-4 : tie.Need-returns-4
+unfolding flowRules _then_ need goOn
+returns-4 c =
+    let q = c .before .before .before .before .args .flow in
+    record { answer = λ later. rw (lt-ltb 0 q (omega arith), le-leb _ _ (c .before .before .if2 .left), sym (c .before .dam-fits .ensures) ∙ not-false _ (c .if3 .left)) }
+
+pub flow-rules-spec : {M : Type 1} → statement M
+flow-rules-spec = tie.close (tie.spec returns returns-2 dam-fits-requires returns-3 returns-4)

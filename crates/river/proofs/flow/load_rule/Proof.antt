@@ -1,0 +1,21 @@
+-- `river::flow::load_rule` meets its contract: each answer follows from the test that led to it.
+use borrow.Author.Needs.{needs}
+use borrow.Author.Tests.{le-leb, lt-leb}
+use Rattle.river.specs.Refusal.{need, goOn}
+use Rattle.river.specs.Flow.{loadRule}
+use Rattle.river.proofs.flow.load_rule.Statement.{statement}
+use Rattle.river.proofs.flow.load_rule.Tie as tie
+
+mul-if1 : tie.Need-mul-if1
+mul-if1 c = search needs
+
+returns : tie.Need-returns
+unfolding loadRule need goOn
+returns c = record { answer = λ later. rw (lt-leb _ _ (c .if1 .taken)) }
+
+returns-2 : tie.Need-returns-2
+unfolding loadRule need goOn
+returns-2 c = record { answer = λ later. rw (le-leb _ _ (c .if1 .left)) }
+
+pub load-rule-spec : {M : Type 1} → statement M
+load-rule-spec = tie.close (tie.spec mul-if1 returns returns-2)

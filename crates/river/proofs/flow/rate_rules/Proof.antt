@@ -1,0 +1,34 @@
+-- `river::flow::rate_rules` meets its contract: each answer follows from the tests that led to it.
+use mathlib.Core.Path.{sym, _∙_}
+use borrow.Author.Needs.{needs}
+use borrow.Author.Tests.{not-true, not-false}
+use Rattle.river.specs.Refusal.{need, goOn}
+use Rattle.river.specs.Flow.{_then_, rateRules}
+use Rattle.river.proofs.flow.rate_rules.Statement.{statement}
+use Rattle.river.proofs.flow.rate_rules.Tie as tie
+
+rate-fits-requires : tie.Need-rate-fits-requires
+rate-fits-requires c κs = search needs
+
+returns : tie.Need-returns
+unfolding rateRules _then_ need goOn
+returns c = record { answer = λ later. rw (sym (c .before .rate-fits .ensures) ∙ not-true _ (c .if1 .taken)) }
+
+rate-fits-requires-2 : tie.Need-rate-fits-requires-2
+rate-fits-requires-2 c κs = search needs
+
+returns-2 : tie.Need-returns-2
+unfolding rateRules _then_ need goOn
+returns-2 c =
+    let first = c .before .before in
+    record { answer = λ later. rw (sym (first .before .rate-fits .ensures) ∙ not-false _ (first .if1 .left), sym (c .before .rate-fits2 .ensures) ∙ not-true _ (c .if2 .taken)) }
+
+returns-3 : tie.Need-returns-3
+unfolding rateRules _then_ need goOn
+returns-3 c =
+    let first = c .before .before in
+    record { answer = λ later. rw (sym (first .before .rate-fits .ensures) ∙ not-false _ (first .if1 .left), sym (c .before .rate-fits2 .ensures) ∙ not-false _ (c .if2 .left)) }
+
+pub rate-rules-spec : {M : Type 1} → statement M
+rate-rules-spec =
+    tie.close (tie.spec rate-fits-requires returns rate-fits-requires-2 returns-2 returns-3)
