@@ -1,28 +1,30 @@
 // The bench values of document 01 that are not proved as rows, and a few more rivers: the result of reporting on each file and,
 // for accepted ones, foot BOD, foot oxygen, critical instant and critical oxygen of each reach.
 ghost use Prim.Native.Nat.{_≤_};
-use river::bytes::four_at;
-use river::bytes::two_at;
+use report::record;
+use report::record::Line;
+use report::record::RP_SIZE;
+use river::head::STORED_ZERO;
 
-// Prints a number in two's complement.
-fn print_signed(n: u32) {
-    if n < 2147483648 {
-        io::print_decimal(1, n as u64);
-    } else {
+// Prints stored oxygen.
+fn print_oxygen(stored: u32) {
+    if stored < STORED_ZERO {
         io::write_all(1, b"-");
-        io::print_decimal(1, (4294967295 - n + 1) as u64);
+        io::print_decimal(1, (STORED_ZERO - stored) as u64);
+    } else {
+        io::print_decimal(1, (stored - STORED_ZERO) as u64);
     }
 }
 
-// Prints the figures below the head of a reach whose record is at the start of s.
-fn print_reach(s: &[u8]) {
-    io::print_decimal(1, four_at(s, 11) as u64);
+// Prints the figures of a reach below its head.
+fn print_reach(line: Line) {
+    io::print_decimal(1, line.foot_bod as u64);
     io::write_all(1, b" ");
-    print_signed(four_at(s, 25));
+    print_oxygen(line.foot_oxygen);
     io::write_all(1, b" ");
-    io::print_decimal(1, two_at(s, 19) as u64);
+    io::print_decimal(1, line.critical_instant as u64);
     io::write_all(1, b" ");
-    print_signed(four_at(s, 21));
+    print_oxygen(line.critical_oxygen);
     io::write_all(1, b"\n");
 }
 
@@ -36,9 +38,9 @@ fn print_result(name: &[u8], result: u32) {
     io::write_all(1, b"\n");
 }
 
-// Reports on a file into a buffer of 87 bytes, which three reaches fill, and prints the first reaches.
+// Reports on a file into a buffer that three reaches fill, and prints the first reaches.
 fn show(name: &[u8], file: &[u8], reaches: u8) {
-    let mut report = [0u8; 87];
+    let mut report = [0u8; 3 * RP_SIZE];
     print_result(name, report::xylandreo_report(file, &mut report));
     print_first(&report, reaches);
 }
@@ -47,18 +49,18 @@ fn show(name: &[u8], file: &[u8], reaches: u8) {
 fn print_first(report: &[u8], reaches: u8) {
     let mut i: u8 = 0;
     while i < reaches {
-        let from = 29 * (i as usize);
-        if report.len() < from + 29 {
+        let place = i as usize;
+        if report.len() < RP_SIZE * place + RP_SIZE {
             return;
         }
-        print_reach(&report[from..]);
+        print_reach(record::read_record(report, RP_SIZE, place));
         i = i + 1;
     }
 }
 
 // How far two numbers lie apart.
 fn distance(a: u32, b: u32) -> u64
-    ensures { λ r. ⌜ r ≤ 4294967295 ⌝ }
+    ensures { λ r. ⌜ r ≤ 4_294_967_295 ⌝ }
 {
     if a < b {
         (b - a) as u64
@@ -69,19 +71,20 @@ fn distance(a: u32, b: u32) -> u64
 
 // The bench value of document 01: both rates 1,000; foot BOD 3,678,794 and foot oxygen 10,973,206, errors together at most 100.
 fn equal_rates() {
-    let mut report = [0u8; 29];
+    let mut report = [0u8; RP_SIZE];
     let file =
         b"RV\x00\x01RE\x00\x00\x03\xe8\x03\xe8\x00\x0d\x2f\x00\x00\x00\x27\x10\x00\x00\x27\x109\x3c\x00\x00\x00\x00";
     print_result(b"equal rates", report::xylandreo_report(file, &mut report));
-    print_reach(&report);
-    if errors(&report) <= 100 {
+    let line = record::read_record(&report, RP_SIZE, 0);
+    print_reach(line);
+    if errors(line) <= 100 {
         io::write_all(1, b"within 100\n");
     }
 }
 
 // The errors of foot BOD and foot oxygen together.
-fn errors(s: &[u8]) -> u64 {
-    distance(four_at(s, 11), 3678794) + distance(four_at(s, 25), 10973206)
+fn errors(line: Line) -> u64 {
+    distance(line.foot_bod, 3_678_794) + distance(line.foot_oxygen, STORED_ZERO + 10_973_206)
 }
 
 // Puts a byte at a place of a file.
@@ -124,8 +127,8 @@ fn put_row(file: &mut [u8], count: u8) {
 
 // A row of 128 reaches passes, in a buffer of 3,712 bytes and no fewer, and one of 129 does not.
 fn rows() {
-    let mut report = [0u8; 3712];
-    let mut short = [0u8; 3711];
+    let mut report = [0u8; 128 * RP_SIZE];
+    let mut short = [0u8; 128 * RP_SIZE - 1];
     let mut most = [0u8; 3332];
     put_row(&mut most, 128);
     print_result(b"128 reaches", report::xylandreo_report(&most, &mut report));

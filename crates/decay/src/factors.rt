@@ -4,6 +4,9 @@ use crate::step::Step;
 ghost use mathlib.Core.Path.{_≡_};
 ghost use Rattle.decay.specs.Factors.{SoundStep, AreShares, headFactors, nextFactors};
 
+// The instant of the foot: a reach is 1,024 steps.
+pub const FOOT: u64 = 1_024;
+
 // BOD left, head BOD turned to deficit and head deficit left, as shares of one.
 pub struct Factors {
     pub left: u64,

@@ -11,6 +11,7 @@ use river::flow::FlowTable;
 use river::flow::reach_count;
 use river::head::FootTable;
 use river::head::Head;
+use river::head::STORED_ZERO;
 use river::head::head_of;
 use river::head::no_feet;
 use river::head::put_foot;
@@ -25,11 +26,11 @@ fn number(n: u64) {
 
 // Stored oxygen as a signed number, and the end of the line.
 fn oxygen(stored: u32) {
-    if stored < 2147483648 {
+    if stored < STORED_ZERO {
         io::write_all(1, b"-");
-        io::print_decimal(1, (2147483648 - stored) as u64);
+        io::print_decimal(1, (STORED_ZERO - stored) as u64);
     } else {
-        io::print_decimal(1, (stored - 2147483648) as u64);
+        io::print_decimal(1, (stored - STORED_ZERO) as u64);
     }
     io::write_all(1, b"\n");
 }

@@ -1,9 +1,9 @@
 // Prints the report of the river file on standard input: a line a reach, or the refusal.
-ghost use Prim.Native.Nat.{_*_, _≤_};
-ghost use lib.ListN.{length};
-use river::bytes::byte_at;
-use river::bytes::four_at;
+use report::record;
+use report::record::Line;
+use report::record::RP_SIZE;
 use river::bytes::two_at;
+use river::head::STORED_ZERO;
 
 // Puts a byte at a place of a text and returns the next place. Past the end nothing is put.
 fn put(text: &mut [u8], at: usize, b: u8) -> usize {
@@ -36,58 +36,59 @@ fn put_digits(text: &mut [u8], at: usize, digits: &[u8; 20], count: usize) -> us
     next
 }
 
-// Puts a space and a number in two's complement, with a minus sign below zero.
-fn put_signed(text: &mut [u8], at: usize, n: u32) -> usize {
-    let next = put(text, at, 32);
-    if n < 2147483648 {
-        put_number(text, next, n)
+// Puts a space and a number.
+fn put_figure(text: &mut [u8], at: usize, n: u32) -> usize {
+    let next = put(text, at, b' ');
+    put_number(text, next, n)
+}
+
+// Puts a space and stored oxygen, with a minus sign below zero.
+fn put_oxygen(text: &mut [u8], at: usize, stored: u32) -> usize {
+    if stored < STORED_ZERO {
+        let next = put(text, at, b' ');
+        let next = put(text, next, b'-');
+        put_number(text, next, STORED_ZERO - stored)
     } else {
-        let after = put(text, next, 45);
-        put_number(text, after, 4294967295 - n + 1)
+        put_figure(text, at, stored - STORED_ZERO)
     }
 }
 
 // Puts reach, depth, Q and head and foot BOD.
-fn put_flows(text: &mut [u8], at: usize, reach: u32, s: &[u8]) -> usize {
-    let a = put_number(text, at, reach);
-    let b = put_signed(text, a, byte_at(s, 2) as u32);
-    let c = put_signed(text, b, four_at(s, 3));
-    let d = put_signed(text, c, four_at(s, 7));
-    put_signed(text, d, four_at(s, 11))
+fn put_flows(text: &mut [u8], at: usize, reach: u32, line: Line) -> usize {
+    let next = put_number(text, at, reach);
+    let next = put_figure(text, next, line.depth as u32);
+    let next = put_figure(text, next, line.flow);
+    let next = put_figure(text, next, line.head_bod);
+    put_figure(text, next, line.foot_bod)
 }
 
 // Puts head oxygen, the critical instant, critical and foot oxygen, and the end of the line.
-fn put_oxygen(text: &mut [u8], at: usize, s: &[u8]) -> usize {
-    let a = put_signed(text, at, four_at(s, 15));
-    let b = put_signed(text, a, two_at(s, 19) as u32);
-    let c = put_signed(text, b, four_at(s, 21));
-    let d = put_signed(text, c, four_at(s, 25));
-    put(text, d, 10)
+fn put_oxygens(text: &mut [u8], at: usize, line: Line) -> usize {
+    let next = put_oxygen(text, at, line.head_oxygen);
+    let next = put_figure(text, next, line.critical_instant as u32);
+    let next = put_oxygen(text, next, line.critical_oxygen);
+    let next = put_oxygen(text, next, line.foot_oxygen);
+    put(text, next, b'\n')
 }
 
-// Puts the line of a reach whose record is at the start of s.
-fn put_line(text: &mut [u8], at: usize, reach: u32, s: &[u8]) -> usize {
-    let next = put_flows(text, at, reach, s);
-    put_oxygen(text, next, s)
+// Puts the line of a reach.
+fn put_line(text: &mut [u8], at: usize, reach: u32, line: Line) -> usize {
+    let next = put_flows(text, at, reach, line);
+    put_oxygens(text, next, line)
 }
 
-// The reach count of a river file whose records a report holds.
-fn reach_count(file: &[u8], report: &[u8]) -> usize
-    ensures { λ r. ⌜ (29 * r ≤ length (now (report .entry))) × (r ≤ 65535) ⌝ }
-{
-    let count = two_at(file, 2) as usize;
-    let held = report.len() / 29;
-    if held < count { held } else { count }
-}
-
-// Puts the lines of all reaches.
+// Puts the lines of all reaches of a river file whose report this is.
 fn put_report(text: &mut [u8], file: &[u8], report: &[u8]) -> usize {
-    let count = reach_count(file, report);
+    let count = two_at(file, 2);
     let mut at: usize = 0;
-    let mut i: usize = 0;
+    let mut i: u16 = 0;
     while i < count {
-        let from = 29 * i;
-        at = put_line(text, at, (i + 1) as u32, &report[from..]);
+        let place = i as usize;
+        if report.len() < RP_SIZE * place + RP_SIZE {
+            return at;
+        }
+        let line = record::read_record(report, RP_SIZE, place);
+        at = put_line(text, at, i as u32 + 1, line);
         i = i + 1;
     }
     at
@@ -120,7 +121,7 @@ fn print_refusal(result: u32) {
 fn main() {
     let mut file = [0u8; 4357];
     let n = io::read_full(0, &mut file);
-    let mut report = [0u8; 3712];
+    let mut report = [0u8; 128 * RP_SIZE];
     let result = report::xylandreo_report(&file[..n], &mut report);
     if result == 0 {
         print_report(&file, &report);

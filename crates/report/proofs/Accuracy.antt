@@ -1,9 +1,11 @@
--- The reported figures of an accepted reach lie near the exact recurrence: a reach adds at most 18 units, so that the errors of BOD and
--- oxygen, added together, are at most 18 units times depth at every instant, and 18 units times the depth above and 5 more at the head.
+-- The reported figures of an accepted reach lie near the exact recurrence. Flow × error is carried down the river: at a head the errors of
+-- BOD and oxygen, added together, are at most the mean of the feeders' allowances, weighed by flow, and what a head adds; along the reach
+-- they stay within the allowance by water, for any number of units a step that covers what a reach adds.
+pub mod Allowance
 pub mod Errors
 use mathlib.Core.List.{[], _∷_}
-use Prim.Native.Nat.{ℕ, _+_, _*_, _≤_, max}
-use native.Mathlib.Nat.{le-max-left, le-max-right, le-refl, mul-le-mul-left}
+use Prim.Native.Nat.{ℕ, _+_, _*_, _≤_}
+use native.Mathlib.Nat.{le-refl, mul-le-mul}
 use native.Mathlib.Omega.{arith}
 use lib.Dec.{lit<}
 use lib.IntN.{pos, _*ℤ_}
@@ -12,7 +14,7 @@ use Rattle.decay.specs.Exact.{exponent, S, F}
 use Rattle.decay.specs.Fixed.{product}
 use Rattle.decay.specs.Promise.{share}
 use Rattle.decay.proofs.Accuracy.{accuracy}
-use Rattle.decay.proofs.Algebra.{quote, certify, slack, number, Nonneg, _⊞_, _⊠_, ≈-refl, ≈-trans, ≼-trans, ≼-by, +ᶠ-cong, ofℤ-+, ofℤ-*, ofℕ-mono, ofℕ-+, ofℕ-*, positive-whole, ÷-cancel-pos, ÷-nonneg, Small, Within, ring, within-of-≈, within-by, within-sum, within-scale, within-distance, distance→within}
+use Rattle.decay.proofs.Algebra.{quote, certify, slack, number, Nonneg, _⊞_, _⊠_, ≈-refl, ≈-trans, ≼-trans, +ᶠ-cong, ofℤ-+, ofℤ-*, ofℕ-mono, ofℕ-+, ofℕ-*, positive-whole, ÷-cancel-pos, ÷-nonneg, Small, Within, within-of-≈, within-by, within-sum, within-scale, within-distance, distance→within}
 use Rattle.decay.proofs.Algebra.Rational.{*ᶠ-comm}
 use Rattle.river.specs.declared.card.Card.{Card}
 use Rattle.river.specs.Flow.{Feeders, more, fed, flowOf, reachFlow, deepest, reachDepth}
@@ -22,23 +24,25 @@ use Rattle.river.specs.Head.{upstreamDemand, upstreamOxygen, belowDam, headDema
 use Rattle.river.proofs.head.Bounds.{saturation-of-small}
 use Rattle.report.specs.Program.{bodSum, oxygenSum, bodAtHead, oxygenAtHead, bodAt, oxygenAt, bodAlong, oxygenAlong, bodWith, factorsAlong, foot}
 use Rattle.report.specs.Recurrence.{exactSaturation, exactMean, exactBelowDam, exactHeadDemand, exactHeadOxygen, exactBodSum, exactOxygenSum, exactBodAtHead, exactOxygenAtHead, exactBodAlong, exactOxygenAlong, exactBodAt, exactOxygenAt}
+use Rattle.report.specs.Distance.{meanAllowance, allowanceSum, broughtAllowance, waterAllowance}
 use Rattle.report.proofs.Forest.{AcceptedReach, AllAccepted, no-more, one-more, rates-pass}
 use Rattle.report.proofs.Ties.{factors-range}
 use Rattle.report.proofs.Facts.Head.{damPart, bod-mean, oxygen-mean, below-dam, demand-mixed, oxygen-mixed}
 use Rattle.report.proofs.Facts.Instant.{product-floored, shares-in-range, keptDeficit, kept-floored, oxygen-parts}
 use Rattle.report.proofs.Facts.Exact.{saturation-low, saturation-high, exact-bod-mean, exact-oxygen-mean, exact-below-dam, exact-demand-mixed, exact-oxygen-mixed}
 use Rattle.report.proofs.Bounds.{head-ranged}
-use Rattle.report.proofs.Accuracy.Errors.{Near, HeadSteps, head-near, InstantSteps, instant-near, reach-adds}
+use Rattle.report.proofs.Accuracy.Allowance.{brought-by-depth}
+use Rattle.report.proofs.Accuracy.Errors.{Near, HeadSteps, head-near, InstantSteps, instant-near, headUnits, addedUnits, reach-adds}
 
 -- the distance promised of the factors
 abbrev ε : Fraction
-ε = ofℕ 1 ÷ ofℕ 268435456
+ε = ofℕ 1 ÷ ofℕ 268_435_456
 
-ε-equation : ofℕ 268435456 *ᶠ ε ≈ ofℕ 1
-ε-equation = ≈-trans (*ᶠ-comm (ofℕ 268435456) ε) (÷-cancel-pos (ofℕ 1) (positive-whole (lit< tt)))
+ε-equation : ofℕ 268_435_456 *ᶠ ε ≈ ofℕ 1
+ε-equation = ≈-trans (*ᶠ-comm (ofℕ 268_435_456) ε) (÷-cancel-pos (ofℕ 1) (positive-whole (lit< tt)))
 
 ε-nonneg : Nonneg ε
-ε-nonneg = ÷-nonneg (number 1) (number 268435456)
+ε-nonneg = ÷-nonneg (number 1) (number 268_435_456)
 
 -- more room, and equal oxygen
 near-weaken : {b bx o ox e f : Fraction} → e ≼ f → Near b bx o ox e → Near b bx o ox f
@@ -50,22 +54,22 @@ near-at {ox = ox} h n =
     record { bod-error = n .bod-error; oxygen-error = n .oxygen-error; bod-near = n .bod-near; oxygen-near = within-by h (≈-refl ox) (n .oxygen-near); together = n .together }
 
 -- a foot times its flow, with the other feet
-near-join : {b bx o ox a s sx t tx e c u f : Fraction} (Q : Fraction) → Nonneg Q → c ≈ Q *ᶠ b +ᶠ s → u ≈ Q *ᶠ o +ᶠ t → Q *ᶠ a +ᶠ e ≼ f → Near b bx o ox a → Near s sx t tx e → Near c (Q *ᶠ bx +ᶠ sx) u (Q *ᶠ ox +ᶠ tx) f
-near-join {bx = bx} {ox = ox} {a = a} {sx = sx} {tx = tx} {e = e} {f = f} Q p ec eu h m n =
+near-join : {b bx o ox a s sx t tx e c u : Fraction} (Q : Fraction) → Nonneg Q → c ≈ Q *ᶠ b +ᶠ s → u ≈ Q *ᶠ o +ᶠ t → Near b bx o ox a → Near s sx t tx e → Near c (Q *ᶠ bx +ᶠ sx) u (Q *ᶠ ox +ᶠ tx) (Q *ᶠ a +ᶠ e)
+near-join {bx = bx} {ox = ox} {a = a} {sx = sx} {tx = tx} {e = e} Q p ec eu m n =
     record {
       bod-error = Q *ᶠ m .bod-error +ᶠ n .bod-error;
       oxygen-error = Q *ᶠ m .oxygen-error +ᶠ n .oxygen-error;
       bod-near = within-by ec (≈-refl (Q *ᶠ bx +ᶠ sx)) (within-sum (within-scale p (m .bod-near)) (n .bod-near));
       oxygen-near = within-by eu (≈-refl (Q *ᶠ ox +ᶠ tx)) (within-sum (within-scale p (m .oxygen-near)) (n .oxygen-near));
-      together = certify (Q ∷ a ∷ e ∷ f ∷ m .bod-error ∷ m .oxygen-error ∷ n .bod-error ∷ n .oxygen-error ∷ []) (p ⊠ slack (m .together) ⊞ slack (n .together) ⊞ slack h) (search quote depth 40 fits 9999) tt;
+      together = certify (Q ∷ a ∷ e ∷ m .bod-error ∷ m .oxygen-error ∷ n .bod-error ∷ n .oxygen-error ∷ []) (p ⊠ slack (m .together) ⊞ slack (n .together)) (search quote depth 40 fits 9999) tt;
     }
 
 -- the deficit at a head
-deficit-small : (cs c k : Fraction) → Nonneg cs → cs ≼ ofℕ 14652000 → ofℕ 0 ≼ c +ᶠ ofℕ 1000000384 → c ≼ k → k ≼ ofℕ 20000128 → Small (cs -ᶠ c) (ofℕ 1020000000)
+deficit-small : (cs c k : Fraction) → Nonneg cs → cs ≼ ofℕ 14_652_000 → ofℕ 0 ≼ c +ᶠ ofℕ 1_000_000_384 → c ≼ k → k ≼ ofℕ 20_000_128 → Small (cs -ᶠ c) (ofℕ 1_020_000_000)
 deficit-small cs c k p h low high hk =
     record {
-      high = certify (cs ∷ c ∷ []) (slack h ⊞ low ⊞ number 5347616) (search quote depth 40 fits 9999) tt;
-      low = certify (cs ∷ c ∷ k ∷ []) (p ⊞ slack high ⊞ slack hk ⊞ number 999999872) (search quote depth 40 fits 9999) tt;
+      high = certify (cs ∷ c ∷ []) (slack h ⊞ low ⊞ number 5_347_616) (search quote depth 40 fits 9999) tt;
+      low = certify (cs ∷ c ∷ k ∷ []) (p ⊞ slack high ⊞ slack hk ⊞ number 999_999_872) (search quote depth 40 fits 9999) tt;
     }
 
 rounded-saturation : (card : Card) → Within (ofℕ (saturationOf card)) (exactSaturation card) (ofℕ 1)
@@ -75,29 +79,30 @@ rounded-saturation card =
       low = certify (ofℕ (saturationOf card) ∷ exactSaturation card ∷ []) (slack (saturation-high card)) (search quote depth 40 fits 9999) tt;
     }
 
--- the depth of a feeder's foot is at most that of all feeders together
-deeper : (Q R d e : ℕ) → ofℕ Q *ᶠ (ofℕ (18 * d) +ᶠ ofℕ 18) +ᶠ ofℕ R *ᶠ ofℕ (18 * e) ≼ ofℕ (Q + R) *ᶠ ofℕ (18 * max (1 + d) e)
-deeper Q R d e = ≼-by left (ofℕ-mono whole) (ofℕ-* (Q + R) (18 * max (1 + d) e))
-  where
-    left : ofℕ Q *ᶠ (ofℕ (18 * d) +ᶠ ofℕ 18) +ᶠ ofℕ R *ᶠ ofℕ (18 * e) ≈ ofℕ (Q * (18 * d + 18) + R * (18 * e))
-    left = ring (ofℕ Q ∷ ofℕ R ∷ ofℕ d ∷ ofℕ e ∷ []) (search quote depth 40 fits 9999) tt
+-- units a step that cover what a reach adds; they are few, so that 128 steps make no more than 1 mg/L
+pub record Covers (units : ℕ) : Type 0 where
+  pub added : addedUnits ≤ units
+  pub few : units ≤ 1_000
 
-    whole : Q * (18 * d + 18) + R * (18 * e) ≤ (Q + R) * (18 * max (1 + d) e)
-    whole = omega (arith, mul-le-mul-left Q (le-max-left (1 + d) e), mul-le-mul-left R (le-max-right (1 + d) e))
+-- what is carried to an accepted reach is at most 1 mg/L
+carried-small : {units : ℕ} {card : Card} {up : Feeders} → Covers units → AcceptedReach card up → AllAccepted up → reachDepth up ≤ 128 → broughtAllowance units card up ≼ ofℕ 1_000_000
+carried-small {units} {card} {up} covers own above shallow =
+    let deep : deepest up ≤ 127 = omega arith in
+    ≼-trans (brought-by-depth units own above) (ofℕ-mono (omega (arith, mul-le-mul (covers .few) deep)))
 
-module _ (N : ℕ) (long : 40 ≤ N) where
+module _ (N : ℕ) (long : 40 ≤ N) {units : ℕ} (covers : Covers units) where
   -- what is to be shown of feet, heads and instants
   abbrev pub FeetNear : Feeders → Type 0
-  FeetNear up = Near (ofℕ (bodSum up)) (exactBodSum N up) (ofℤ (oxygenSum up)) (exactOxygenSum N up) (ofℕ (flowOf up) *ᶠ ofℕ (18 * deepest up))
+  FeetNear up = Near (ofℕ (bodSum up)) (exactBodSum N up) (ofℤ (oxygenSum up)) (exactOxygenSum N up) (allowanceSum units up)
 
   abbrev pub HeadNear : Card → Feeders → Type 0
-  HeadNear card up = Near (ofℕ (bodAtHead card up)) (exactBodAtHead N card up) (ofℤ (oxygenAtHead card up)) (exactOxygenAtHead N card up) (ofℕ (18 * deepest up) +ᶠ ofℕ 5)
+  HeadNear card up = Near (ofℕ (bodAtHead card up)) (exactBodAtHead N card up) (ofℤ (oxygenAtHead card up)) (exactOxygenAtHead N card up) (broughtAllowance units card up +ᶠ ofℕ headUnits)
 
   abbrev pub InstantNear : Card → Feeders → ℕ → Type 0
-  InstantNear card up m = Near (ofℕ (bodAt card up m)) (exactBodAt N card up m) (ofℤ (oxygenAt card up m)) (exactOxygenAt N card up m) (ofℕ (18 * deepest up) +ᶠ ofℕ 18)
+  InstantNear card up m = Near (ofℕ (bodAt card up m)) (exactBodAt N card up m) (ofℤ (oxygenAt card up m)) (exactOxygenAt N card up m) (waterAllowance units card up)
 
   pub head-is-near : {card : Card} {up : Feeders} → AcceptedReach card up → AllAccepted up → FeetNear up → HeadNear card up
-  unfolding bodAtHead oxygenAtHead headDemand headOxygen exactBodAtHead exactOxygenAtHead exactHeadDemand exactHeadOxygen
+  unfolding bodAtHead oxygenAtHead headDemand headOxygen exactBodAtHead exactOxygenAtHead exactHeadDemand exactHeadOxygen broughtAllowance meanAllowance
   head-is-near {card} {up} own above n =
       let Qu = flowOf up in
       let u = upstreamDemand (fed up) Qu (bodSum up) in
@@ -126,9 +131,9 @@ module _ (N : ℕ) (long : 40 ≤ N) where
         exact-bod-mixed = exact-demand-mixed (bodSource card) Qu ux flowing;
         exact-oxygen-mixed = exact-oxygen-mixed card Qu wx flowing;
       }
-      in head-near (ofℕ (18 * deepest up)) (number (18 * deepest up)) steps n
+      in head-near steps n
 
-  pub instant-is-near : {card : Card} {up : Feeders} → AcceptedReach card up → AllAccepted up → reachDepth up ≤ 128 → HeadNear card up → (m : ℕ) → m ≤ 1024 → InstantNear card up m
+  pub instant-is-near : {card : Card} {up : Feeders} → AcceptedReach card up → AllAccepted up → reachDepth up ≤ 128 → HeadNear card up → (m : ℕ) → m ≤ foot → InstantNear card up m
   unfolding bodAt oxygenAt bodAlong oxygenAlong bodWith factorsAlong exactBodAt exactOxygenAt exactBodAlong exactOxygenAlong
   instant-is-near {card} {up} own above shallow n m l =
       let Q = reachFlow card up in
@@ -142,7 +147,7 @@ module _ (N : ℕ) (long : 40 ≤ N) where
       let S₂ = S N (exponent (card .k2) (card .volume) Q m) in
       let accurate = accuracy long l (rates-pass own) in
       let range = head-ranged own above shallow in
-      let steps : InstantSteps (share (f .left)) (share (f .turned)) (share (f .kept)) S₁ F₁ S₂ (distance (share (f .left)) S₁) (distance (share (f .turned)) F₁) ε (ofℕ L) (ofℤ C) (ofℕ Cs) Csx (ofℕ (product (f .left) L)) (ofℕ (product (f .turned) L)) (ofℤ (keptDeficit f Cs C)) (ofℕ 1020000000) =
+      let steps : InstantSteps (share (f .left)) (share (f .turned)) (share (f .kept)) S₁ F₁ S₂ (distance (share (f .left)) S₁) (distance (share (f .turned)) F₁) ε (ofℕ L) (ofℤ C) (ofℕ Cs) Csx (ofℕ (product (f .left) L)) (ofℕ (product (f .turned) L)) (ofℤ (keptDeficit f Cs C)) (ofℕ 1_020_000_000) =
       record {
         shares = shares-in-range f (factors-range own m);
         left-near = within-distance (share (f .left)) S₁;
@@ -157,21 +162,22 @@ module _ (N : ℕ) (long : 40 ≤ N) where
         saturation-near = rounded-saturation card;
       }
       in
-      near-weaken (reach-adds ε (ofℕ L) (ofℕ (18 * deepest up)) ε-nonneg ε-equation (range .bod-range) (ofℕ-mono (omega arith)))
-      (near-at (oxygen-parts f Cs L C) (instant-near (exactBodAtHead N card up) (exactOxygenAtHead N card up) (ofℕ (18 * deepest up) +ᶠ ofℕ 5) steps n))
+      near-weaken
+      (reach-adds ε (ofℕ L) (broughtAllowance units card up) (ofℕ units) ε-nonneg ε-equation (range .bod-range) (carried-small covers own above shallow) (ofℕ-mono (covers .added)))
+      (near-at (oxygen-parts f Cs L C) (instant-near (exactBodAtHead N card up) (exactOxygenAtHead N card up) (broughtAllowance units card up +ᶠ ofℕ headUnits) steps n))
 
   -- the foot of a feeder, times its flow, with the other feet
   feet-join : (card : Card) (up rest : Feeders) → InstantNear card up foot → FeetNear rest → FeetNear (more card up rest)
-  unfolding flowOf deepest bodSum oxygenSum bodAt oxygenAt bodAtHead oxygenAtHead exactBodSum exactOxygenSum exactBodAt exactOxygenAt exactBodAtHead exactOxygenAtHead
+  unfolding bodSum oxygenSum bodAt oxygenAt bodAtHead oxygenAtHead exactBodSum exactOxygenSum exactBodAt exactOxygenAt exactBodAtHead exactOxygenAtHead allowanceSum broughtAllowance
   feet-join card up rest x y =
       let Q = reachFlow card up in
       near-join (ofℕ Q) (number Q)
       (≈-trans (ofℕ-+ (Q * bodAt card up foot) (bodSum rest)) (+ᶠ-cong (ofℕ-* Q (bodAt card up foot)) (≈-refl (ofℕ (bodSum rest)))))
       (≈-trans (ofℤ-+ (pos Q *ℤ oxygenAt card up foot) (oxygenSum rest)) (+ᶠ-cong (ofℤ-* (pos Q) (oxygenAt card up foot)) (≈-refl (ofℤ (oxygenSum rest)))))
-      (deeper Q (flowOf rest) (deepest up) (deepest rest)) x y
+      x y
 
   pub feet-are-near : {up : Feeders} → AllAccepted up → deepest up ≤ 127 → FeetNear up
-  unfolding flowOf deepest bodSum oxygenSum exactBodSum exactOxygenSum
+  unfolding deepest bodSum oxygenSum exactBodSum exactOxygenSum allowanceSum
   feet-are-near no-more h =
       record {
         bod-error = ofℕ 0;

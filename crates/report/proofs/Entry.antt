@@ -1,10 +1,9 @@
 -- The entry's contract follows from its result and the buffer that it leaves: 0 is no refusal's result, and the figures read
 -- back from the bytes are those of the definitions, for which demand 3 holds. Assumes nothing.
 pub mod Numbers
-pub mod Report
 use mathlib.Core.Path.{_≡_, refl, sym, ap, _∙_, subst}
 use mathlib.Core.List.{List, _++_}
-use Prim.Native.Nat.{ℕ, zero, suc, _-_, _*_, _≤_, _<_}
+use Prim.Native.Nat.{ℕ, zero, suc, _-_, _≤_, _<_}
 use native.Mathlib.Omega.{arith}
 use borrow.Author.Tests.{lt-ltb, le-ltb, le-leb, lt-leb, leb-true}
 use lib.Dec.{leb→le}
@@ -18,29 +17,30 @@ use Rattle.river.specs.Bytes.{AreBytes}
 use Rattle.river.specs.Card.{river}
 use Rattle.river.specs.Refusal.{Answer, accepted, refused, refuse, after, codeOf, outcomeOf}
 use Rattle.river.specs.Flow.{cardOf, above}
+use Rattle.river.specs.Stored.{storedZero}
 use Rattle.river.specs.Accept.{Accepts, acceptFile}
 use Rattle.river.proofs.Answers.{passed, went, need-true, need-false, after-accepted, after-refused}
 use Rattle.report.specs.Program.{oxygenAt, figuresOf, figuresAt, foot}
-use Rattle.report.specs.Distance.{WithinAllowance}
-use Rattle.report.specs.Record.{complement, fromComplement, readRecord, Figures}
-use Rattle.report.specs.Report.{reportOf, roomAnswer, reportAnswer, resultOf, bufferReported, recordAt, Accepted, Reports}
+use Rattle.report.specs.Distance.{allowanceAt, WithinAllowance}
+use Rattle.report.specs.Record.{complement, fromComplement, recordSize, recordAt, readRecord, Figures}
+use Rattle.report.specs.Report.{recordOf, reportOf, reportSize, roomAnswer, reportAnswer, resultOf, bufferReported, figuresRead, Accepted, Reports}
 use Rattle.report.specs.Lines.{Ready}
 use Rattle.report.proofs.Lowest.{lowest-first}
 use Rattle.report.proofs.Bounds.{Range}
 use Rattle.report.proofs.River.{IsRiver, river-of-file, head-in-range, instant-in-range, reach-within-allowance}
-use Rattle.report.proofs.record.Encoding.{Writable}
+use Rattle.report.proofs.record.Encoding.{Writable, record-length, read-back}
+use Rattle.report.proofs.record.Rows.{Begins, stands}
 use Rattle.report.proofs.Entry.Numbers.{Numbered, report-numbered}
-use Rattle.report.proofs.Entry.Report.{read-at}
 
 -- two's complement holds the oxygen of an accepted river
 complement-back : {b : ℕ} (z : ℤ) → Range b z → fromComplement (complement z) ≡ z
 unfolding complement fromComplement
 complement-back (pos n) r =
-    let h : n ≤ 20000128 = leb→le n 20000128 (r .oxygen-high .le) in
-    rw (lt-ltb n 2147483648 (omega arith))
+    let h : n ≤ 20_000_128 = leb→le n 20_000_128 (r .oxygen-high .le) in
+    rw (lt-ltb n storedZero (omega arith))
 complement-back (negsuc n) r =
-    let h : n ≤ 1000000383 = leb→le n 1000000383 (r .oxygen-low .le) in
-    rw (le-ltb (4294967295 - n) 2147483648 (omega arith)) (ap negsuc (omega arith))
+    let h : n ≤ 1_000_000_383 = leb→le n 1_000_000_383 (r .oxygen-low .le) in
+    rw (le-ltb (4_294_967_295 - n) storedZero (omega arith)) (ap negsuc (omega arith))
 
 writable : {cards : List Card} → IsRiver cards → (i : ℕ) → i < length cards → Writable (figuresAt cards (suc i))
 unfolding figuresOf oxygenAt
@@ -58,7 +58,19 @@ pub answers : (file : List ℕ) {room : ℕ} (river : Accepted file room) → re
 unfolding reportAnswer roomAnswer
 answers file {room} river =
     after-accepted (acceptFile file) _ (river .passes)
-    ∙ need-true _ 12 0 _ (le-leb (29 * length (river .cards)) room (river .holds))
+    ∙ need-true _ 12 0 _ (le-leb (reportSize (river .cards)) room (river .holds))
+
+-- the record of each reach of a reported river stands at its place
+pub record-stands :
+    (file before : List ℕ) {after : List ℕ} →
+    after ≡ bufferReported (reportAnswer file (length before)) before →
+    (river : Accepted file (length before)) (i : ℕ) →
+    i < length (river .cards) →
+    Begins (recordOf (river .cards) i) (recordAt (recordSize (river .cards)) after i)
+unfolding bufferReported
+record-stands file before buffer river i l =
+    rw (buffer, answers file river)
+    (stands (recordOf (river .cards)) (recordSize (river .cards)) (λ j. record-length (river .cards) (figuresAt (river .cards) (suc j))) (length (river .cards)) i (drop (reportSize (river .cards)) before) l)
 
 module _ (file before : List ℕ) where
   answered : (x : Answer (List Card)) → reportAnswer file (length before) ≡ x → Numbered x → resultOf x ≡ 0 → Accepted file (length before)
@@ -74,11 +86,10 @@ module _ (file before : List ℕ) where
     is-river = river-of-file file bytes (river .passes)
 
     -- the figures in the bytes are those of the reach
-    figures-read : readRecord (recordAt after i) ≡ figuresAt (river .cards) (suc i)
-    unfolding bufferReported
+    figures-read : figuresRead (river .cards) after i ≡ figuresAt (river .cards) (suc i)
     figures-read =
-        ap (λ (b : List ℕ). readRecord (recordAt b i)) (buffer ∙ ap (λ (a : Answer (List Card)). bufferReported a before) (answers file river))
-        ∙ read-at (river .cards) (length (river .cards)) i (drop (29 * length (river .cards)) before) l (writable is-river i l)
+        let s = record-stands file before buffer river i l in
+        ap readRecord (s .is) ∙ read-back (figuresAt (river .cards) (suc i)) (s .rest) (writable is-river i l)
 
 -- a refusal leaves the buffer as it was
 left-alone : (x : Answer (List Card)) (before : List ℕ) → (resultOf x ≡ 0 → ⊥) → bufferReported x before ≡ before
@@ -106,7 +117,7 @@ reports-of file before after result bytes answer buffer =
       flow = λ river i l. ap (λ (f : Figures). f .flow) (figures-read file before bytes buffer river i l);
       within =
           λ river i l N long.
-          subst (WithinAllowance N (cardOf (river .cards) (suc i)) (above (river .cards) (suc i))) (sym (figures-read file before bytes buffer river i l))
+          subst (λ (f : Figures). WithinAllowance N (cardOf (river .cards) (suc i)) (above (river .cards) (suc i)) f (allowanceAt (river .cards) (suc i))) (sym (figures-read file before bytes buffer river i l))
           (reach-within-allowance (is-river file before bytes buffer river i l) i l N long);
     }
 
@@ -120,7 +131,7 @@ module _ {file before : List ℕ} (bytes : AreBytes file) where
   pub reports-river :
       {after : List ℕ} {cards : List Card} →
       reportAnswer file (length before) ≡ accepted cards →
-      after ≡ reportOf cards ++ drop (29 * length cards) before →
+      after ≡ reportOf cards ++ drop (reportSize cards) before →
       Reports file before after 0
   unfolding resultOf bufferReported
   reports-river {after} e b =
@@ -139,16 +150,16 @@ module _ {file : List ℕ} {r : Acceptance} (h : Accepts file r) where
   pub file-short :
       (room : ℕ) →
       r .outcome ≡ Outcome.Accepted →
-      room < 29 * length (river (r .cards)) →
+      room < reportSize (river (r .cards)) →
       reportAnswer file room ≡ refused (refuse 12 0)
   unfolding reportAnswer roomAnswer
   file-short room e l =
-      after-accepted (acceptFile file) _ (file-accepted e) ∙ need-false _ 12 0 _ (lt-leb (29 * length (river (r .cards))) room l)
+      after-accepted (acceptFile file) _ (file-accepted e) ∙ need-false _ 12 0 _ (lt-leb (reportSize (river (r .cards))) room l)
 
   pub file-held :
       (room : ℕ) →
       r .outcome ≡ Outcome.Accepted →
-      29 * length (river (r .cards)) ≤ room →
+      reportSize (river (r .cards)) ≤ room →
       reportAnswer file room ≡ accepted (river (r .cards))
   file-held room e l = answers file (record { cards = river (r .cards); passes = file-accepted e; holds = l })
 

@@ -17,7 +17,7 @@ use Rattle.river.specs.Accept.{acceptFile}
 use Rattle.river.specs.Saturation.{saturationThousandths}
 use Rattle.report.specs.Record.{Figures}
 use Rattle.report.specs.Recurrence.{exactSaturation, exactMean, exactBelowDam, exactMixedDemand, exactMixedOxygen, exactHeadDemand, exactHeadOxygen, exactBodAlong, exactOxygenAlong, exactBodSum, exactBodAtHead, exactOxygenAtHead, exactBodAt, exactOxygenAt}
-use Rattle.report.specs.Distance.{allowance, WithinAllowance}
+use Rattle.report.specs.Distance.{stepUnits, allowanceAt, WithinAllowance}
 
 -- the reach of document 01's bench values, by outlet and inflow
 abbrev reach : (outlet inflow : ℕ) → Card
@@ -43,12 +43,12 @@ accepted-two : acceptFile (encode two) ≡ accepted two
 unfolding acceptFile encode readFile readHeader readReaches readReach readDam cardAt countOk inRange outletOk need after choose flowCheck checksFrom reachChecks damFits feedersAmong joinedIf fed flowOf massOf
 accepted-two = refl
 
+abbrev allowed : ℕ → Fraction
+allowed i = allowanceAt two i
+
 -- the figures are within the allowance of reach i
 abbrev pub NearReach : ℕ → Figures → Type 0
-NearReach i f = WithinAllowance 40 (cardOf two i) (above two i) f
-
-abbrev allowed : ℕ → Fraction
-allowed i = allowance (above two i)
+NearReach i f = WithinAllowance 40 (cardOf two i) (above two i) f (allowed i)
 
 abbrev headBod : ℕ → Fraction
 headBod i = exactBodAtHead 40 (cardOf two i) (above two i)
@@ -61,7 +61,7 @@ record Apart : Type 0 where
   heads : headBod 1 -ᶠ headBod 2 ≼ allowed 1 +ᶠ allowed 2 → ⊥
 
 apart : Apart
-unfolding ofℤ _+ᶠ_ -ᶠ_ _*ᶠ_ _÷_ over exponent power factorial term sum S F feedersAmong joinedIf fed flowOf deepest saturationThousandths exactSaturation exactMean exactBelowDam exactMixedDemand exactMixedOxygen exactHeadDemand exactHeadOxygen exactBodAlong exactOxygenAlong exactBodSum exactBodAtHead exactOxygenAtHead exactBodAt exactOxygenAt
+unfolding ofℤ _+ᶠ_ -ᶠ_ _*ᶠ_ _÷_ over exponent power factorial term sum S F feedersAmong joinedIf fed flowOf deepest stepUnits saturationThousandths exactSaturation exactMean exactBelowDam exactMixedDemand exactMixedOxygen exactHeadDemand exactHeadOxygen exactBodAlong exactOxygenAlong exactBodSum exactBodAtHead exactOxygenAtHead exactBodAt exactOxygenAt
 apart = record { head-foot-bod = λ h. h .across .le; head-foot-oxygen = λ h. h .across .le; heads = λ h. h .across .le }
 
 -- of two distances that together are at most e, each is

@@ -13,7 +13,7 @@ use Rattle.river.specs.Refusal.{accepted}
 use Rattle.river.specs.Flow.{cardOf, above, Flows}
 use Rattle.river.proofs.Acceptance.{accepts-exactly}
 use Rattle.report.specs.Program.{bodAtHead, oxygenAtHead, bodAt, oxygenAt, figuresAt, figuresOf, foot}
-use Rattle.report.specs.Distance.{WithinAllowance}
+use Rattle.report.specs.Distance.{allowanceAt, WithinAllowance}
 use Rattle.report.proofs.Forest.{AcceptedReach, AllAccepted, reach-accepted, above-accepted, reach-shallow}
 use Rattle.report.proofs.Bounds.{Range, head-range, instant-range}
 use Rattle.report.proofs.Ties.{bod-at-most-head, reach-bod-stays, reach-oxygen-stays}
@@ -80,5 +80,5 @@ module _ {cards : List Card} (river : IsRiver cards) (i : ℕ) (l : i < length c
   critical-is-first-lowest = lowest-first (oxygenAt (cardOf cards (suc i)) (above cards (suc i))) foot
 
   -- demand 3
-  pub reach-within-allowance : (N : ℕ) → 40 ≤ N → WithinAllowance N (cardOf cards (suc i)) (above cards (suc i)) (figuresAt cards (suc i))
+  pub reach-within-allowance : (N : ℕ) → 40 ≤ N → WithinAllowance N (cardOf cards (suc i)) (above cards (suc i)) (figuresAt cards (suc i)) (allowanceAt cards (suc i))
   reach-within-allowance N long = demand-3 N long cards (river .lawful) (river .flows) i l

@@ -1,2 +1,3 @@
 -- Laws of a record.
 pub mod Encoding
+pub mod Rows

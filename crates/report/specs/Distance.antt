@@ -1,26 +1,55 @@
 -- Demand 3 for a reach: how far its reported figures may stray from the exact recurrence at the series length N.
-use Prim.Native.Nat.{ℕ, _*_, _≤_}
-use Rattle.decay.specs.Fraction.{Fraction, ofℕ, ofℤ, _≼_, _+ᶠ_, _-ᶠ_, distance}
+use mathlib.Core.List.{List}
+use Prim.Native.Nat.{ℕ, _+_, _*_, _≤_}
+use Rattle.decay.specs.Fraction.{Fraction, ofℕ, ofℤ, _≼_, _+ᶠ_, _-ᶠ_, _*ᶠ_, _÷_, distance}
 use Rattle.decay.specs.Exact.{foot}
 use Rattle.river.specs.declared.card.Card.{Card}
-use Rattle.river.specs.Flow.{Feeders, reachDepth}
+use Rattle.river.specs.Flow.{Feeders, none, more, flowOf, reachFlow, reachDepth, above}
 use Rattle.report.specs.Recurrence.{exactBodAtHead, exactOxygenAtHead, exactBodAt, exactOxygenAt}
 use Rattle.report.specs.Record.{Figures}
 
--- the distance allowed: 0.0001 mg/L, which is 100 units, times the depth of the reach
-abbrev pub allowance : Feeders → Fraction
-allowance up = ofℕ (100 * reachDepth up)
+-- the units that a river allows for each step of depth: 0.0001 mg/L, which is 100 units
+unfoldable pub stepUnits : List Card → ℕ
+stepUnits cards = 100
 
--- the figures of a reach lie within the allowance of the exact recurrence
-pub record WithinAllowance (N : ℕ) (card : Card) (up : Feeders) (f : Figures) : Type 0 where
+-- units times the depth of a reach
+abbrev pub allowance : (units : ℕ) → Feeders → Fraction
+allowance units up = ofℕ (units * reachDepth up)
+
+-- the distance allowed at reach i of a river
+abbrev pub allowanceAt : List Card → ℕ → Fraction
+allowanceAt cards i = allowance (stepUnits cards) (above cards i)
+
+-- the figures of a reach lie within a distance of the exact recurrence
+pub record WithinAllowance (N : ℕ) (card : Card) (up : Feeders) (f : Figures) (allowed : Fraction) : Type 0 where
   -- at the head, the errors of BOD and of oxygen, added together
   pub at-head :
-      distance (ofℕ (f .head-bod)) (exactBodAtHead N card up) +ᶠ distance (ofℤ (f .head-oxygen)) (exactOxygenAtHead N card up) ≼ allowance up
+      distance (ofℕ (f .head-bod)) (exactBodAtHead N card up) +ᶠ distance (ofℤ (f .head-oxygen)) (exactOxygenAtHead N card up) ≼ allowed
   -- at the foot likewise
   pub at-foot :
-      distance (ofℕ (f .foot-bod)) (exactBodAt N card up foot) +ᶠ distance (ofℤ (f .foot-oxygen)) (exactOxygenAt N card up foot) ≼ allowance up
-  -- critical oxygen lies within the allowance of exact oxygen at the reported instant, one of the 1,025
+      distance (ofℕ (f .foot-bod)) (exactBodAt N card up foot) +ᶠ distance (ofℤ (f .foot-oxygen)) (exactOxygenAt N card up foot) ≼ allowed
+  -- critical oxygen lies within the distance of exact oxygen at the reported instant, one of the 1,025
   pub in-reach : f .critical-instant ≤ foot
-  pub at-critical : distance (ofℤ (f .critical-oxygen)) (exactOxygenAt N card up (f .critical-instant)) ≼ allowance up
-  -- at no instant is exact oxygen lower than critical oxygen by more than the allowance
-  pub nowhere-lower : (m : ℕ) → m ≤ foot → ofℤ (f .critical-oxygen) -ᶠ allowance up ≼ exactOxygenAt N card up m
+  pub at-critical : distance (ofℤ (f .critical-oxygen)) (exactOxygenAt N card up (f .critical-instant)) ≼ allowed
+  -- at no instant is exact oxygen lower than critical oxygen by more than the distance
+  pub nowhere-lower : (m : ℕ) → m ≤ foot → ofℤ (f .critical-oxygen) -ᶠ allowed ≼ exactOxygenAt N card up m
+
+-- What the proof carries down the river is the allowance by water, which is at most that by depth.
+
+-- the mean of the feeders' allowances, weighed by flow, inflow water counting as zero; sum is that of Q × allowance
+unfoldable pub meanAllowance : Card → (Qu : ℕ) (sum : Fraction) → Fraction
+meanAllowance card Qu sum = sum ÷ ofℕ (Qu + card .inflow)
+
+module _ (units : ℕ) where
+  -- the sum over the feeders of Q × allowance
+  unfoldable pub allowanceSum : Feeders → Fraction
+  allowanceSum none = ofℕ 0
+  allowanceSum (more card up rest) =
+      ofℕ (reachFlow card up) *ᶠ (ofℕ units +ᶠ meanAllowance card (flowOf up) (allowanceSum up)) +ᶠ allowanceSum rest
+
+  -- the mean that is brought to a reach, and its allowance by water: its own units and that mean
+  unfoldable pub broughtAllowance : Card → Feeders → Fraction
+  broughtAllowance card up = meanAllowance card (flowOf up) (allowanceSum up)
+
+  abbrev pub waterAllowance : Card → Feeders → Fraction
+  waterAllowance card up = ofℕ units +ᶠ broughtAllowance card up

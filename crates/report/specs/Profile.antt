@@ -12,10 +12,10 @@ use Rattle.report.specs.declared.profile.Profile.{Profile}
 
 -- the ranges in which no number of a reach leaves four bytes
 pub record StartInRange (start : Start) : Type 0 where
-  pub bod : start .bod ≤ 1000000000
-  pub low : 1000000000 ≤ start .oxygen
-  pub high : start .oxygen < 4294967296
-  pub saturation : start .saturation ≤ 1000000000
+  pub bod : start .bod ≤ 1_000_000_000
+  pub low : 1_000_000_000 ≤ start .oxygen
+  pub high : start .oxygen < 4_294_967_296
+  pub saturation : start .saturation ≤ 1_000_000_000
 
 -- oxygen at instant m
 abbrev pub oxygenAfter : Step → Start → ℕ → ℤ

@@ -1,9 +1,11 @@
--- The `RP` record of a reach: its figures as bytes, and the figures read back from bytes.
+-- The `RP` record of a reach: its figures as bytes, its size, and the figures read back from bytes.
 use mathlib.Core.Bool.{cond}
 use mathlib.Core.List.{List, _∷_, _++_}
-use Prim.Native.Nat.{ℕ, _-_}
+use Prim.Native.Nat.{ℕ, _*_, _-_}
 use lib.Dec.{ltb}
 use lib.IntN.{ℤ, pos, negsuc}
+use lib.ListN.{drop}
+use Rattle.river.specs.declared.card.Card.{Card}
 use Rattle.river.specs.Bytes.{twoBytes, fourBytes, byteAt, twoAt, fourAt}
 use Rattle.river.specs.Stored.{oxygenOf}
 use Rattle.report.specs.declared.record.Line.{Line}
@@ -36,12 +38,12 @@ figuresIn l =
 -- oxygen in two's complement, as the whole number in its four bytes, and back
 unfoldable pub complement : ℤ → ℕ
 complement (pos n) = n
-complement (negsuc n) = 4294967295 - n
+complement (negsuc n) = 4_294_967_295 - n
 
 unfoldable pub fromComplement : ℕ → ℤ
-fromComplement n = cond (ltb n 2147483648) (pos n) (negsuc (4294967295 - n))
+fromComplement n = cond (ltb n 2_147_483_648) (pos n) (negsuc (4_294_967_295 - n))
 
--- the 29 bytes of a reach's record: mark; depth; Q; head BOD; foot BOD; head oxygen; critical instant; critical oxygen; foot oxygen
+-- the bytes of a reach's record: mark; depth; Q; head BOD; foot BOD; head oxygen; critical instant; critical oxygen; foot oxygen
 unfoldable pub encodeRecord : Figures → List ℕ
 encodeRecord f =
     82 ∷
@@ -52,6 +54,14 @@ encodeRecord f =
     fourBytes (f .foot-bod) ++
     fourBytes (complement (f .head-oxygen)) ++
     twoBytes (f .critical-instant) ++ fourBytes (complement (f .critical-oxygen)) ++ fourBytes (complement (f .foot-oxygen))
+
+-- how many bytes a river's records have each
+unfoldable pub recordSize : List Card → ℕ
+recordSize cards = 29
+
+-- what stands in a report at place i, which is that of reach i + 1, where records have this size
+abbrev pub recordAt : (size : ℕ) → List ℕ → ℕ → List ℕ
+recordAt size report i = drop (size * i) report
 
 -- the figures read back from the record at the start of some bytes
 unfoldable pub readRecord : List ℕ → Figures

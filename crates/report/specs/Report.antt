@@ -8,22 +8,29 @@ use Rattle.river.specs.declared.card.Card.{Card}
 use Rattle.river.specs.Refusal.{Answer, accepted, refused, need, after, codeOf}
 use Rattle.river.specs.Flow.{cardOf, above, depthAt, flowAt}
 use Rattle.report.specs.Program.{figuresAt}
-use Rattle.report.specs.Distance.{WithinAllowance}
-use Rattle.report.specs.Record.{encodeRecord, readRecord}
+use Rattle.report.specs.Distance.{allowanceAt, WithinAllowance}
+use Rattle.report.specs.Record.{Figures, encodeRecord, recordSize, recordAt, readRecord}
 use Rattle.river.specs.Accept.{acceptFile}
 
--- the records of the first n reaches of a river
-unfoldable pub recordsOf : List Card → ℕ → List ℕ
-recordsOf cards zero = []
-recordsOf cards (suc n) = recordsOf cards n ++ encodeRecord (figuresAt cards (suc n))
+-- the first n of some rows of bytes, one behind the other
+unfoldable pub rows : (ℕ → List ℕ) → ℕ → List ℕ
+rows row zero = []
+rows row (suc n) = rows row n ++ row n
 
--- the report of a river
+-- the record of the reach at place i
+abbrev pub recordOf : List Card → ℕ → List ℕ
+recordOf cards i = encodeRecord (figuresAt cards (suc i))
+
+-- the report of a river: the records of its reaches, and how many bytes they have together
 abbrev pub reportOf : List Card → List ℕ
-reportOf cards = recordsOf cards (length cards)
+reportOf cards = rows (recordOf cards) (length cards)
 
--- 12 with reach 0 for a buffer of fewer than 29 × n bytes
+abbrev pub reportSize : List Card → ℕ
+reportSize cards = recordSize cards * length cards
+
+-- 12 with reach 0 for a buffer that is shorter than the report
 unfoldable pub roomAnswer : (room : ℕ) → List Card → Answer (List Card)
-roomAnswer room cards = need (leb (29 * length cards) room) 12 0 (accepted cards)
+roomAnswer room cards = need (leb (reportSize cards) room) 12 0 (accepted cards)
 
 -- reporting refuses as reading, then as the flow check, then for want of room
 unfoldable pub reportAnswer : (file : List ℕ) (room : ℕ) → Answer (List Card)
@@ -36,18 +43,18 @@ resultOf (refused r) = codeOf r
 
 -- the buffer afterwards: the report and then what stood there, and as it was after a refusal
 unfoldable pub bufferReported : Answer (List Card) → List ℕ → List ℕ
-bufferReported (accepted cards) before = reportOf cards ++ drop (29 * length cards) before
+bufferReported (accepted cards) before = reportOf cards ++ drop (reportSize cards) before
 bufferReported (refused r) before = before
 
 -- the file's river is accepted, and a buffer of so many bytes can hold its report
 pub record Accepted (file : List ℕ) (room : ℕ) : Type 0 where
   pub cards : List Card
   pub passes : acceptFile file ≡ accepted cards
-  pub holds : 29 * length cards ≤ room
+  pub holds : reportSize cards ≤ room
 
--- what stands in the buffer at reach i + 1
-abbrev pub recordAt : List ℕ → ℕ → List ℕ
-recordAt buffer i = drop (29 * i) buffer
+-- the figures read back from the bytes of reach i + 1
+abbrev pub figuresRead : List Card → (buffer : List ℕ) → ℕ → Figures
+figuresRead cards buffer i = readRecord (recordAt (recordSize cards) buffer i)
 
 -- a call on a file, with the report buffer before and after, that returns the result
 pub record Reports (file before after : List ℕ) (result : ℕ) : Type 0 where
@@ -56,7 +63,7 @@ pub record Reports (file before after : List ℕ) (result : ℕ) : Type 0 where
   -- it is 0 exactly for an accepted river whose report the buffer can hold
   pub accepts : result ≡ 0 → Accepted file (length before)
   pub zero : Accepted file (length before) → result ≡ 0
-  -- the whole buffer: untouched by a refusal, else each reach's record, and past 29 × n what stood there
+  -- the whole buffer: untouched by a refusal, else each reach's record, and past the report what stood there
   pub buffer : after ≡ bufferReported (reportAnswer file (length before)) before
   -- in short: a refused call writes no byte
   pub untouched : (result ≡ 0 → ⊥) → after ≡ before
@@ -64,20 +71,21 @@ pub record Reports (file before after : List ℕ) (result : ℕ) : Type 0 where
   pub figures :
       (river : Accepted file (length before)) (i : ℕ) →
       i < length (river .cards) →
-      readRecord (recordAt after i) ≡ figuresAt (river .cards) (suc i)
+      figuresRead (river .cards) after i ≡ figuresAt (river .cards) (suc i)
   -- the named counts: depth and flow in the bytes are those of "Flows and depth"
   pub depth :
       (river : Accepted file (length before)) (i : ℕ) →
       i < length (river .cards) →
-      readRecord (recordAt after i) .depth ≡ depthAt (river .cards) (suc i)
+      figuresRead (river .cards) after i .depth ≡ depthAt (river .cards) (suc i)
   pub flow :
       (river : Accepted file (length before)) (i : ℕ) →
       i < length (river .cards) →
-      readRecord (recordAt after i) .flow ≡ flowAt (river .cards) (suc i)
+      figuresRead (river .cards) after i .flow ≡ flowAt (river .cards) (suc i)
   -- demand 3: at every reach, and for every series length from 40 on, the concentrations in the bytes are near the exact ones
   pub within :
       (river : Accepted file (length before)) (i : ℕ) →
       i < length (river .cards) →
       (N : ℕ) →
       40 ≤ N →
-      WithinAllowance N (cardOf (river .cards) (suc i)) (above (river .cards) (suc i)) (readRecord (recordAt after i))
+      WithinAllowance N (cardOf (river .cards) (suc i)) (above (river .cards) (suc i)) (figuresRead (river .cards) after i)
+      (allowanceAt (river .cards) (suc i))

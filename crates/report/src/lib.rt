@@ -4,7 +4,6 @@ pub mod profile;
 pub mod record;
 
 use river::accept;
-use river::flow;
 use river::refusal;
 use river::refusal::Outcome;
 ghost use Rattle.report.specs.Report.{Reports};
@@ -20,8 +19,8 @@ pub extern "C" fn xylandreo_report(file: &[u8], report: &mut [u8]) -> u32
         Outcome::Refused(r) => refusal::code(r),
         Outcome::Accepted => {
             let cards = river.cards;
-            let count = flow::reach_count(cards);
-            if report.len() < 29 * count {
+            let size = record::report_size(cards);
+            if report.len() < size {
                 return 12;
             }
             let flows = river.flows;

@@ -13,22 +13,22 @@ use river::head::FootTable;
 use river::head::Head;
 ghost use mathlib.Core.Path.{_≡_};
 ghost use mathlib.Core.List.{_++_};
-ghost use Prim.Native.Nat.{suc, _+_, _*_, _≤_, _<_};
+ghost use Prim.Native.Nat.{_+_, _≤_, _<_};
 ghost use lib.ListN.{length, drop};
-ghost use lib.Seq.{paste};
+ghost use lib.Seq.{sets};
 ghost use Rattle.decay.specs.Step.{RatesPass};
 ghost use Rattle.river.specs.Card.{river};
-ghost use Rattle.report.specs.Program.{figuresAt, figuresBelow};
-ghost use Rattle.report.specs.Record.{figuresIn, encodeRecord};
+ghost use Rattle.report.specs.Program.{figuresBelow};
+ghost use Rattle.report.specs.Record.{figuresIn, recordSize};
 ghost use Rattle.report.specs.Lines.{Ready, FeetOf, LineOf};
-ghost use Rattle.report.specs.Report.{reportOf};
+ghost use Rattle.report.specs.Report.{recordOf, reportOf, reportSize};
 ghost use Rattle.river.specs.Saturation.{SaturationInRange};
 ghost use Rattle.river.specs.Stored.{oxygenOf};
 
 // The figures of a reach with this card, flow and depth, below this head.
 pub fn line_of(card: Card, flow: u32, depth: u8, head: Head) -> Line
     requires { ⌜ RatesPass (card .k1) (card .k2) (card .volume) flow × SaturationInRange card ⌝ }
-    requires { ⌜ (head .bod ≤ 1000000000) × (1000000000 ≤ head .oxygen) ⌝ }
+    requires { ⌜ (head .bod ≤ 1_000_000_000) × (1_000_000_000 ≤ head .oxygen) ⌝ }
     ensures { λ r. ⌜ figuresIn r ≡ figuresBelow card depth flow (head .bod) (oxygenOf (head .oxygen)) ⌝ }
 {
     let step = step::step_of(card.k1, card.k2, card.volume, flow);
@@ -63,34 +63,36 @@ pub fn line_at(cards: Cards, flows: FlowTable, feet: FootTable, i: usize) -> Lin
     line_of(card, flow, depth, head)
 }
 
-// Puts the record of reach i + 1 in its place, and enters its foot.
+// Puts the record of reach i + 1 at a place, and enters its foot.
 pub fn report_reach(
     cards: Cards,
     flows: FlowTable,
     feet: FootTable,
     i: usize,
     report: &mut [u8],
+    at: usize,
 ) -> FootTable
     requires { ⌜ Ready (river cards) flows × FeetOf (river cards) feet i × (i < length (river cards)) ⌝ }
-    requires { ⌜ 29 * i + 29 ≤ length (now report) ⌝ }
+    requires { ⌜ at + recordSize (river cards) ≤ length (now report) ⌝ }
     ensures { λ r. ⌜ FeetOf (river cards) r (i + 1) ⌝ }
-    ensures { λ _. ⌜ now (report .exit) ≡ paste (now (report .entry)) (29 * i) (encodeRecord (figuresAt (river cards) (suc i))) 29 ⌝ }
+    ensures { λ _. ⌜ now (report .exit) ≡ sets (now (report .entry)) at (recordOf (river cards) i) ⌝ }
 {
     let line = line_at(cards, flows, feet, i);
-    record::put_record(report, i, line);
+    record::put_record(report, at, line);
     head::put_foot(feet, i, line.flow as u64, line.foot_bod, line.foot_oxygen)
 }
 
 // Puts the records of all reaches in their places.
 pub fn report_all(cards: Cards, flows: FlowTable, report: &mut [u8])
-    requires { ⌜ Ready (river cards) flows × (29 * length (river cards) ≤ length (now report)) ⌝ }
-    ensures { λ _. ⌜ now (report .exit) ≡ reportOf (river cards) ++ drop (29 * length (river cards)) (now (report .entry)) ⌝ }
+    requires { ⌜ Ready (river cards) flows × (reportSize (river cards) ≤ length (now report)) ⌝ }
+    ensures { λ _. ⌜ now (report .exit) ≡ reportOf (river cards) ++ drop (reportSize (river cards)) (now (report .entry)) ⌝ }
 {
     let count = flow::reach_count(cards);
+    let size = record::record_size(cards);
     let mut feet = head::no_feet();
     let mut i: usize = 0;
     while i < count {
-        feet = report_reach(cards, flows, feet, i, report);
+        feet = report_reach(cards, flows, feet, i, report, size * i);
         i = i + 1;
     }
 }

@@ -3,6 +3,7 @@ use decay::factors;
 use decay::factors::Factors;
 use decay::fixed;
 use decay::step::Step;
+use river::head::STORED_ZERO_WIDE;
 ghost use Prim.Native.Nat.{_+_, _<_};
 ghost use Rattle.decay.specs.Factors.{SoundStep, AreShares};
 ghost use Rattle.report.specs.Program.{foot, oxygenWith};
@@ -37,13 +38,13 @@ pub fn oxygen_with(f: Factors, start: Start) -> u64
     ensures { λ r. ⌜ Stores r (oxygenWith f (start .saturation) (start .bod) (oxygenOf (start .oxygen))) ⌝ }
 {
     let oxygen = start.oxygen;
-    let saturated = start.saturation + 2147483648;
+    let saturated = start.saturation + STORED_ZERO_WIDE;
     let after_decay = saturated - fixed::product(f.turned, start.bod);
     if oxygen <= saturated {
         after_decay - fixed::product(f.kept, saturated - oxygen)
     } else {
         let over = oxygen - saturated;
-        after_decay + over - fixed::product(17592186044416 - f.kept, over)
+        after_decay + over - fixed::product(fixed::ONE - f.kept, over)
     }
 }
 
@@ -91,7 +92,7 @@ pub fn walk_down(step: Step, start: Start) -> Walk
 {
     let mut walk = begin(step, start);
     let mut m: u64 = 0;
-    while m < 1024 {
+    while m < factors::FOOT {
         walk = turn(step, start, m, walk);
         m = m + 1;
     }

@@ -1,10 +1,20 @@
 // The `RP` record of a reach.
+use river::bytes;
+use river::card::Cards;
+use river::flow;
+use river::head::STORED_ZERO;
 ghost use mathlib.Core.Path.{_≡_};
-ghost use Prim.Native.Nat.{_+_, _*_, _≤_};
+ghost use mathlib.Core.List.{_∷_, _++_};
+ghost use Prim.Native.Nat.{_+_, _*_, _≤_, _<_};
 ghost use lib.ListN.{length};
-ghost use lib.Seq.{paste};
-ghost use Rattle.report.specs.Record.{complement, encodeRecord, figuresIn};
+ghost use Rattle.river.specs.Bytes.{Put, twoBytes, fourBytes, fourAt};
+ghost use Rattle.river.specs.Card.{river};
 ghost use Rattle.river.specs.Stored.{oxygenOf};
+ghost use Rattle.report.specs.Record.{complement, fromComplement, encodeRecord, recordSize, recordAt, readRecord, figuresIn};
+ghost use Rattle.report.specs.Report.{reportSize};
+
+// How many bytes an `RP` record has.
+pub const RP_SIZE: usize = 29;
 
 // The figures of a reach. Oxygen is stored as its units plus 2^31.
 pub struct Line {
@@ -18,74 +28,102 @@ pub struct Line {
     pub foot_oxygen: u32,
 }
 
-// Stored oxygen in two's complement.
-pub fn complement(stored: u32) -> u32
-    ensures { λ r. ⌜ r ≡ complement (oxygenOf stored) ⌝ }
+// How many bytes a river's records have each.
+pub fn record_size(cards: Cards) -> usize
+    ensures { λ r. ⌜ r ≡ recordSize (river cards) ⌝ }
 {
-    if stored < 2147483648 {
-        stored + 2147483648
+    RP_SIZE
+}
+
+// How many bytes a river's report has.
+pub fn report_size(cards: Cards) -> usize
+    requires { ⌜ length (river cards) ≤ 128 ⌝ }
+    ensures { λ r. ⌜ r ≡ reportSize (river cards) ⌝ }
+{
+    record_size(cards) * flow::reach_count(cards)
+}
+
+// Stored oxygen in two's complement, and back: the two differ in the topmost bit.
+pub fn complement(oxygen: u32) -> u32
+    ensures { λ r. ⌜ r ≡ complement (oxygenOf oxygen) ⌝ }
+    ensures { λ r. ⌜ oxygenOf r ≡ fromComplement oxygen ⌝ }
+{
+    if oxygen < STORED_ZERO {
+        oxygen + STORED_ZERO
     } else {
-        stored - 2147483648
+        oxygen - STORED_ZERO
     }
 }
 
-// The bytes of a reach's record: numbers high byte first, oxygen in two's complement.
-pub fn bytes(line: Line) -> [u8; 29]
-    ensures { λ b. ⌜ b ≡ encodeRecord (figuresIn line) ⌝ }
+// Puts stored oxygen in two's complement.
+fn put_complement(report: &mut [u8], at: usize, oxygen: u32) -> usize
+    requires { ⌜ at + 4 ≤ length (now report) ⌝ }
+    ensures { λ r. ⌜ Put (now (report .entry)) at (fourBytes (complement (oxygenOf oxygen))) (now (report .exit)) r ⌝ }
 {
-    let head_oxygen = complement(line.head_oxygen);
-    let critical = complement(line.critical_oxygen);
-    let foot_oxygen = complement(line.foot_oxygen);
-    [
-        82,
-        80,
-        line.depth,
-        (line.flow / 65536 / 256) as u8,
-        (line.flow / 65536 % 256) as u8,
-        (line.flow % 65536 / 256) as u8,
-        (line.flow % 65536 % 256) as u8,
-        (line.head_bod / 65536 / 256) as u8,
-        (line.head_bod / 65536 % 256) as u8,
-        (line.head_bod % 65536 / 256) as u8,
-        (line.head_bod % 65536 % 256) as u8,
-        (line.foot_bod / 65536 / 256) as u8,
-        (line.foot_bod / 65536 % 256) as u8,
-        (line.foot_bod % 65536 / 256) as u8,
-        (line.foot_bod % 65536 % 256) as u8,
-        (head_oxygen / 65536 / 256) as u8,
-        (head_oxygen / 65536 % 256) as u8,
-        (head_oxygen % 65536 / 256) as u8,
-        (head_oxygen % 65536 % 256) as u8,
-        (line.critical_instant / 256) as u8,
-        (line.critical_instant % 256) as u8,
-        (critical / 65536 / 256) as u8,
-        (critical / 65536 % 256) as u8,
-        (critical % 65536 / 256) as u8,
-        (critical % 65536 % 256) as u8,
-        (foot_oxygen / 65536 / 256) as u8,
-        (foot_oxygen / 65536 % 256) as u8,
-        (foot_oxygen % 65536 / 256) as u8,
-        (foot_oxygen % 65536 % 256) as u8,
-    ]
+    bytes::put_four(report, at, complement(oxygen))
 }
 
-// Puts the bytes of a record at a place.
-pub fn place(report: &mut [u8], at: usize, line: &[u8; 29])
-    requires { ⌜ (at + 29 ≤ length (now report)) × (length (now line) ≡ 29) ⌝ }
-    ensures { λ _. ⌜ now (report .exit) ≡ paste (now (report .entry)) at (now (line .entry)) 29 ⌝ }
+// The start of a record: mark, depth, Q, head and foot BOD.
+fn put_flows(report: &mut [u8], at: usize, line: Line) -> usize
+    requires { ⌜ at + 15 ≤ length (now report) ⌝ }
+    ensures { λ r. ⌜ Put (now (report .entry)) at (82 ∷ 80 ∷ line .depth ∷ fourBytes (line .flow) ++ fourBytes (line .«head_bod») ++ fourBytes (line .«foot_bod»)) (now (report .exit)) r ⌝ }
 {
-    let mut i: usize = 0;
-    while i < 29 {
-        report[at + i] = line[i];
-        i = i + 1;
+    let next = bytes::put_pair(report, at, b'R', b'P');
+    let next = bytes::put_byte(report, next, line.depth);
+    let next = bytes::put_four(report, next, line.flow);
+    let next = bytes::put_four(report, next, line.head_bod);
+    bytes::put_four(report, next, line.foot_bod)
+}
+
+// The end of a record: head oxygen, the critical instant, critical and foot oxygen.
+fn put_oxygen(report: &mut [u8], at: usize, line: Line) -> usize
+    requires { ⌜ at + 14 ≤ length (now report) ⌝ }
+    ensures { λ r. ⌜ Put (now (report .entry)) at (fourBytes (complement (oxygenOf (line .«head_oxygen»))) ++ twoBytes (line .«critical_instant») ++ fourBytes (complement (oxygenOf (line .«critical_oxygen»))) ++ fourBytes (complement (oxygenOf (line .«foot_oxygen»)))) (now (report .exit)) r ⌝ }
+{
+    let next = put_complement(report, at, line.head_oxygen);
+    let next = bytes::put_two(report, next, line.critical_instant);
+    let next = put_complement(report, next, line.critical_oxygen);
+    put_complement(report, next, line.foot_oxygen)
+}
+
+// Puts the record of a line at a place.
+pub fn put_record(report: &mut [u8], at: usize, line: Line) -> usize
+    requires { ⌜ at + length (encodeRecord (figuresIn line)) ≤ length (now report) ⌝ }
+    ensures { λ r. ⌜ Put (now (report .entry)) at (encodeRecord (figuresIn line)) (now (report .exit)) r ⌝ }
+{
+    let next = put_flows(report, at, line);
+    put_oxygen(report, next, line)
+}
+
+// Stored oxygen from the four bytes from a place on.
+fn complement_at(s: &[u8], k: usize) -> u32
+    requires { ⌜ k < 62 ⌝ }
+    ensures { λ r. ⌜ oxygenOf r ≡ fromComplement (fourAt (now (s .entry)) k) ⌝ }
+{
+    complement(bytes::four_at(s, k))
+}
+
+// The line of the record at the start of some bytes.
+fn line_in(s: &[u8]) -> Line
+    ensures { λ r. ⌜ figuresIn r ≡ readRecord (now (s .entry)) ⌝ }
+{
+    Line {
+        depth: bytes::byte_at(s, 2),
+        flow: bytes::four_at(s, 3),
+        head_bod: bytes::four_at(s, 7),
+        foot_bod: bytes::four_at(s, 11),
+        head_oxygen: complement_at(s, 15),
+        critical_instant: bytes::two_at(s, 19),
+        critical_oxygen: complement_at(s, 21),
+        foot_oxygen: complement_at(s, 25),
     }
 }
 
-// Puts the record of a line in place i of a report.
-pub fn put_record(report: &mut [u8], i: usize, line: Line)
-    requires { ⌜ 29 * i + 29 ≤ length (now report) ⌝ }
-    ensures { λ _. ⌜ now (report .exit) ≡ paste (now (report .entry)) (29 * i) (encodeRecord (figuresIn line)) 29 ⌝ }
+// The line at place i of a report whose records have this size.
+pub fn read_record(report: &[u8], size: usize, i: usize) -> Line
+    requires { ⌜ size * i ≤ length (now report) ⌝ }
+    ensures { λ r. ⌜ figuresIn r ≡ readRecord (recordAt size (now (report .entry)) i) ⌝ }
 {
-    let all = bytes(line);
-    place(report, 29 * i, &all);
+    let from = size * i;
+    line_in(&report[from..])
 }

@@ -1,7 +1,9 @@
 // Whole numbers as bytes, high byte first, and two-byte marks.
 ghost use mathlib.Core.Path.{_≡_};
-ghost use Prim.Native.Nat.{_+_, _<_};
-ghost use Rattle.river.specs.Bytes.{byteAt, twoAt, fourAt, marked};
+ghost use mathlib.Core.List.{[], _∷_};
+ghost use Prim.Native.Nat.{_+_, _≤_, _<_};
+ghost use lib.ListN.{length};
+ghost use Rattle.river.specs.Bytes.{byteAt, twoAt, fourAt, marked, Put, twoBytes, fourBytes};
 
 // The byte at a place, 0 past the end.
 pub fn byte_at(s: &[u8], k: usize) -> u8
@@ -38,4 +40,40 @@ pub fn marked(s: &[u8], k: usize, a: u8, b: u8) -> bool
         return false;
     }
     byte_at(s, k + 1) == b
+}
+
+// A byte at a place, and the next place.
+pub fn put_byte(out: &mut [u8], at: usize, x: u8) -> usize
+    requires { ⌜ at + 1 ≤ length (now out) ⌝ }
+    ensures { λ r. ⌜ Put (now (out .entry)) at (x ∷ []) (now (out .exit)) r ⌝ }
+{
+    out[at] = x;
+    at + 1
+}
+
+// Two bytes at a place, and the next place.
+pub fn put_pair(out: &mut [u8], at: usize, a: u8, b: u8) -> usize
+    requires { ⌜ at + 2 ≤ length (now out) ⌝ }
+    ensures { λ r. ⌜ Put (now (out .entry)) at (a ∷ b ∷ []) (now (out .exit)) r ⌝ }
+{
+    out[at] = a;
+    out[at + 1] = b;
+    at + 2
+}
+
+// A number as two bytes.
+pub fn put_two(out: &mut [u8], at: usize, x: u16) -> usize
+    requires { ⌜ at + 2 ≤ length (now out) ⌝ }
+    ensures { λ r. ⌜ Put (now (out .entry)) at (twoBytes x) (now (out .exit)) r ⌝ }
+{
+    put_pair(out, at, (x / 256) as u8, (x % 256) as u8)
+}
+
+// A number as four bytes.
+pub fn put_four(out: &mut [u8], at: usize, x: u32) -> usize
+    requires { ⌜ at + 4 ≤ length (now out) ⌝ }
+    ensures { λ r. ⌜ Put (now (out .entry)) at (fourBytes x) (now (out .exit)) r ⌝ }
+{
+    let next = put_two(out, at, (x / 65536) as u16);
+    put_two(out, next, (x % 65536) as u16)
 }

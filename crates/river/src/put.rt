@@ -5,42 +5,18 @@ ghost use lib.ListN.{length};
 ghost use Rattle.river.specs.Bytes.{Put, twoBytes, fourBytes};
 ghost use Rattle.river.specs.Write.{encodeCard, encodeDam, encodeHeader};
 ghost use Rattle.river.specs.Card.{sizeOfDam, sizeOf};
+use crate::bytes::put_four;
+use crate::bytes::put_pair;
+use crate::bytes::put_two;
 use crate::card::Card;
 use crate::card::Dam;
-
-// Two bytes at a place, and the next place.
-fn put_pair(out: &mut [u8], at: usize, a: u8, b: u8) -> usize
-    requires { ⌜ at + 2 ≤ length (now out) ⌝ }
-    ensures { λ r. ⌜ Put (now (out .entry)) at (a ∷ b ∷ []) (now (out .exit)) r ⌝ }
-{
-    out[at] = a;
-    out[at + 1] = b;
-    at + 2
-}
-
-// A number as two bytes.
-fn put_two(out: &mut [u8], at: usize, x: u16) -> usize
-    requires { ⌜ at + 2 ≤ length (now out) ⌝ }
-    ensures { λ r. ⌜ Put (now (out .entry)) at (twoBytes x) (now (out .exit)) r ⌝ }
-{
-    put_pair(out, at, (x / 256) as u8, (x % 256) as u8)
-}
-
-// A number as four bytes.
-fn put_four(out: &mut [u8], at: usize, x: u32) -> usize
-    requires { ⌜ at + 4 ≤ length (now out) ⌝ }
-    ensures { λ r. ⌜ Put (now (out .entry)) at (fourBytes x) (now (out .exit)) r ⌝ }
-{
-    let next = put_two(out, at, (x / 65536) as u16);
-    put_two(out, next, (x % 65536) as u16)
-}
 
 // The `RV` record of a reach count.
 pub fn put_header(out: &mut [u8], count: u16) -> usize
     requires { ⌜ 4 ≤ length (now out) ⌝ }
     ensures { λ r. ⌜ Put (now (out .entry)) 0 (encodeHeader count) (now (out .exit)) r ⌝ }
 {
-    let next = put_pair(out, 0, 82, 86);
+    let next = put_pair(out, 0, b'R', b'V');
     put_two(out, next, count)
 }
 
@@ -49,7 +25,7 @@ fn put_rates(out: &mut [u8], at: usize, c: Card) -> usize
     requires { ⌜ at + 8 ≤ length (now out) ⌝ }
     ensures { λ r. ⌜ Put (now (out .entry)) at (82 ∷ 69 ∷ c .outlet ∷ c .temperature ∷ twoBytes (c .k1) ++ twoBytes (c .k2)) (now (out .exit)) r ⌝ }
 {
-    let next = put_pair(out, at, 82, 69);
+    let next = put_pair(out, at, b'R', b'E');
     let next = put_pair(out, next, c.outlet, c.temperature);
     let next = put_two(out, next, c.k1);
     put_two(out, next, c.k2)
@@ -82,7 +58,7 @@ fn put_dam(out: &mut [u8], at: usize, dam: Dam) -> usize
     let Dam::Aerating { share, generating } = dam else {
         return at;
     };
-    let next = put_pair(out, at, 68, 77);
+    let next = put_pair(out, at, b'D', b'M');
     let next = put_two(out, next, share);
     put_four(out, next, generating)
 }

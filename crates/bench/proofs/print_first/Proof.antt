@@ -13,11 +13,11 @@ abbrev μ-loop : tie.MeasureT-loop
 loop-holds : tie.Need-loop-holds Inv-loop μ-loop
 loop-holds c = tt
 
-cast-from : tie.Need-cast-from Inv-loop μ-loop
-cast-from c = omega arith
+cast-place : tie.Need-cast-place Inv-loop μ-loop
+cast-place c = omega arith
 
-mul-from : tie.Need-mul-from Inv-loop μ-loop
-mul-from c = omega arith
+mul-if1 : tie.Need-mul-if1 Inv-loop μ-loop
+mul-if1 c = omega arith
 
 add-if1 : tie.Need-add-if1 Inv-loop μ-loop
 add-if1 c = omega arith
@@ -25,14 +25,8 @@ add-if1 c = omega arith
 returns : tie.Need-returns Inv-loop μ-loop
 returns c = tt
 
-sub-print-reach : tie.Need-sub-print-reach Inv-loop μ-loop
-sub-print-reach c = omega arith
-
-part-print-reach-start : tie.Need-part-print-reach-start Inv-loop μ-loop
-part-print-reach-start c = omega arith
-
-part-print-reach-end : tie.Need-part-print-reach-end Inv-loop μ-loop
-part-print-reach-end c = omega arith
+read-record-requires : tie.Need-read-record-requires Inv-loop μ-loop
+read-record-requires c κs = omega arith
 
 print-reach-requires : tie.Need-print-reach-requires Inv-loop μ-loop
 print-reach-requires c κs = tt
@@ -56,13 +50,11 @@ print-first-spec =
     Inv-loop
     μ-loop
     loop-holds
-    cast-from
-    mul-from
+    cast-place
+    mul-if1
     add-if1
     returns
-    sub-print-reach
-    part-print-reach-start
-    part-print-reach-end
+    read-record-requires
     print-reach-requires
     add-i
     loop-less

@@ -1,12 +1,23 @@
--- How errors pass from the feeders' feet to a head and along a reach, in fractions.
--- A head adds 5 units of rounding: two for BOD (mean, mixing) and three for oxygen (mean, dam with saturation, mixing).
--- An instant adds 5 units (three roundings, saturation at both ends of the formula) and what the factors are off by.
+-- How errors pass from the feeders' feet to a head and along a reach, in fractions, and what a reach adds to them.
 use mathlib.Core.List.{[], _∷_}
+use Prim.Native.Nat.{ℕ}
 use Rattle.decay.specs.Fraction.{Fraction, _≈_, _≼_, ofℕ, _+ᶠ_, -ᶠ_, _-ᶠ_, _*ᶠ_, _÷_}
 use Rattle.decay.proofs.Algebra.{quote, ring, certify, certify-by, certify-over, slack, number, Nonneg, _⊞_, _⊠_, multiple, _⋅_, _&_, none as no-equations, ≈-sym, Positive, positive-nonneg, ÷-cancel-pos, Small, Within, small, near, sized, _⊞ˢ_, _⊠ˢ_, small-minus, small-by, bound-nonneg}
 use Rattle.report.proofs.Facts.Floor.{Rounded}
 use Rattle.report.proofs.Facts.Head.{Dammed}
 use Rattle.report.proofs.Facts.Instant.{Floored, Shares}
+
+-- a head adds 5 units of rounding: two for BOD (mean, mixing) and three for oxygen (mean, dam with saturation, mixing)
+abbrev pub headUnits : ℕ
+headUnits = 5
+
+-- an instant adds 5 units (three roundings, saturation at both ends of the formula) and what the factors are off by
+abbrev pub instantUnits : ℕ
+instantUnits = 5
+
+-- what a reach adds in all: the factors, off by 2^-28 at most, add 7.53 units to those ten
+abbrev pub addedUnits : ℕ
+addedUnits = 18
 
 -- two figures b and o lie near exact ones, with errors that together are at most e
 pub record Near (b bx o ox e : Fraction) : Type 0 where
@@ -66,9 +77,9 @@ pub record HeadSteps (Qu Q inflow s t u v w h c sx tx ux vx wx hx cx W₁ W₂ W
   pub exact-bod-mixed : Q *ᶠ hx ≈ Qu *ᶠ ux +ᶠ W₁ +ᶠ W₂
   pub exact-oxygen-mixed : Q *ᶠ cx ≈ Qu *ᶠ wx +ᶠ W₃
 
--- from the feeders' feet, off by Qu × a together, to the head, off by a + 5
-pub head-near : {Qu Q inflow s t u v w h c sx tx ux vx wx hx cx W₁ W₂ W₃ cs csx σ : Fraction} (a : Fraction) → Nonneg a → HeadSteps Qu Q inflow s t u v w h c sx tx ux vx wx hx cx W₁ W₂ W₃ cs csx σ → Near s sx t tx (Qu *ᶠ a) → Near h hx c cx (a +ᶠ ofℕ 5)
-head-near {Qu} {Q} {inflow} {s} {t} {u} {v} {w} {h} {c} {sx} {tx} {ux} {vx} {wx} {hx} {cx} {W₁} {W₂} {W₃} {cs} {csx} {σ} a pa k n =
+-- from the feeders' feet, off by b together, to the head, off by b / Q and what a head adds
+pub head-near : {Qu Q inflow s t u v w h c sx tx ux vx wx hx cx W₁ W₂ W₃ cs csx σ b : Fraction} → HeadSteps Qu Q inflow s t u v w h c sx tx ux vx wx hx cx W₁ W₂ W₃ cs csx σ → Near s sx t tx b → Near h hx c cx (b ÷ Q +ᶠ ofℕ headUnits)
+head-near {Qu} {Q} {inflow} {s} {t} {u} {v} {w} {h} {c} {sx} {tx} {ux} {vx} {wx} {hx} {cx} {W₁} {W₂} {W₃} {cs} {csx} {σ} {b} k n =
     let d = n .bod-error in
     let e = n .oxygen-error in
     let Q≥0 = positive-nonneg (k .flowing) in
@@ -77,7 +88,7 @@ head-near {Qu} {Q} {inflow} {s} {t} {u} {v} {w} {h} {c} {sx} {tx} {ux} {vx} {wx}
       oxygen-error = (e +ᶠ Qu +ᶠ Qu +ᶠ Q) ÷ Q;
       bod-near = over-flow Q h hx (d +ᶠ Qu +ᶠ Q) (k .flowing) (rounded-near Q h (Qu *ᶠ u +ᶠ W₁ +ᶠ W₂) hx (Qu *ᶠ ux +ᶠ W₁ +ᶠ W₂) (d +ᶠ Qu) Q≥0 (plus-same (Qu *ᶠ u +ᶠ W₁) (Qu *ᶠ ux +ᶠ W₁) W₂ (d +ᶠ Qu) (plus-same (Qu *ᶠ u) (Qu *ᶠ ux) W₁ (d +ᶠ Qu) (rounded-near Qu u s ux sx d (k .upstream) (n .bod-near) (k .bod-mean) (k .exact-bod-mean)))) (k .bod-mixed) (k .exact-bod-mixed));
       oxygen-near = over-flow Q c cx (e +ᶠ Qu +ᶠ Qu +ᶠ Q) (k .flowing) (rounded-near Q c (Qu *ᶠ w +ᶠ W₃) cx (Qu *ᶠ wx +ᶠ W₃) (e +ᶠ Qu +ᶠ Qu) Q≥0 (plus-same (Qu *ᶠ w) (Qu *ᶠ wx) W₃ (e +ᶠ Qu +ᶠ Qu) (dam-near Qu v vx cs csx σ w wx e (k .upstream) (bound-nonneg (small (n .oxygen-near))) (k .saturation-low) (k .saturation-high) (k .dam) (k .exact-dam) (rounded-near Qu v t vx tx e (k .upstream) (n .oxygen-near) (k .oxygen-mean) (k .exact-oxygen-mean)))) (k .oxygen-mixed) (k .exact-oxygen-mixed));
-      together = certify-over Q (k .flowing) (Q ∷ Qu ∷ inflow ∷ a ∷ d ∷ e ∷ ((d +ᶠ Qu +ᶠ Q) ÷ Q) ∷ ((e +ᶠ Qu +ᶠ Qu +ᶠ Q) ÷ Q) ∷ []) (ofℕ 1 ⋅ ÷-cancel-pos (d +ᶠ Qu +ᶠ Q) (k .flowing) & ofℕ 1 ⋅ ÷-cancel-pos (e +ᶠ Qu +ᶠ Qu +ᶠ Q) (k .flowing) & (a +ᶠ ofℕ 3) ⋅ k .flows & no-equations) (slack (n .together) ⊞ (pa ⊞ number 3) ⊠ k .inflowing) (search quote depth 40 fits 9999) tt;
+      together = certify-over Q (k .flowing) (Q ∷ Qu ∷ inflow ∷ b ∷ d ∷ e ∷ (b ÷ Q) ∷ ((d +ᶠ Qu +ᶠ Q) ÷ Q) ∷ ((e +ᶠ Qu +ᶠ Qu +ᶠ Q) ÷ Q) ∷ []) (ofℕ 1 ⋅ ÷-cancel-pos b (k .flowing) & ofℕ 1 ⋅ ÷-cancel-pos (d +ᶠ Qu +ᶠ Q) (k .flowing) & ofℕ 1 ⋅ ÷-cancel-pos (e +ᶠ Qu +ᶠ Qu +ᶠ Q) (k .flowing) & ofℕ 3 ⋅ k .flows & no-equations) (slack (n .together) ⊞ number 3 ⊠ k .inflowing) (search quote depth 40 fits 9999) tt;
     }
 
 -- ---- along a reach
@@ -110,7 +121,7 @@ pub record InstantSteps (p g r S₁ F S₂ e₁ e₂ ε L c cs csx B G R D : Fra
 
 -- from a head whose figures are off by `off` together
 pub instant-near : {p g r S₁ F S₂ e₁ e₂ ε L c cs csx B G R D : Fraction} (Lx cx off : Fraction) → InstantSteps p g r S₁ F S₂ e₁ e₂ ε L c cs csx B G R D → Near L Lx c cx off
-    → Near B (Lx *ᶠ S₁) (cs -ᶠ G -ᶠ R) (csx -ᶠ F *ᶠ Lx -ᶠ S₂ *ᶠ (csx -ᶠ cx)) (ofℕ 5 +ᶠ ε +ᶠ ε *ᶠ (L +ᶠ D) +ᶠ (ofℕ 1 +ᶠ ε) *ᶠ off)
+    → Near B (Lx *ᶠ S₁) (cs -ᶠ G -ᶠ R) (csx -ᶠ F *ᶠ Lx -ᶠ S₂ *ᶠ (csx -ᶠ cx)) (ofℕ instantUnits +ᶠ ε +ᶠ ε *ᶠ (L +ᶠ D) +ᶠ (ofℕ 1 +ᶠ ε) *ᶠ off)
 instant-near {p} {g} {r} {S₁} {F} {S₂} {e₁} {e₂} {ε} {L} {c} {cs} {csx} {B} {G} {R} {D} Lx cx off k n =
     let d = n .bod-error in
     let e = n .oxygen-error in
@@ -123,7 +134,11 @@ instant-near {p} {g} {r} {S₁} {F} {S₂} {e₁} {e₂} {ε} {L} {c} {cs} {csx}
       together = certify (p ∷ g ∷ r ∷ e₁ ∷ e₂ ∷ ε ∷ L ∷ D ∷ d ∷ e ∷ off ∷ []) (slack (k .shares .kept-of-one) ⊠ (number 1 ⊞ bound-nonneg (small (n .oxygen-near))) ⊞ slack (k .factors-near) ⊠ (k .head-bod ⊞ bound-nonneg (small (n .bod-near))) ⊞ slack (k .shares .bod-of-one) ⊠ bound-nonneg (small (n .bod-near)) ⊞ (number 1 ⊞ pε) ⊠ slack (n .together)) (search quote depth 40 fits 9999) tt;
     }
 
--- what a reach adds: 18 units, while the error carried is at most 2,304 units
-pub reach-adds : (ε L a : Fraction) → Nonneg ε → ofℕ 268435456 *ᶠ ε ≈ ofℕ 1 → L ≼ ofℕ 1000000000 → a ≼ ofℕ 2304 → ofℕ 5 +ᶠ ε +ᶠ ε *ᶠ (L +ᶠ ofℕ 1020000000) +ᶠ (ofℕ 1 +ᶠ ε) *ᶠ (a +ᶠ ofℕ 5) ≼ a +ᶠ ofℕ 18
-reach-adds ε L a p e hL ha =
-    certify-by (ε ∷ L ∷ a ∷ []) (ofℕ 8 ⋅ e & no-equations) (p ⊠ (slack hL ⊞ slack ha ⊞ number 127481338)) (search quote depth 40 fits 9999) tt
+-- units that cover what a reach adds to the error a that is carried to it: at its head, and at an instant while a is at most 1 mg/L
+pub head-adds : (a units : Fraction) → ofℕ addedUnits ≼ units → a +ᶠ ofℕ headUnits ≼ units +ᶠ a
+head-adds a units h =
+    certify (a ∷ units ∷ []) (slack h ⊞ number 13) (search quote depth 40 fits 9999) tt
+
+pub reach-adds : (ε L a units : Fraction) → Nonneg ε → ofℕ 268_435_456 *ᶠ ε ≈ ofℕ 1 → L ≼ ofℕ 1_000_000_000 → a ≼ ofℕ 1_000_000 → ofℕ addedUnits ≼ units → ofℕ instantUnits +ᶠ ε +ᶠ ε *ᶠ (L +ᶠ ofℕ 1_020_000_000) +ᶠ (ofℕ 1 +ᶠ ε) *ᶠ (a +ᶠ ofℕ headUnits) ≼ units +ᶠ a
+reach-adds ε L a units p e hL ha hu =
+    certify-by (ε ∷ L ∷ a ∷ units ∷ []) (ofℕ 8 ⋅ e & no-equations) (slack hu ⊞ p ⊠ (slack hL ⊞ slack ha ⊞ number 126_483_642)) (search quote depth 40 fits 9999) tt

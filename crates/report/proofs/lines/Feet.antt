@@ -29,36 +29,36 @@ use Rattle.report.specs.declared.record.Line.{Line}
 use Rattle.report.specs.Lines.{Ready, FeetOf, LineOf}
 use Rattle.report.proofs.Forest.{rates-pass, reach-accepted}
 use Rattle.report.proofs.River.{IsRiver, head-in-range, instant-in-range, foot-bod-at-most-head}
-use Rattle.river.specs.Stored.{oxygenOf, storedOf}
+use Rattle.river.specs.Stored.{storedZero, oxygenOf, storedOf}
 use Rattle.river.specs.HeadTable.{HeadInput, HeadOf}
 
 -- stored oxygen is back where it was
-pub stored-back : (z : ℤ) → negsuc 1000000383 ≤ℤ z → oxygenOf (storedOf z) ≡ z
+pub stored-back : (z : ℤ) → negsuc 1_000_000_383 ≤ℤ z → oxygenOf (storedOf z) ≡ z
 unfolding oxygenOf storedOf
-stored-back (pos n) h = sub-pos (n + 2147483648) 2147483648 (omega arith) ∙ ap pos (omega arith)
+stored-back (pos n) h = sub-pos (n + storedZero) storedZero (omega arith) ∙ ap pos (omega arith)
 stored-back (negsuc n) h =
-    let l : n ≤ 1000000383 = leb→le _ _ (h .le) in
-    sub-neg (2147483647 - n) 2147483648 (omega arith) ∙ ap negsuc (omega arith)
+    let l : n ≤ 1_000_000_383 = leb→le _ _ (h .le) in
+    sub-neg (2_147_483_647 - n) storedZero (omega arith) ∙ ap negsuc (omega arith)
 
 pub stored-of : (n : ℕ) → storedOf (oxygenOf n) ≡ n
 unfolding oxygenOf storedOf
-stored-of n = by-sign (decLe 2147483648 n)
+stored-of n = by-sign (decLe storedZero n)
   where
-    by-sign : Dec (2147483648 ≤ n) → storedOf (oxygenOf n) ≡ n
-    by-sign (yes h) = ap storedOf (sub-pos n 2147483648 h) ∙ omega arith
-    by-sign (no h) = ap storedOf (sub-neg n 2147483648 (omega arith)) ∙ omega arith
+    by-sign : Dec (storedZero ≤ n) → storedOf (oxygenOf n) ≡ n
+    by-sign (yes h) = ap storedOf (sub-pos n storedZero h) ∙ omega arith
+    by-sign (no h) = ap storedOf (sub-neg n storedZero (omega arith)) ∙ omega arith
 
 -- oxygen in range is stored as a number above the largest BOD
-pub stored-low : (n : ℕ) → negsuc 1000000383 ≤ℤ oxygenOf n → 1000000000 ≤ n
+pub stored-low : (n : ℕ) → negsuc 1_000_000_383 ≤ℤ oxygenOf n → 1_000_000_000 ≤ n
 unfolding oxygenOf
-stored-low n h = by-sign (decLe 2147483648 n)
+stored-low n h = by-sign (decLe storedZero n)
   where
-    below : n < 2147483648 → 1000000000 ≤ n
+    below : n < storedZero → 1_000_000_000 ≤ n
     below l =
-        let low : negsuc 1000000383 ≤ℤ negsuc (2147483648 - suc n) = subst (λ (z : ℤ). negsuc 1000000383 ≤ℤ z) (sub-neg n 2147483648 l) h in
-        omega (arith, leb→le (2147483648 - suc n) 1000000383 (low .le))
+        let low : negsuc 1_000_000_383 ≤ℤ negsuc (storedZero - suc n) = subst (λ (z : ℤ). negsuc 1_000_000_383 ≤ℤ z) (sub-neg n storedZero l) h in
+        omega (arith, leb→le (storedZero - suc n) 1_000_000_383 (low .le))
 
-    by-sign : Dec (2147483648 ≤ n) → 1000000000 ≤ n
+    by-sign : Dec (storedZero ≤ n) → 1_000_000_000 ≤ n
     by-sign (yes l) = omega arith
     by-sign (no l) = below (omega arith)
 
@@ -114,13 +114,13 @@ module _ {cards : List Card} {flows : FlowTable} {feet : FootTable} {i : ℕ} (r
         (oxygen-of-feeders oxygen-adds oxygen-table (suc i))
 
     -- the head is in the ranges that a profile asks
-    pub head-small : h .bod ≤ 1000000000
+    pub head-small : h .bod ≤ 1_000_000_000
     head-small = rw head-bod-is (head-in-range (is-river ready) i l .bod-range)
 
-    pub head-low : 1000000000 ≤ h .oxygen
+    pub head-low : 1_000_000_000 ≤ h .oxygen
     head-low =
         stored-low (h .oxygen)
-        (subst (λ (z : ℤ). negsuc 1000000383 ≤ℤ z) (sym head-oxygen-is) (head-in-range (is-river ready) i l .oxygen-low))
+        (subst (λ (z : ℤ). negsuc 1_000_000_383 ≤ℤ z) (sym head-oxygen-is) (head-in-range (is-river ready) i l .oxygen-low))
 
     -- the line below this head is that of the reach
     pub line-of-reach :
@@ -144,7 +144,7 @@ module _ {cards : List Card} {flows : FlowTable} {feet : FootTable} {i : ℕ} (r
   pub reach-saturation : {card : Card} → card ≡ getD cards i blank → SaturationInRange card
   reach-saturation ec = rw ec (reach-accepted cards (ready .lawful) (ready .sound) i l .fields .temperature)
 
-  pub reach-flow-small : flowAt cards (suc i) ≤ 100000000
+  pub reach-flow-small : flowAt cards (suc i) ≤ 100_000_000
   reach-flow-small = reach-accepted cards (ready .lawful) (ready .sound) i l .flows .bounded
 
 -- what a line says of its reach
@@ -172,7 +172,7 @@ pub feet-next :
     FeetOf cards feet i →
     i < length cards →
     LineOf cards i line →
-    line .«foot_oxygen» < 4294967296 →
+    line .«foot_oxygen» < 4_294_967_296 →
     i < length (feet .bod) →
     i < length (feet .oxygen) →
     next .bod ≡ set (feet .bod) i (line .flow * line .«foot_bod») →

@@ -23,9 +23,9 @@ use Rattle.river.specs.Stored.{oxygenOf}
 -- the ranges of a start, and the shares of its step
 pub start-range :
     {bod oxygen saturated : ℕ} (card : Card) →
-    bod ≤ 1000000000 →
-    1000000000 ≤ oxygen →
-    oxygen < 4294967296 →
+    bod ≤ 1_000_000_000 →
+    1_000_000_000 ≤ oxygen →
+    oxygen < 4_294_967_296 →
     SaturationInRange card →
     saturated ≡ saturationOf card →
     StartInRange (record { bod = bod; oxygen = oxygen; saturation = saturated })
@@ -44,7 +44,7 @@ module _ {step : Step} {start : Start} {p : Profile} (sound : SoundStep step) (r
       (share-below (factorsAt step foot .left) (start .bod) (omega (arith, range sound foot .bod)))
 
 -- the critical instant is one of the 1,025
-pub critical-within : {step : Step} {start : Start} {p : Profile} → Profiled step start p → p .«critical_instant» ≤ 1024
+pub critical-within : {step : Step} {start : Start} {p : Profile} → Profiled step start p → p .«critical_instant» ≤ foot
 critical-within {step} {start} profiled =
     rw (profiled .critical-instant) (lowest-first (oxygenAfter step start) foot .within)
 

@@ -8,6 +8,7 @@ use borrow.Author.Tests.{lt-ltb, le-ltb}
 use lib.Dec.{ltb}
 use lib.IntN.{ℤ, pos, negsuc, negℤ, subℕ, _-ℤ_}
 use lib.Signed.{ltZ}
+use Rattle.decay.specs.Fixed.{one}
 use Rattle.river.specs.Head.{floor}
 use Rattle.river.proofs.head.Offset.{sub-pos, sub-neg, sub-eq, minus}
 
@@ -66,14 +67,14 @@ sub-order a b k = by-order (decLe k a) (decLe k b)
         (same-test (k - suc b) (k - suc a) a b (λ (l : k - suc b < k - suc a). omega arith) (λ (l : a < b). omega arith))
 
 -- a share kept of a surplus, rounded down: the surplus less the share lost, as a negative number
-pub floor-surplus : (p n d : ℕ) → p + n ≡ 17592186044416 * d → floor (negℤ (pos n)) 17592186044416 ≡ negℤ (pos (d - p / 17592186044416))
+pub floor-surplus : (p n d : ℕ) → p + n ≡ one * d → floor (negℤ (pos n)) one ≡ negℤ (pos (d - p / one))
 unfolding floor
 floor-surplus p zero d e =
     ap pos (omega arith) ∙ sym (ap (λ (k : ℕ). negℤ (pos k)) (rest p d e))
   where
-    rest : (p d : ℕ) → p + 0 ≡ 17592186044416 * d → d - p / 17592186044416 ≡ 0
+    rest : (p d : ℕ) → p + 0 ≡ one * d → d - p / one ≡ 0
     rest p d e = omega arith
 floor-surplus p (suc k) d e = sym (ap (λ (j : ℕ). negℤ (pos j)) (rest p d e))
   where
-    rest : (p d : ℕ) → p + suc k ≡ 17592186044416 * d → d - p / 17592186044416 ≡ suc (k / 17592186044416)
+    rest : (p d : ℕ) → p + suc k ≡ one * d → d - p / one ≡ suc (k / one)
     rest p d e = omega arith

@@ -15,28 +15,28 @@ use Rattle.report.specs.Program.{oxygenWith}
 use Rattle.report.specs.Profile.{StartInRange}
 use Rattle.report.specs.declared.profile.Start.{Start}
 use Rattle.report.proofs.profile.Offset.{sub-less, less-sub, floor-surplus}
-use Rattle.river.specs.Stored.{oxygenOf, Stores}
+use Rattle.river.specs.Stored.{storedZero, oxygenOf, Stores}
 
 -- what is left of a deficit, and of a surplus, rounded down
-floor-deficit : (k Cs c : ℕ) → c ≤ Cs + 2147483648 → floor (pos k *ℤ (pos Cs -ℤ oxygenOf c)) one ≡ pos (product k (Cs + 2147483648 - c))
+floor-deficit : (k Cs c : ℕ) → c ≤ Cs + storedZero → floor (pos k *ℤ (pos Cs -ℤ oxygenOf c)) one ≡ pos (product k (Cs + storedZero - c))
 unfolding floor product oxygenOf
 floor-deficit k Cs c h =
-    ap (λ (z : ℤ). floor (pos k *ℤ z) one) (less-sub Cs c 2147483648 ∙ sub-pos (Cs + 2147483648) c h)
+    ap (λ (z : ℤ). floor (pos k *ℤ z) one) (less-sub Cs c storedZero ∙ sub-pos (Cs + storedZero) c h)
 
 floor-over :
     (k Cs c : ℕ) →
     k ≤ one →
-    Cs + 2147483648 < c →
-    floor (pos k *ℤ (pos Cs -ℤ oxygenOf c)) one ≡ negℤ (pos (c - (Cs + 2147483648) - product (one - k) (c - (Cs + 2147483648))))
+    Cs + storedZero < c →
+    floor (pos k *ℤ (pos Cs -ℤ oxygenOf c)) one ≡ negℤ (pos (c - (Cs + storedZero) - product (one - k) (c - (Cs + storedZero))))
 unfolding product oxygenOf
 floor-over k Cs c h l =
-    ap (λ (z : ℤ). floor (pos k *ℤ z) one) (less-sub Cs c 2147483648 ∙ sub-neg (Cs + 2147483648) c l)
-    ∙ floor-surplus ((one - k) * d) (k * suc (c - suc (Cs + 2147483648))) d whole
+    ap (λ (z : ℤ). floor (pos k *ℤ z) one) (less-sub Cs c storedZero ∙ sub-neg (Cs + storedZero) c l)
+    ∙ floor-surplus ((one - k) * d) (k * suc (c - suc (Cs + storedZero))) d whole
   where
     d : ℕ
-    d = c - (Cs + 2147483648)
+    d = c - (Cs + storedZero)
 
-    whole : (one - k) * (c - (Cs + 2147483648)) + k * suc (c - suc (Cs + 2147483648)) ≡ one * (c - (Cs + 2147483648))
+    whole : (one - k) * (c - (Cs + storedZero)) + k * suc (c - suc (Cs + storedZero)) ≡ one * (c - (Cs + storedZero))
     whole =
         ap (λ (n : ℕ). (one - k) * d + k * n) (omega arith)
         ∙ sym (add-mul (one - k) k d)
@@ -45,44 +45,44 @@ floor-over k Cs c h l =
 -- oxygen below saturation, stored with the offset
 oxygen-under :
     (f : Factors) (Cs L c : ℕ) →
-    c ≤ Cs + 2147483648 →
-    product (f .turned) L + product (f .kept) (Cs + 2147483648 - c) ≤ Cs + 2147483648 →
-    oxygenOf (Cs + 2147483648 - product (f .turned) L - product (f .kept) (Cs + 2147483648 - c)) ≡ oxygenWith f Cs L (oxygenOf c)
+    c ≤ Cs + storedZero →
+    product (f .turned) L + product (f .kept) (Cs + storedZero - c) ≤ Cs + storedZero →
+    oxygenOf (Cs + storedZero - product (f .turned) L - product (f .kept) (Cs + storedZero - c)) ≡ oxygenWith f Cs L (oxygenOf c)
 unfolding oxygenWith oxygenOf
 oxygen-under f Cs L c h k =
     sym
     (rw (floor-deficit (f .kept) Cs c h, minus Cs g)
-    (sub-less Cs g left ∙ sub-eq Cs (g + left) (Cs + 2147483648 - g - left) 2147483648 (omega arith)))
+    (sub-less Cs g left ∙ sub-eq Cs (g + left) (Cs + storedZero - g - left) storedZero (omega arith)))
   where
     g : ℕ
     g = product (f .turned) L
 
     left : ℕ
-    left = product (f .kept) (Cs + 2147483648 - c)
+    left = product (f .kept) (Cs + storedZero - c)
 
 -- oxygen above saturation likewise
 oxygen-over :
     (f : Factors) (Cs L c : ℕ) →
     f .kept ≤ one →
-    Cs + 2147483648 < c →
-    product (f .turned) L ≤ Cs + 2147483648 →
-    oxygenOf (Cs + 2147483648 - product (f .turned) L + (c - (Cs + 2147483648)) - product (one - f .kept) (c - (Cs + 2147483648))) ≡ oxygenWith f Cs L (oxygenOf c)
+    Cs + storedZero < c →
+    product (f .turned) L ≤ Cs + storedZero →
+    oxygenOf (Cs + storedZero - product (f .turned) L + (c - (Cs + storedZero)) - product (one - f .kept) (c - (Cs + storedZero))) ≡ oxygenWith f Cs L (oxygenOf c)
 unfolding oxygenWith oxygenOf
 oxygen-over f Cs L c h k l =
     sym
     (rw (floor-over (f .kept) Cs c h k, minus Cs g, negℤ-negℤ)
     (sub-plus Cs g (d - lost)
-    ∙ sub-eq (Cs + (d - lost)) g (Cs + 2147483648 - g + d - lost) 2147483648
+    ∙ sub-eq (Cs + (d - lost)) g (Cs + storedZero - g + d - lost) storedZero
     (omega (arith, share-below (one - f .kept) d (omega arith)))))
   where
     g : ℕ
     g = product (f .turned) L
 
     d : ℕ
-    d = c - (Cs + 2147483648)
+    d = c - (Cs + storedZero)
 
     lost : ℕ
-    lost = product (one - f .kept) (c - (Cs + 2147483648))
+    lost = product (one - f .kept) (c - (Cs + storedZero))
 
 -- what the program returns, from the products that it was given
 module _ (f : Factors) (h : Start) (s : AreShares f) (r : StartInRange h) where
@@ -92,24 +92,24 @@ module _ (f : Factors) (h : Start) (s : AreShares f) (r : StartInRange h) where
   pub holds-under :
       (g left : ℕ) →
       g ≡ product (f .turned) (h .bod) →
-      h .oxygen ≤ h .saturation + 2147483648 →
-      left ≡ product (f .kept) (h .saturation + 2147483648 - h .oxygen) →
-      Stores (h .saturation + 2147483648 - g - left) (oxygenWith f (h .saturation) (h .bod) (oxygenOf (h .oxygen)))
+      h .oxygen ≤ h .saturation + storedZero →
+      left ≡ product (f .kept) (h .saturation + storedZero - h .oxygen) →
+      Stores (h .saturation + storedZero - g - left) (oxygenWith f (h .saturation) (h .bod) (oxygenOf (h .oxygen)))
   holds-under g left eg k el =
       record {
         is =
             rw (eg, el)
             (oxygen-under f (h .saturation) (h .bod) (h .oxygen) k
-            (omega (arith, turned-below, share-below (f .kept) (h .saturation + 2147483648 - h .oxygen) (s .deficit))));
+            (omega (arith, turned-below, share-below (f .kept) (h .saturation + storedZero - h .oxygen) (s .deficit))));
         fits = omega arith;
       }
 
   pub holds-over :
       (g lost : ℕ) →
       g ≡ product (f .turned) (h .bod) →
-      h .saturation + 2147483648 < h .oxygen →
-      lost ≡ product (one - f .kept) (h .oxygen - (h .saturation + 2147483648)) →
-      Stores (h .saturation + 2147483648 - g + (h .oxygen - (h .saturation + 2147483648)) - lost) (oxygenWith f (h .saturation) (h .bod) (oxygenOf (h .oxygen)))
+      h .saturation + storedZero < h .oxygen →
+      lost ≡ product (one - f .kept) (h .oxygen - (h .saturation + storedZero)) →
+      Stores (h .saturation + storedZero - g + (h .oxygen - (h .saturation + storedZero)) - lost) (oxygenWith f (h .saturation) (h .bod) (oxygenOf (h .oxygen)))
   holds-over g lost eg k el =
       record {
         is =

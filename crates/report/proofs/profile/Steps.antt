@@ -16,18 +16,18 @@ use Rattle.report.specs.Profile.{WalkedTo, Profiled, oxygenAfter}
 use Rattle.report.specs.declared.profile.Start.{Start}
 use Rattle.report.specs.declared.profile.Walk.{Walk}
 use Rattle.report.proofs.profile.Offset.{sub-order}
-use Rattle.river.specs.Stored.{oxygenOf, Stores}
+use Rattle.river.specs.Stored.{storedZero, oxygenOf, Stores}
 
 module _ (at : ℕ → ℤ) (m o w : ℕ) (here : Stores o (at (suc m))) (so-far : Stores w (lowest at m .oxygen)) where
   pub lower-here : o < w → lowest at (suc m) ≡ record { instant = suc m; oxygen = at (suc m) }
   unfolding lowest lower oxygenOf
   lower-here l =
-      rw (ap₂ ltZ (sym (here .is)) (sym (so-far .is)) ∙ sub-order o w 2147483648 ∙ lt-ltb o w l)
+      rw (ap₂ ltZ (sym (here .is)) (sym (so-far .is)) ∙ sub-order o w storedZero ∙ lt-ltb o w l)
 
   pub not-lower-here : w ≤ o → lowest at (suc m) ≡ lowest at m
   unfolding lowest lower oxygenOf
   not-lower-here l =
-      rw (ap₂ ltZ (sym (here .is)) (sym (so-far .is)) ∙ sub-order o w 2147483648 ∙ le-ltb o w l)
+      rw (ap₂ ltZ (sym (here .is)) (sym (so-far .is)) ∙ sub-order o w storedZero ∙ le-ltb o w l)
 
 -- oxygen where the factors of an instant hold
 abbrev with : Factors → Start → ℤ

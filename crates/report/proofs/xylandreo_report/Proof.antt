@@ -20,13 +20,9 @@ code-requires c κs = search needs
 enum-told : tie.Need-enum-told
 enum-told c = search needs
 
-reach-count-requires : tie.Need-reach-count-requires
-reach-count-requires c κs = search needs
-
-mul-if1 : tie.Need-mul-if1
-mul-if1 c =
-    let a = c .before .before .before .before in
-    omega (arith, c .reach-count .ensures, a .accept .ensures .lawful (c .before .before .enum-told .given .1) .few)
+report-size-requires : tie.Need-report-size-requires
+report-size-requires c κs =
+    c .before .before .before .accept .ensures .lawful (c .before .enum-told .given .1) .few
 
 -- the elements of the file are bytes
 are-bytes : (c : tie.After-shared-slice-known) → AreBytes (c .before .args .file .now)
@@ -36,14 +32,14 @@ returns : tie.Need-returns
 returns c =
     let a = c .before .before .before .before .before in
     reports-refusal (are-bytes (a .before .before))
-    (file-short (a .accept .ensures) _ (c .before .before .before .enum-told .given .1) (omega (arith, c .if1 .taken, c .before .reach-count .ensures)))
+    (file-short (a .accept .ensures) _ (c .before .before .before .enum-told .given .1) (omega (arith, c .if1 .taken, c .before .report-size .ensures)))
     refl
 
 report-all-requires : tie.Need-report-all-requires
 report-all-requires c κs =
     let a = c .before .before .before .before .before .before .before in (
       file-ready (a .accept .ensures) (c .before .before .before .before .before .enum-told .given .1),
-      omega (arith, c .before .before .if1 .left, c .before .before .before .reach-count .ensures),
+      omega (arith, c .before .before .if1 .left, c .before .before .before .report-size .ensures),
     )
 
 returns-2 : tie.Need-returns-2
@@ -59,7 +55,7 @@ returns-3 c =
     let a = c .before .before .before .before .before .before .before .before .before .before in
     reports-river (are-bytes (a .before .before))
     (file-held (a .accept .ensures) _ (c .before .before .before .before .before .before .before .before .enum-told .given .1)
-    (omega (arith, c .before .before .before .before .before .if1 .left, c .before .before .before .before .before .before .reach-count .ensures)))
+    (omega (arith, c .before .before .before .before .before .if1 .left, c .before .before .before .before .before .before .report-size .ensures)))
     (c .before .before .report-all .ensures)
 
 pub xylandreo-report-spec : {M : Type 1} → statement M
@@ -70,8 +66,7 @@ xylandreo-report-spec =
     enum-known-outcome
     code-requires
     enum-told
-    reach-count-requires
-    mul-if1
+    report-size-requires
     returns
     report-all-requires
     returns-2

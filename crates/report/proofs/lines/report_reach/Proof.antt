@@ -4,6 +4,9 @@ use mathlib.Core.Path.{_≡_}
 use lib.ListN.{length}
 use native.Mathlib.Omega.{arith}
 use borrow.Author.Needs.{needs}
+use Rattle.river.specs.Card.{river}
+use Rattle.report.specs.Record.{figuresIn}
+use Rattle.report.proofs.record.Encoding.{record-length}
 use Rattle.report.proofs.lines.Feet.{reach-flow-small, line-flow, feet-next}
 use Rattle.report.proofs.lines.report_reach.Statement.{statement}
 use Rattle.report.proofs.lines.report_reach.Tie as tie
@@ -12,7 +15,9 @@ line-at-requires : tie.Need-line-at-requires
 line-at-requires c κs = search needs
 
 put-record-requires : tie.Need-put-record-requires
-put-record-requires c κs = search needs
+put-record-requires c κs =
+    let s = c .before .before .before in
+    omega (arith, s .pre .1, record-length (river (s .args .cards)) (figuresIn (c .before .line-at .result)))
 
 cast-put-foot : tie.Need-cast-put-foot
 cast-put-foot c = search needs
@@ -45,7 +50,7 @@ returns c =
           (omega (arith, bod-long s, p .2, p .0 .lawful .few))
           (omega (arith, oxygen-long s, p .2, p .0 .lawful .few))
           (c .put-foot .ensures .0) (c .put-foot .ensures .1),
-      rw (of .figures) at (c .before .before .before .before .put-record .ensures),
+      rw (of .figures) at (c .before .before .before .before .put-record .ensures .buffer),
     )
 
 pub report-reach-spec : {M : Type 1} → statement M

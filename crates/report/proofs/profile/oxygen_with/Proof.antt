@@ -3,7 +3,9 @@
 use Prim.Native.Nat.{_-_, _+_}
 use borrow.Author.Needs.{needs}
 use native.Mathlib.Omega.{arith}
+use Rattle.decay.specs.Fixed.{one}
 use Rattle.decay.proofs.fixed.Digits.{share-below}
+use Rattle.river.specs.Stored.{storedZero}
 use Rattle.report.proofs.profile.Oxygen.{turned-below, holds-under, holds-over}
 use Rattle.report.proofs.profile.oxygen_with.Statement.{statement}
 use Rattle.report.proofs.profile.oxygen_with.Tie as tie
@@ -29,7 +31,7 @@ sub-result c =
     omega (
       arith,
       turned-below (a .f) (a .start) (s .pre .0) (s .pre .1),
-      share-below (a .f .kept) (a .start .saturation + 2147483648 - a .start .oxygen) (s .pre .0 .deficit),
+      share-below (a .f .kept) (a .start .saturation + storedZero - a .start .oxygen) (s .pre .0 .deficit),
     )
 
 sub-over : tie.Need-sub-over
@@ -49,7 +51,7 @@ sub-result-2 c =
     let a = c .before .before .before .before .before .args in
     omega (
       arith,
-      share-below (17592186044416 - a .f .kept) (a .start .oxygen - (a .start .saturation + 2147483648)) (omega arith),
+      share-below (one - a .f .kept) (a .start .oxygen - (a .start .saturation + storedZero)) (omega arith),
     )
 
 returns : tie.Need-returns

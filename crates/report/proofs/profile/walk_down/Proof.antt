@@ -3,15 +3,16 @@
 use mathlib.Core.Path.{_≡_}
 use Prim.Native.Nat.{_≤_, _-_}
 use native.Mathlib.Omega.{arith}
+use Rattle.report.specs.Program.{foot}
 use Rattle.report.specs.Profile.{WalkedTo}
 use Rattle.report.proofs.profile.walk_down.Statement.{statement}
 use Rattle.report.proofs.profile.walk_down.Tie as tie
 
 abbrev Inv-loop : tie.InvT-loop
-Inv-loop step start walk₀ m₀ walk m = (m ≤ 1024) × WalkedTo step start m walk
+Inv-loop step start walk₀ m₀ walk m = (m ≤ foot) × WalkedTo step start m walk
 
 abbrev μ-loop : tie.MeasureT-loop
-μ-loop step start walk₀ m₀ walk m = 1024 - m
+μ-loop step start walk₀ m₀ walk m = foot - m
 
 begin-requires : tie.Need-begin-requires Inv-loop μ-loop
 begin-requires c κs = c .pre .1
@@ -35,7 +36,7 @@ loop-again c = (omega arith, c .turn .ensures)
 
 returns : tie.Need-returns Inv-loop μ-loop
 returns c =
-    let at-foot : c .before .loop .m ≡ 1024 = omega arith in
+    let at-foot : c .before .loop .m ≡ foot = omega arith in
     rw at-foot at (c .before .loop .inv .1)
 
 pub walk-down-spec : {M : Type 1} → statement M

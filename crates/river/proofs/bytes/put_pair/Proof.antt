@@ -1,11 +1,11 @@
--- `river::put::put_pair` meets its contract: two stores, one behind the other.
+-- `river::bytes::put_pair` meets its contract: two stores, one behind the other.
 -- Assumes nothing.
 use borrow.Author.Needs.{needs}
 use native.Mathlib.Omega.{arith}
 use lib.ListN.{length-set}
 use Rattle.river.proofs.bytes.Puts.{put-pair}
-use Rattle.river.proofs.put.put_pair.Statement.{statement}
-use Rattle.river.proofs.put.put_pair.Tie as tie
+use Rattle.river.proofs.bytes.put_pair.Statement.{statement}
+use Rattle.river.proofs.bytes.put_pair.Tie as tie
 
 slice-write-out : tie.Need-slice-write-out
 slice-write-out c = search needs

@@ -1,9 +1,9 @@
--- `river::put::put_four` meets its contract: two runs of bytes, one behind the other.
+-- `river::bytes::put_four` meets its contract: two runs of bytes, one behind the other.
 -- Assumes nothing.
 use borrow.Author.Needs.{needs}
 use Rattle.river.proofs.bytes.Puts.{chain}
-use Rattle.river.proofs.put.put_four.Statement.{statement}
-use Rattle.river.proofs.put.put_four.Tie as tie
+use Rattle.river.proofs.bytes.put_four.Statement.{statement}
+use Rattle.river.proofs.bytes.put_four.Tie as tie
 
 cast-put-two : tie.Need-cast-put-two
 cast-put-two c = search needs

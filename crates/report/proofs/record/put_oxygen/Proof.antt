@@ -1,0 +1,39 @@
+-- `report::record::put_oxygen` meets its contract: runs of bytes, one behind the other. Assumes nothing.
+use borrow.Author.Needs.{needs}
+use Rattle.river.proofs.bytes.Puts.{chain}
+use Rattle.report.proofs.record.put_oxygen.Statement.{statement}
+use Rattle.report.proofs.record.put_oxygen.Tie as tie
+
+put-complement-requires : tie.Need-put-complement-requires
+put-complement-requires c κs = search needs
+
+put-two-requires : tie.Need-put-two-requires
+put-two-requires c κs = search needs
+
+put-complement-requires-2 : tie.Need-put-complement-requires-2
+put-complement-requires-2 c κs = search needs
+
+put-complement-requires-3 : tie.Need-put-complement-requires-3
+put-complement-requires-3 c κs = search needs
+
+same-length : tie.Need-same-length
+same-length c = search needs
+
+returns : tie.Need-returns
+returns c =
+    let e = c .before .before in
+    let d = e .before .before .before .before in
+    let b = d .before .before .before .before in
+    let a = b .before .before .before .before in
+    chain (chain (chain (a .put-complement .ensures) (b .put-two .ensures)) (d .put-complement2 .ensures)) (e .put-complement3 .ensures)
+
+pub put-oxygen-spec : {M : Type 1} → statement M
+put-oxygen-spec =
+    tie.close
+    (tie.spec
+    put-complement-requires
+    put-two-requires
+    put-complement-requires-2
+    put-complement-requires-3
+    same-length
+    returns)

@@ -1,0 +1,25 @@
+-- `report::record::report_size` meets its contract: its product is small. Assumes nothing.
+use borrow.Author.Needs.{needs}
+use mathlib.Core.Path.{ap₂}
+use Prim.Native.Nat.{_*_}
+use native.Mathlib.Omega.{arith}
+use Rattle.report.specs.Record.{recordSize}
+use Rattle.report.proofs.record.report_size.Statement.{statement}
+use Rattle.report.proofs.record.report_size.Tie as tie
+
+record-size-requires : tie.Need-record-size-requires
+record-size-requires c κs = search needs
+
+reach-count-requires : tie.Need-reach-count-requires
+reach-count-requires c κs = search needs
+
+mul-result : tie.Need-mul-result
+unfolding recordSize
+mul-result c = rw (c .before .record-size .ensures) (omega arith)
+
+returns : tie.Need-returns
+returns c = ap₂ _*_ (c .before .record-size .ensures) (c .reach-count .ensures)
+
+pub report-size-spec : {M : Type 1} → statement M
+report-size-spec =
+    tie.close (tie.spec record-size-requires reach-count-requires mul-result returns)
