@@ -1,0 +1,29 @@
+-- Texts of document 01, computed from the definitions: both lines of the printing program's example and its refusal; and a few numbers.
+use mathlib.Core.Path.{_≡_, refl}
+use lib.IntN.{pos, negsuc}
+use Rattle.river.specs.declared.card.Dam.the-variants.{Absent}
+use Rattle.river.specs.Refusal.{accepted, refused, refuse}
+use Rattle.river.proofs.Bench.{two}
+use Rattle.report.proofs.Bench.{bench as report-bench}
+use Rattle.text.specs.Text.{ascii, digitsBy, decimal, number, signed, afterWord, line, numbersOf, linesOf, refusalLine, textOf}
+
+pub record Rows : Type 0 where
+  pub example :
+      textOf (accepted (two Absent)) ≡ ascii "1 1 3000 2000000 2000000 8000000 0 8000000 8000000\n2 2 4000 9000000 9000000 6500000 0 6500000 6500000\n"
+  pub refusal : textOf (refused (refuse 5 2)) ≡ ascii "refused 5 reach 2\n"
+  pub zero : signed (pos 0) ≡ ascii "0"
+  pub ten : signed (pos 10) ≡ ascii "10"
+  pub below-zero : signed (negsuc 0) ≡ ascii "-1"
+  pub large : signed (negsuc 1000000383) ≡ ascii "-1000000384"
+
+pub bench : Rows
+unfolding textOf linesOf refusalLine line afterWord numbersOf signed number decimal digitsBy
+bench =
+    record {
+      example = rw (report-bench .line-1, report-bench .line-2);
+      refusal = refl;
+      zero = refl;
+      ten = refl;
+      below-zero = refl;
+      large = refl;
+    }

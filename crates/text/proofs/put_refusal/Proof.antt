@@ -1,0 +1,66 @@
+-- `text::put_refusal` meets its contract: words, one behind the other. Assumes nothing.
+use mathlib.Core.Path.{_≡_}
+use mathlib.Core.List.{_++_, append-assoc}
+use Prim.Native.Nat.{ℕ}
+use borrow.Author.Needs.{needs}
+use Rattle.text.specs.Text.{ascii, number, afterWord, line, refusalLine}
+use Rattle.text.proofs.put.Puts.{both, reworded}
+use Rattle.text.proofs.put_refusal.Statement.{statement}
+use Rattle.text.proofs.put_refusal.Tie as tie
+
+slice-aggregate-put-word : tie.Need-slice-aggregate-put-word
+slice-aggregate-put-word c = search needs
+
+put-word-requires : tie.Need-put-word-requires
+put-word-requires c κs = search needs
+
+put-number-requires : tie.Need-put-number-requires
+put-number-requires c κs = search needs
+
+slice-aggregate-put-word-2 : tie.Need-slice-aggregate-put-word-2
+slice-aggregate-put-word-2 c = search needs
+
+put-word-requires-2 : tie.Need-put-word-requires-2
+put-word-requires-2 c κs = search needs
+
+put-number-requires-2 : tie.Need-put-number-requires-2
+put-number-requires-2 c κs = search needs
+
+slice-aggregate-put-word-3 : tie.Need-slice-aggregate-put-word-3
+slice-aggregate-put-word-3 c = search needs
+
+put-word-requires-3 : tie.Need-put-word-requires-3
+put-word-requires-3 c κs = search needs
+
+same-length : tie.Need-same-length
+same-length c = search needs
+
+-- the line of a refusal, word by word
+refusal-is : (n reach : ℕ) → ascii "refused " ++ number n ++ ascii " reach " ++ number reach ++ ascii "\n" ≡ refusalLine n reach
+unfolding refusalLine line afterWord
+refusal-is n reach = simp append-assoc
+
+returns : tie.Need-returns
+returns c =
+    let e = c .before .before in
+    let d = e .before .before .before .before .before in
+    let w = d .before .before .before .before in
+    let b = w .before .before .before .before .before in
+    let a = b .before .before .before .before in
+    reworded (refusal-is _ _)
+    (both (both (both (both (a .put-word .ensures) (b .put-number .ensures)) (w .put-word2 .ensures)) (d .put-number2 .ensures)) (e .put-word3 .ensures))
+
+pub put-refusal-spec : {M : Type 1} → statement M
+put-refusal-spec =
+    tie.close
+    (tie.spec
+    slice-aggregate-put-word
+    put-word-requires
+    put-number-requires
+    slice-aggregate-put-word-2
+    put-word-requires-2
+    put-number-requires-2
+    slice-aggregate-put-word-3
+    put-word-requires-3
+    same-length
+    returns)

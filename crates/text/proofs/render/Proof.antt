@@ -1,0 +1,71 @@
+-- `text::render` meets its contract, by that of reporting. Assumes nothing.
+use mathlib.Core.Path.{_≡_, refl, ap}
+use native.Mathlib.Omega.{arith}
+use borrow.Author.Needs.{needs}
+use Rattle.river.specs.Bytes.{AreBytes}
+use Rattle.text.specs.Text.{linesOf}
+use Rattle.text.proofs.Rendering.{counted, lines-are, refusal-is, renders}
+use Rattle.text.proofs.put.Puts.{reworded}
+use Rattle.text.proofs.render.Statement.{statement}
+use Rattle.text.proofs.render.Tie as tie
+
+slice-aggregate-xylandreo-report : tie.Need-slice-aggregate-xylandreo-report
+slice-aggregate-xylandreo-report c = search needs
+
+xylandreo-report-requires : tie.Need-xylandreo-report-requires
+xylandreo-report-requires c κs = search needs
+
+slice-aggregate-put-lines : tie.Need-slice-aggregate-put-lines
+slice-aggregate-put-lines c = search needs
+
+two-at-requires : tie.Need-two-at-requires
+two-at-requires c κs = search needs
+
+cast-put-lines : tie.Need-cast-put-lines
+cast-put-lines c = search needs
+
+-- the elements of the file are bytes
+are-bytes : (c : tie.After-shared-slice-known) → AreBytes (c .before .args .file .now)
+are-bytes c = record { below = λ k. c .shared-slice-known .given k .fits }
+
+put-lines-requires : tie.Need-put-lines-requires
+put-lines-requires c κs =
+    let t = c .before .before .before in
+    let x = t .before .before in
+    let river = x .xylandreo-report .ensures .accepts (t .if1 .taken) in
+    let n = counted (are-bytes (x .before .before)) (river .passes) in
+    omega (arith, c .two-at .ensures, n .0, n .1, river .holds, x .xylandreo-report .kept .1 .0, x .before .before .before .good)
+
+put-refusal-requires : tie.Need-put-refusal-requires
+put-refusal-requires c κs = search needs
+
+returns : tie.Need-returns
+returns c =
+    let l = c .put-lines in
+    let t = c .before .before .before .before in
+    let x = t .before .before in
+    let file = are-bytes (x .before .before) in
+    let n : _ ≡ _ = c .before .two-at .ensures in
+    renders (reworded (ap (linesOf _) n) (l .ensures)) (lines-are file refl (x .xylandreo-report .ensures) (t .if1 .taken)) (put-lines-requires (c .before) (l .lifetimes) .2) (l .kept .0)
+
+returns-2 : tie.Need-returns-2
+returns-2 c =
+    let l = c .put-refusal in
+    let t = c .before .before in
+    let x = t .before .before in
+    let file = are-bytes (x .before .before) in
+    renders (l .ensures) (refusal-is file refl (x .xylandreo-report .ensures) (t .if1 .left)) (omega arith) (l .kept .0)
+
+pub render-spec : {M : Type 1} → statement M
+render-spec =
+    tie.close
+    (tie.spec
+    slice-aggregate-xylandreo-report
+    xylandreo-report-requires
+    slice-aggregate-put-lines
+    two-at-requires
+    cast-put-lines
+    put-lines-requires
+    put-refusal-requires
+    returns
+    returns-2)
