@@ -10,7 +10,8 @@ use Rattle.river.specs.declared.card.Card.{Card}
 use Rattle.river.specs.declared.card.Dam.the-variants.{Absent}
 use Rattle.river.specs.Refusal.{accepted, need, after, choose}
 use Rattle.river.specs.Card.{countOk, inRange, outletOk}
-use Rattle.river.specs.Read.{readFile, readHeader, readReaches, readReach, readDam, cardAt}
+use Rattle.river.specs.Optional.{readOptional, readOptionals}
+use Rattle.river.specs.Read.{readFile, readHeader, readReaches, readReach, cardAt}
 use Rattle.river.specs.Write.{encode}
 use Rattle.river.specs.Flow.{cardOf, above, feedersAmong, joinedIf, fed, flowOf, massOf, deepest, damFits, flowCheck, checksFrom, reachChecks}
 use Rattle.river.specs.Accept.{acceptFile}
@@ -40,7 +41,7 @@ abbrev pub two : List Card
 two = reach 2 10000 ∷ reach 0 0 ∷ []
 
 accepted-two : acceptFile (encode two) ≡ accepted two
-unfolding acceptFile encode readFile readHeader readReaches readReach readDam cardAt countOk inRange outletOk need after choose flowCheck checksFrom reachChecks damFits feedersAmong joinedIf fed flowOf massOf
+unfolding acceptFile encode readFile readHeader readReaches readReach readOptionals readOptional cardAt countOk inRange outletOk need after choose flowCheck checksFrom reachChecks damFits feedersAmong joinedIf fed flowOf massOf
 accepted-two = refl
 
 abbrev allowed : ℕ → Fraction

@@ -46,6 +46,12 @@ module _ {A : Type 0} where
   unfolding after
   after-refused x f p = rw p
 
+  -- a sequence of three
+  pub after-after : {B C : Type 0} (x : Answer A) (f : A → Answer B) (g : B → Answer C) → after (after x f) g ≡ after x (λ a. after (f a) g)
+  unfolding after
+  after-after (accepted a) f g = refl
+  after-after (refused r) f g = refl
+
   -- what passed a guard
   pub record Passed (b : Bool) (x : Answer A) (a : A) : Type 0 where
     pub test : b ≡ true

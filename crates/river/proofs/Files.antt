@@ -4,36 +4,37 @@ use Prim.Native.Nat.{ℕ, zero, suc, _≤_}
 use mathlib.Core.Logic.{_↔_}
 use mathlib.Core.Path.{_≡_, refl, ap, sym, subst, _∙_}
 use mathlib.Core.List.{List, [], _∷_, _++_}
-use mathlib.Core.Bool.{false}
+use mathlib.Core.Bool.{true}
 use native.Mathlib.Nat.{div-add-mod'}
 use native.Mathlib.Omega.{arith}
 use lib.ListN.{length, drop}
 use borrow.Author.Tests.{le-leb, leb-true, eqb-true}
-use Rattle.river.specs.Bytes.{AreBytes, twoAt, marked}
-use Rattle.river.specs.Card.{Lawful, LawfulCard, LawfulFrom, LawfulDam, sizeOf}
+use Rattle.river.specs.Bytes.{AreBytes, twoAt}
+use Rattle.river.specs.Card.{Lawful, LawfulCard, LawfulFrom, RV, optional, optionalOf, sizeOf}
 use Rattle.river.specs.Read.{readHeader, readReaches, readFile}
 use Rattle.river.specs.Refusal.{accepted}
-use Rattle.river.specs.Write.{encode, encodeDam, encodeCard, encodeCards, encodeHeader}
+use Rattle.river.specs.Write.{encode, encodeCard, encodeCards, encodeHeader}
 use Rattle.river.specs.declared.card.Card.{Card}
-use Rattle.river.specs.declared.card.Dam.{Dam}
 use Rattle.river.specs.declared.card.Dam.the-variants.{Absent, Aerating}
 use Rattle.river.proofs.Answers.{need-true, after-accepted, passed, went}
-use Rattle.river.proofs.bytes.Numbers.{are-bytes-cons, are-bytes-two, are-bytes-four, are-bytes-drop, mark, twoBytes-twoAt, spelled}
-use Rattle.river.proofs.range.Ranges.{countOk-true, true-countOk, outlet-below}
+use Rattle.river.proofs.bytes.Numbers.{are-bytes-cons, are-bytes-two, are-bytes-four, are-bytes-drop, begins, twoBytes-twoAt, leads-spelled}
+use Rattle.river.proofs.range.Ranges.{countOk-true, true-countOk, outlet-below, lawful-optionals}
+use Rattle.river.proofs.read.Optional.{unmarked, are-bytes-optionals}
+use Rattle.river.proofs.read.Rows.{rows}
 use Rattle.river.proofs.read.Records.{readReach-encode, drop-encodeCard, readReach-is}
 
 -- Reading what was encoded.
 
--- no river's records begin with `DM`
-no-dam-first : (cs : List Card) → marked (encodeCards cs) 0 68 77 ≡ false
-no-dam-first [] = refl
-no-dam-first (c ∷ cs) = refl
+-- no river's records begin with a record that may follow an `RE` record
+none-first : (cs : List Card) → unmarked optional (encodeCards cs) ≡ true
+none-first [] = refl
+none-first (c ∷ cs) = refl
 
 readReaches-encode : (n i : ℕ) (cs : List Card) → LawfulFrom n i cs → readReaches n i (length cs) (encodeCards cs) ≡ accepted cs
 unfolding readReaches
 readReaches-encode n i [] h = need-true _ _ _ _ refl
 readReaches-encode n i (c ∷ cs) h =
-    after-accepted _ _ (readReach-encode n i c (encodeCards cs) (h .0) (no-dam-first cs)) ∙
+    after-accepted _ _ (readReach-encode n i c (encodeCards cs) (h .0) (none-first cs)) ∙
     after-accepted _ _ (rw drop-encodeCard (readReaches-encode n (suc i) cs (h .1)))
 
 readHeader-encode : (n : ℕ) (rest : List ℕ) → 1 ≤ n → n ≤ 128 → readHeader (encodeHeader n ++ rest) ≡ accepted n
@@ -94,16 +95,14 @@ readHeader-is s n h e =
     let p = passed _ _ _ _ e in
     let q = passed _ _ _ _ (p .rest) in
     let r = passed _ _ _ _ (q .rest) in
-    let m = mark s 0 82 86 (q .test) in
+    let m = begins s RV (q .test) in
     let ok = true-countOk (twoAt s 2) (r .test) in
     let same : twoAt s 2 ≡ n = cc (r .rest) in
     subst (IsHeader s) same
     (record {
       some = ok .0;
       few = ok .1;
-      bytes =
-          spelled s 4 0 (leb-true _ _ (p .test)) ∙
-          (λ j. m .first j ∷ m .second j ∷ sym (twoBytes-twoAt s 2 h) j ++ drop 4 s);
+      bytes = leads-spelled _ s (leb-true _ _ (p .test)) (λ j. sym (m .first) j ∷ sym (m .second) j ∷ twoBytes-twoAt s 2 h j);
     })
 
 -- what reading accepts: lawful cards, from their file
@@ -155,13 +154,6 @@ idle-dam c d p q e = let z : _≡_ {A = ℕ} 0 1 = cc (ap (λ (x : Card). x .dam
 
 -- the file of lawful cards is made of bytes
 
-are-bytes-dam : (d : Dam) (s : List ℕ) → LawfulDam d → AreBytes s → AreBytes (encodeDam d ++ s)
-are-bytes-dam Absent s h k = k
-are-bytes-dam (Aerating x g) s h k =
-    are-bytes-cons (omega arith)
-    (are-bytes-cons (omega arith)
-    (are-bytes-two x (omega (arith, h .share)) (are-bytes-four g (omega (arith, h .generating)) k)))
-
 are-bytes-card : (n i : ℕ) (c : Card) (s : List ℕ) → n ≤ 128 → LawfulCard n i c → AreBytes s → AreBytes (encodeCard c ++ s)
 are-bytes-card n i c s few h k =
     let r = h .in-range in
@@ -175,7 +167,7 @@ are-bytes-card n i c s few h k =
     (are-bytes-four (c .inflow) (omega (arith, r .inflow))
     (are-bytes-four (c .«inflow_bod») (omega (arith, r .inflow-bod))
     (are-bytes-two (c .«inflow_oxygen») (omega (arith, r .inflow-oxygen))
-    (are-bytes-four (c .load) (h .load) (are-bytes-dam (c .dam) s (h .dam) k)))))))))))
+    (are-bytes-four (c .load) (h .load) (are-bytes-optionals optional rows (optionalOf c) (lawful-optionals h) k)))))))))))
 
 are-bytes-cards : (n i : ℕ) (cs : List Card) → n ≤ 128 → LawfulFrom n i cs → AreBytes (encodeCards cs)
 are-bytes-cards n i [] few h = record { below = λ k. omega arith }

@@ -21,7 +21,7 @@ use Rattle.river.specs.declared.file.Reading.{Reading}
 use Rattle.river.specs.declared.write.Written.{Written}
 use Rattle.river.proofs.Answers.{never, need-true, after-accepted, passed, went}
 use Rattle.river.proofs.Files.{reads-lawful, reads-only-lawful}
-use Rattle.river.proofs.range.Ranges.{inRange-true, true-inRange, damInRange-true, true-damInRange, countOk-true, true-countOk}
+use Rattle.river.proofs.range.Ranges.{inRange-true, lawful-optionals, lawful-card, countOk-true, true-countOk}
 use Rattle.river.specs.File.{answerOf, Reads}
 
 -- each load is a number of four bytes, as the field's type has it
@@ -34,7 +34,7 @@ unfolding checkCard
 checkCard-lawful n i c h =
     need-true _ _ _ _ (inRange-true c (h .in-range)) ∙
     need-true _ _ _ _ (h .outlet) ∙
-    need-true _ _ _ _ (damInRange-true (c .dam) (h .dam))
+    need-true _ _ _ _ (lawful-optionals h)
 
 checkFrom-lawful : (n i : ℕ) (cs : List Card) → LawfulFrom n i cs → checkFrom n i cs ≡ accepted tt
 unfolding checkFrom
@@ -48,12 +48,7 @@ checkCard-is n i c l e =
     let p = passed _ _ _ _ e in
     let q = passed _ _ _ _ (p .rest) in
     let r = passed _ _ _ _ (q .rest) in
-    record {
-      in-range = true-inRange c (p .test);
-      load = l;
-      outlet = q .test;
-      dam = true-damInRange (c .dam) (r .test);
-    }
+    lawful-card n i c (p .test) l (q .test) (r .test)
 
 checkFrom-is : (n i : ℕ) (cs : List Card) {u : Unit} → LoadsFit cs → checkFrom n i cs ≡ accepted u → LawfulFrom n i cs
 unfolding checkFrom

@@ -31,9 +31,21 @@ twoAt s k = byteAt s k * 256 + byteAt s (k + 1)
 abbrev pub fourAt : List ℕ → ℕ → ℕ
 fourAt s k = twoAt s k * 65536 + twoAt s (k + 2)
 
--- whether the two bytes from a place on are a mark
-abbrev pub marked : List ℕ → ℕ → ℕ → ℕ → Bool
-marked s k a b = eqb (byteAt s k) a && eqb (byteAt s (k + 1)) b
+-- a two-byte mark
+pub record Mark : Type 0 where
+  pub first : ℕ
+  pub second : ℕ
+
+abbrev pub mark : ℕ → ℕ → Mark
+mark a b = record { first = a; second = b }
+
+-- the bytes of a mark
+abbrev pub markBytes : Mark → List ℕ
+markBytes m = m .first ∷ m .second ∷ []
+
+-- whether bytes begin with a mark
+abbrev pub marked : List ℕ → Mark → Bool
+marked s m = eqb (byteAt s 0) (m .first) && eqb (byteAt s 1) (m .second)
 
 -- bytes are put at a place of a buffer, and the rest of it is kept; the next place is behind them
 pub record Put (before : List ℕ) (at : ℕ) (bytes left : List ℕ) (next : ℕ) : Type 0 where

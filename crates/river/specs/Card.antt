@@ -1,14 +1,17 @@
--- Cards: the ranges of their fields, outlets, and the lawful lists of cards, which are the rivers that have a file.
+-- Cards: the ranges of their fields, outlets, the lawful lists of cards, which are the rivers that have a file, and the records of a card.
 use mathlib.Core.Path.{_≡_}
 use mathlib.Core.Bool.{Bool, true, _&&_, cond}
-use mathlib.Core.List.{List, [], _∷_}
-use Prim.Native.Nat.{ℕ, suc, _≤_, _<_}
+use mathlib.Core.List.{List, [], _∷_, _++_}
+use Prim.Native.Char.{code}
+use Prim.Native.Nat.{ℕ, suc, _+_, _≤_, _<_}
 use lib.ListN.{length, take}
 use lib.Dec.{leb, ltb, eqb}
 use Rattle.river.specs.declared.card.Card.{Card}
 use Rattle.river.specs.declared.card.Cards.{Cards}
 use Rattle.river.specs.declared.card.Dam.{Dam}
 use Rattle.river.specs.declared.card.Dam.the-variants.{Absent, Aerating}
+use Rattle.river.specs.Bytes.{Mark, mark, markBytes, twoBytes, fourBytes, twoAt, fourAt}
+use Rattle.river.specs.Optional.{Kind, Values, encodeOptionals, sizes}
 
 -- the river of a `Cards` value: its first `count` cards; reach i is element i - 1
 abbrev pub river : Cards → List Card
@@ -89,17 +92,54 @@ damInRange (Aerating s g) = leb s 1000 && leb g 100000000
 unfoldable pub countOk : ℕ → Bool
 countOk n = leb 1 n && leb n 128
 
--- the bytes of a file's header, and of the records of the longest card
+-- the `RV` and `RE` records: their marks and lengths
+abbrev pub RV : Mark
+RV = mark (code "R") (code "V")
+
 abbrev pub headerBytes : ℕ
 headerBytes = 4
 
-abbrev pub longestCard : ℕ
-longestCard = 34
+abbrev pub RE : Mark
+RE = mark (code "R") (code "E")
 
--- the length of a card's records
-abbrev pub sizeOfDam : Dam → ℕ
-sizeOfDam Absent = 26
-sizeOfDam (Aerating s g) = 34
+abbrev pub reachBytes : ℕ
+reachBytes = 26
 
+-- the `DM` record: mark; aeration share (2); generating flow (4)
+abbrev pub DM : Mark
+DM = mark (code "D") (code "M")
+
+abbrev pub damAt : List ℕ → Dam
+damAt s = Aerating (twoAt s 2) (fourAt s 4)
+
+abbrev pub encodeDam : Dam → List ℕ
+encodeDam Absent = []
+encodeDam (Aerating s g) = markBytes DM ++ twoBytes s ++ fourBytes g
+
+abbrev pub damRecord : Kind
+damRecord =
+    record {
+      Value = Dam;
+      none = Absent;
+      mark = DM;
+      size = 8;
+      decode = damAt;
+      test = λ s. damInRange (damAt s);
+      encode = encodeDam;
+      inRange = damInRange;
+    }
+
+-- the records that may follow an `RE` record, in file order
+abbrev pub optional : List Kind
+optional = damRecord ∷ []
+
+-- what a card holds of them
+abbrev pub optionalOf : Card → Values optional
+optionalOf c = (c .dam, tt)
+
+-- the length of a card's records, and that of the longest card's
 abbrev pub sizeOf : Card → ℕ
-sizeOf c = sizeOfDam (c .dam)
+sizeOf c = reachBytes + length (encodeOptionals optional (optionalOf c))
+
+abbrev pub longestCard : ℕ
+longestCard = reachBytes + sizes optional

@@ -1,5 +1,6 @@
 pub mod Bytes
 pub mod Refusal
+pub mod Optional
 pub mod Card
 pub mod Read
 pub mod Write

@@ -5,24 +5,24 @@ use lib.ListN.{length, drop}
 use lib.Dec.{leb, eqb}
 use Rattle.river.specs.declared.card.Card.{Card}
 use Rattle.river.specs.declared.card.Dam.{Dam}
-use Rattle.river.specs.declared.card.Dam.the-variants.{Absent, Aerating}
 use Rattle.river.specs.declared.refusal.Refusal.{Refusal}
 use Rattle.river.specs.declared.read.DamRead.{DamRead}
 use Rattle.river.specs.declared.read.Header.{Header}
 use Rattle.river.specs.declared.read.Reach.{Reach}
 use Rattle.river.specs.Bytes.{byteAt, twoAt, fourAt, marked}
-use Rattle.river.specs.Card.{countOk, inRange, outletOk, damInRange, sizeOf}
-use Rattle.river.specs.Refusal.{Answer, accepted, refused, refuse, need, choose, after}
+use Rattle.river.specs.Card.{RV, RE, headerBytes, reachBytes, optional, countOk, inRange, outletOk, sizeOf}
+use Rattle.river.specs.Optional.{Values, absent, readOptionals}
+use Rattle.river.specs.Refusal.{Answer, accepted, refused, refuse, need, after}
 
 -- the header of a file: 1, 2, 3, with reach 0, or the reach count
 unfoldable pub readHeader : List ℕ → Answer ℕ
 readHeader s =
-    need (leb 4 (length s)) 1 0
-    (need (marked s 0 82 86) 2 0 (need (countOk (twoAt s 2)) 3 0 (accepted (twoAt s 2))))
+    need (leb headerBytes (length s)) 1 0
+    (need (marked s RV) 2 0 (need (countOk (twoAt s 2)) 3 0 (accepted (twoAt s 2))))
 
--- the card in an `RE` record, with a dam
-unfoldable pub cardAt : List ℕ → Dam → Card
-cardAt s d =
+-- the card in an `RE` record, with what it holds of the records that follow
+unfoldable pub cardAt : List ℕ → Values optional → Card
+cardAt s vs =
     record {
       outlet = byteAt s 2;
       temperature = byteAt s 3;
@@ -33,28 +33,17 @@ cardAt s d =
       «inflow_bod» = fourAt s 16;
       «inflow_oxygen» = twoAt s 20;
       load = fourAt s 22;
-      dam = d;
+      dam = vs .0;
     }
 
--- the dam in a `DM` record that follows an `RE` record
-unfoldable pub damAt : List ℕ → Dam
-damAt s = Aerating (twoAt s 28) (fourAt s 30)
-
--- the dam of reach i, whose `RE` record begins the bytes: if the next two bytes are `DM`, that record follows, with 1 then 4
-unfoldable pub readDam : ℕ → List ℕ → Answer Dam
-readDam i s =
-    choose (marked s 26 68 77)
-    (need (leb 34 (length s)) 1 i (need (damInRange (damAt s)) 4 i (accepted (damAt s))))
-    (accepted Absent)
-
--- reach i of n at the start of the bytes: 1, 2, 4, 5, then its dam, or its card
+-- reach i of n at the start of the bytes: 1, 2, 4, 5, then the records that follow its `RE` record, or its card
 unfoldable pub readReach : ℕ → ℕ → List ℕ → Answer Card
 readReach n i s =
-    need (leb 26 (length s)) 1 i
-    (need (marked s 0 82 69) 2 i
-    (need (inRange (cardAt s Absent)) 4 i
-    (need (outletOk n i (byteAt s 2)) 5 i
-    (after (readDam i s) (λ d. accepted (cardAt s d))))))
+    need (leb reachBytes (length s)) 1 i
+    (need (marked s RE) 2 i
+    (need (inRange (cardAt s (absent optional))) 4 i
+    (need (outletOk n i (cardAt s (absent optional) .outlet)) 5 i
+    (after (readOptionals optional i (drop reachBytes s)) (λ vs. accepted (cardAt s vs))))))
 
 -- the reaches from i on, of n, where m are due; 6, with reach 0, if bytes remain after the last record
 unfoldable pub readReaches : ℕ → ℕ → ℕ → List ℕ → Answer (List Card)
@@ -65,11 +54,11 @@ readReaches n i (suc m) s =
 
 -- a river file: the header, then card after card
 unfoldable pub readFile : List ℕ → Answer (List Card)
-readFile s = after (readHeader s) (λ n. readReaches n 1 n (drop 4 s))
+readFile s = after (readHeader s) (λ n. readReaches n 1 n (drop headerBytes s))
 
 -- the answers of the program, case by case: the header's, a dam's, a reach's at a position, and the whole file's
 abbrev pub headerOf : Answer ℕ → Header
-headerOf (accepted n) = Header.Count n 4
+headerOf (accepted n) = Header.Count n headerBytes
 headerOf (refused r) = Header.Refused r
 
 abbrev pub damOf : Answer Dam → DamRead

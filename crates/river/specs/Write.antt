@@ -5,32 +5,29 @@ use Prim.Native.Nat.{ℕ, suc}
 use lib.ListN.{length, drop}
 use lib.Dec.{leb}
 use Rattle.river.specs.declared.card.Card.{Card}
-use Rattle.river.specs.declared.card.Dam.{Dam}
-use Rattle.river.specs.declared.card.Dam.the-variants.{Absent, Aerating}
 use Rattle.river.specs.declared.refusal.Refusal.{Refusal}
 use Rattle.river.specs.declared.write.Check.{Check}
 use Rattle.river.specs.declared.write.Written.{Written}
-use Rattle.river.specs.Bytes.{twoBytes, fourBytes}
-use Rattle.river.specs.Card.{countOk, inRange, outletOk, damInRange}
+use Rattle.river.specs.Bytes.{twoBytes, fourBytes, markBytes}
+use Rattle.river.specs.Card.{RV, RE, optional, optionalOf, countOk, inRange, outletOk}
+use Rattle.river.specs.Optional.{encodeOptionals, optionalsInRange}
 use Rattle.river.specs.Refusal.{Answer, accepted, refused, refuse, need, after}
 
--- the `DM` record of a dam, if there is one
-abbrev pub encodeDam : Dam → List ℕ
-encodeDam Absent = []
-encodeDam (Aerating s g) = 68 ∷ 77 ∷ twoBytes s ++ fourBytes g
-
--- the `RE` record of a card, and its dam's record directly after it
-abbrev pub encodeCard : Card → List ℕ
-encodeCard c =
-    82 ∷
-    69 ∷
+-- the `RE` record of a card
+abbrev pub encodeReach : Card → List ℕ
+encodeReach c =
+    markBytes RE ++
     c .outlet ∷
     c .temperature ∷
     twoBytes (c .k1) ++
     twoBytes (c .k2) ++
     fourBytes (c .volume) ++
     fourBytes (c .inflow) ++
-    fourBytes (c .«inflow_bod») ++ twoBytes (c .«inflow_oxygen») ++ fourBytes (c .load) ++ encodeDam (c .dam)
+    fourBytes (c .«inflow_bod») ++ twoBytes (c .«inflow_oxygen») ++ fourBytes (c .load)
+
+-- the records of a card: its `RE` record, and those that follow it
+abbrev pub encodeCard : Card → List ℕ
+encodeCard c = encodeReach c ++ encodeOptionals optional (optionalOf c)
 
 abbrev pub encodeCards : List Card → List ℕ
 encodeCards [] = []
@@ -38,17 +35,17 @@ encodeCards (c ∷ cs) = encodeCard c ++ encodeCards cs
 
 -- the `RV` record of a reach count
 abbrev pub encodeHeader : ℕ → List ℕ
-encodeHeader n = 82 ∷ 86 ∷ twoBytes n
+encodeHeader n = markBytes RV ++ twoBytes n
 
 -- the file of a river
 unfoldable pub encode : List Card → List ℕ
 encode cs = encodeHeader (length cs) ++ encodeCards cs
 
--- the card of reach i of n: 4 and 5, then its dam's 4
+-- the card of reach i of n: 4 and 5, then 4 for the records that follow
 unfoldable pub checkCard : ℕ → ℕ → Card → Answer Unit
 checkCard n i c =
     need (inRange c) 4 i
-    (need (outletOk n i (c .outlet)) 5 i (need (damInRange (c .dam)) 4 i (accepted tt)))
+    (need (outletOk n i (c .outlet)) 5 i (need (optionalsInRange optional (optionalOf c)) 4 i (accepted tt)))
 
 -- the cards of the reaches from i on, of n
 unfoldable pub checkFrom : ℕ → ℕ → List Card → Answer Unit

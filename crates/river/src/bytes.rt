@@ -2,8 +2,8 @@
 ghost use mathlib.Core.Path.{_≡_};
 ghost use mathlib.Core.List.{[], _∷_};
 ghost use Prim.Native.Nat.{_+_, _≤_, _<_};
-ghost use lib.ListN.{length};
-ghost use Rattle.river.specs.Bytes.{byteAt, twoAt, fourAt, marked, Put, twoBytes, fourBytes};
+ghost use lib.ListN.{length, drop};
+ghost use Rattle.river.specs.Bytes.{byteAt, twoAt, fourAt, mark, marked, twoBytes, fourBytes, Put};
 
 // The byte at a place, 0 past the end.
 pub fn byte_at(s: &[u8], k: usize) -> u8
@@ -31,15 +31,25 @@ pub fn four_at(s: &[u8], k: usize) -> u32
     two_at(s, k) as u32 * 65536 + two_at(s, k + 2) as u32
 }
 
-// Whether the two bytes from a place on are a mark.
-pub fn marked(s: &[u8], k: usize, a: u8, b: u8) -> bool
-    requires { ⌜ k < 64 ⌝ }
-    ensures { λ r. ⌜ r ≡ marked (now (s .entry)) k a b ⌝ }
+// The bytes from a place on, none past the end.
+pub fn behind(s: &[u8], k: usize) -> &[u8]
+    ensures { λ r. ⌜ now r ≡ drop k (now (s .entry)) ⌝ }
 {
-    if byte_at(s, k) != a {
+    let end = s.len();
+    if k < end {
+        return &s[k..];
+    }
+    &s[end..]
+}
+
+// Whether bytes begin with a mark.
+pub fn marked(s: &[u8], a: u8, b: u8) -> bool
+    ensures { λ r. ⌜ r ≡ marked (now (s .entry)) (mark a b) ⌝ }
+{
+    if byte_at(s, 0) != a {
         return false;
     }
-    byte_at(s, k + 1) == b
+    byte_at(s, 1) == b
 }
 
 // A byte at a place, and the next place.

@@ -1,6 +1,14 @@
 // One reach of a river file.
 ghost use mathlib.Core.Path.{_≡_};
-ghost use Rattle.river.specs.Card.{blank, sizeOfDam};
+ghost use lib.ListN.{length};
+ghost use Rattle.river.specs.Card.{blank, encodeDam, sizeOf};
+
+// The lengths of the records `RV`, `RE` and `DM`.
+pub const HEADER_BYTES: usize = 4;
+
+pub const REACH_BYTES: usize = 26;
+
+pub const DAM_BYTES: usize = 8;
 
 // A dam is either none or an aeration share, in thousandths, with a generating flow, in litres a second.
 pub enum Dam {
@@ -46,18 +54,23 @@ pub fn blank() -> Card
     }
 }
 
-// The length of the header of a file.
-pub const HEADER_BYTES: usize = 4;
-
-// The length of the records of a reach with a dam.
-pub fn size_of(dam: Dam) -> usize
-    ensures { λ r. ⌜ r ≡ sizeOfDam dam ⌝ }
+// The length of a dam's record, if there is one.
+pub fn dam_size(dam: Dam) -> usize
+    ensures { λ r. ⌜ r ≡ length (encodeDam dam) ⌝ }
 {
     match dam {
-        Dam::Absent => 26,
+        Dam::Absent => 0,
         Dam::Aerating {
             share: _,
             generating: _,
-        } => 34,
+        } => DAM_BYTES,
     }
+}
+
+// The length of a card's records.
+pub fn size_of(c: Card) -> usize
+    ensures { λ r. ⌜ r ≡ sizeOf c ⌝ }
+{
+    let dam = c.dam;
+    REACH_BYTES + dam_size(dam)
 }

@@ -1,10 +1,11 @@
 // Records put into a buffer.
 ghost use Prim.Native.Nat.{_+_, _≤_};
-ghost use mathlib.Core.List.{[], _∷_, _++_};
+ghost use mathlib.Core.List.{_∷_, _++_};
 ghost use lib.ListN.{length};
-ghost use Rattle.river.specs.Bytes.{Put, twoBytes, fourBytes};
-ghost use Rattle.river.specs.Write.{encodeCard, encodeDam, encodeHeader};
-ghost use Rattle.river.specs.Card.{sizeOfDam, sizeOf};
+ghost use Rattle.river.specs.Bytes.{Put, markBytes, twoBytes, fourBytes};
+ghost use Rattle.river.specs.Card.{RE, headerBytes, reachBytes, encodeDam, optional, optionalOf, sizeOf};
+ghost use Rattle.river.specs.Optional.{encodeOptionals};
+ghost use Rattle.river.specs.Write.{encodeReach, encodeCard, encodeHeader};
 use crate::bytes::put_four;
 use crate::bytes::put_pair;
 use crate::bytes::put_two;
@@ -13,7 +14,7 @@ use crate::card::Dam;
 
 // The `RV` record of a reach count.
 pub fn put_header(out: &mut [u8], count: u16) -> usize
-    requires { ⌜ 4 ≤ length (now out) ⌝ }
+    requires { ⌜ headerBytes ≤ length (now out) ⌝ }
     ensures { λ r. ⌜ Put (now (out .entry)) 0 (encodeHeader count) (now (out .exit)) r ⌝ }
 {
     let next = put_pair(out, 0, b'R', b'V');
@@ -23,7 +24,7 @@ pub fn put_header(out: &mut [u8], count: u16) -> usize
 // The start of a card's `RE` record: its mark, outlet, temperature and rates.
 fn put_rates(out: &mut [u8], at: usize, c: Card) -> usize
     requires { ⌜ at + 8 ≤ length (now out) ⌝ }
-    ensures { λ r. ⌜ Put (now (out .entry)) at (82 ∷ 69 ∷ c .outlet ∷ c .temperature ∷ twoBytes (c .k1) ++ twoBytes (c .k2)) (now (out .exit)) r ⌝ }
+    ensures { λ r. ⌜ Put (now (out .entry)) at (markBytes RE ++ c .outlet ∷ c .temperature ∷ twoBytes (c .k1) ++ twoBytes (c .k2)) (now (out .exit)) r ⌝ }
 {
     let next = put_pair(out, at, b'R', b'E');
     let next = put_pair(out, next, c.outlet, c.temperature);
@@ -50,9 +51,19 @@ fn put_load(out: &mut [u8], at: usize, c: Card) -> usize
     put_four(out, next, c.load)
 }
 
-// The `DM` record of a dam, if there is one. The size of a reach's records counts 26 bytes of the `RE` record, which stand before.
+// The `RE` record of a card.
+fn put_reach(out: &mut [u8], at: usize, c: Card) -> usize
+    requires { ⌜ at + reachBytes ≤ length (now out) ⌝ }
+    ensures { λ r. ⌜ Put (now (out .entry)) at (encodeReach c) (now (out .exit)) r ⌝ }
+{
+    let next = put_rates(out, at, c);
+    let next = put_inflow(out, next, c);
+    put_load(out, next, c)
+}
+
+// The `DM` record of a dam, if there is one.
 fn put_dam(out: &mut [u8], at: usize, dam: Dam) -> usize
-    requires { ⌜ at + sizeOfDam dam ≤ length (now out) + 26 ⌝ }
+    requires { ⌜ at + length (encodeDam dam) ≤ length (now out) ⌝ }
     ensures { λ r. ⌜ Put (now (out .entry)) at (encodeDam dam) (now (out .exit)) r ⌝ }
 {
     let Dam::Aerating { share, generating } = dam else {
@@ -63,14 +74,20 @@ fn put_dam(out: &mut [u8], at: usize, dam: Dam) -> usize
     put_four(out, next, generating)
 }
 
+// The records of a card that follow its `RE` record.
+fn put_optionals(out: &mut [u8], at: usize, c: Card) -> usize
+    requires { ⌜ at + length (encodeOptionals optional (optionalOf c)) ≤ length (now out) ⌝ }
+    ensures { λ r. ⌜ Put (now (out .entry)) at (encodeOptionals optional (optionalOf c)) (now (out .exit)) r ⌝ }
+{
+    let dam = c.dam;
+    put_dam(out, at, dam)
+}
+
 // The records of a card.
 pub fn put_card(out: &mut [u8], at: usize, c: Card) -> usize
     requires { ⌜ at + sizeOf c ≤ length (now out) ⌝ }
     ensures { λ r. ⌜ Put (now (out .entry)) at (encodeCard c) (now (out .exit)) r ⌝ }
 {
-    let next = put_rates(out, at, c);
-    let next = put_inflow(out, next, c);
-    let next = put_load(out, next, c);
-    let dam = c.dam;
-    put_dam(out, next, dam)
+    let next = put_reach(out, at, c);
+    put_optionals(out, next, c)
 }

@@ -1,6 +1,7 @@
 // The tests that reading and writing share: ranges, outlets and the reach count.
 ghost use mathlib.Core.Path.{_≡_};
-ghost use Rattle.river.specs.Card.{inRange, damInRange, outletOk, countOk};
+ghost use Rattle.river.specs.Card.{optional, optionalOf, inRange, damInRange, outletOk, countOk};
+ghost use Rattle.river.specs.Optional.{optionalsInRange};
 use crate::card::Card;
 use crate::card::Dam;
 
@@ -40,6 +41,14 @@ pub fn dam_in_range(d: Dam) -> bool
         return false;
     }
     generating <= 100000000
+}
+
+// Whether the fields of the records that follow a card's `RE` record are in range.
+pub fn optionals_in_range(c: Card) -> bool
+    ensures { λ r. ⌜ r ≡ optionalsInRange optional (optionalOf c) ⌝ }
+{
+    let dam = c.dam;
+    dam_in_range(dam)
 }
 
 // Whether reach i of n may have an outlet.

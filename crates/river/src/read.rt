@@ -1,21 +1,28 @@
 // Reading of a river file: the header, then card after card.
 ghost use mathlib.Core.Path.{_≡_};
-ghost use Prim.Native.Nat.{_+_, _≤_, _<_};
+ghost use Prim.Native.Nat.{_<_};
 ghost use lib.ListN.{drop};
+ghost use Rattle.river.specs.Card.{reachBytes, damRecord, optional};
+ghost use Rattle.river.specs.Optional.{readOptional, readOptionals};
 ghost use Rattle.river.specs.Refusal.{Answer, accepted, after};
-ghost use Rattle.river.specs.Read.{readHeader, headerOf, headerRefusal, cardAt, readDam, damOf, readReach, reachOf, reachRefusal};
+ghost use Rattle.river.specs.Read.{readHeader, headerOf, headerRefusal, cardAt, damOf, readReach, reachOf, reachRefusal};
+use crate::bytes::behind;
 use crate::bytes::byte_at;
 use crate::bytes::four_at;
 use crate::bytes::marked;
 use crate::bytes::two_at;
 use crate::card::Card;
+use crate::card::DAM_BYTES;
 use crate::card::Dam;
+use crate::card::HEADER_BYTES;
+use crate::card::REACH_BYTES;
 use crate::card::size_of;
 use crate::range::count_ok;
 use crate::range::dam_in_range;
 use crate::range::in_range;
 use crate::range::outlet_ok;
 use crate::refusal::Refusal;
+use crate::refusal::refuse;
 
 // What reading the header finds: the reach count and the next position, or a refusal.
 pub enum Header {
@@ -39,34 +46,25 @@ pub enum Reach {
 pub fn read_header(file: &[u8]) -> Header
     ensures { λ r. ⌜ r ≡ headerOf (readHeader (now (file .entry))) ⌝ }
 {
-    if file.len() < 4 {
-        return Header::Refused(Refusal {
-            number: 1,
-            reach: 0,
-        });
+    if file.len() < HEADER_BYTES {
+        return Header::Refused(refuse(1, 0));
     }
-    if !marked(file, 0, 82, 86) {
-        return Header::Refused(Refusal {
-            number: 2,
-            reach: 0,
-        });
+    if !marked(file, b'R', b'V') {
+        return Header::Refused(refuse(2, 0));
     }
     let count = two_at(file, 2);
     if !count_ok(count as usize) {
-        return Header::Refused(Refusal {
-            number: 3,
-            reach: 0,
-        });
+        return Header::Refused(refuse(3, 0));
     }
     Header::Count {
         count: count as u8,
-        next: 4,
+        next: HEADER_BYTES,
     }
 }
 
 // The card in an `RE` record, with a dam.
 pub fn card_at(s: &[u8], dam: Dam) -> Card
-    ensures { λ r. ⌜ r ≡ cardAt (now (s .entry)) dam ⌝ }
+    ensures { λ r. ⌜ r ≡ cardAt (now (s .entry)) (dam, tt) ⌝ }
 {
     Card {
         outlet: byte_at(s, 2),
@@ -82,57 +80,60 @@ pub fn card_at(s: &[u8], dam: Dam) -> Card
     }
 }
 
-// The dam after the `RE` record at the start: refusals 1 and 4 if a `DM` record follows.
+// The dam in the `DM` record at the start, if there is one: refusals 1 and 4.
 pub fn read_dam(s: &[u8], reach: u8) -> DamRead
-    ensures { λ r. ⌜ r ≡ damOf (readDam reach (now (s .entry))) ⌝ }
+    ensures { λ r. ⌜ r ≡ damOf (readOptional damRecord reach (now (s .entry))) ⌝ }
 {
-    if !marked(s, 26, 68, 77) {
+    if !marked(s, b'D', b'M') {
         return DamRead::Found(Dam::Absent);
     }
-    if s.len() < 34 {
-        return DamRead::Refused(Refusal { number: 1, reach });
+    if s.len() < DAM_BYTES {
+        return DamRead::Refused(refuse(1, reach));
     }
     let dam = Dam::Aerating {
-        share: two_at(s, 28),
-        generating: four_at(s, 30),
+        share: two_at(s, 2),
+        generating: four_at(s, 4),
     };
     if !dam_in_range(dam) {
-        return DamRead::Refused(Refusal { number: 4, reach });
+        return DamRead::Refused(refuse(4, reach));
     }
     DamRead::Found(dam)
 }
 
-// The card at a position, whose `RE` record stands at the start, with its dam.
+// The card at a position, whose `RE` record stands at the start, with the records that follow.
 fn read_card(s: &[u8], at: usize, reach: u8) -> Reach
     requires { ⌜ at < 9223372036854775808 ⌝ }
-    ensures { λ r. ⌜ r ≡ reachOf at (after (readDam reach (now (s .entry))) (λ d. accepted (cardAt (now (s .entry)) d))) ⌝ }
+    ensures { λ r. ⌜ r ≡ reachOf at (after (readOptionals optional reach (drop reachBytes (now (s .entry)))) (λ vs. accepted (cardAt (now (s .entry)) vs))) ⌝ }
 {
-    match read_dam(s, reach) {
+    match read_dam(behind(s, REACH_BYTES), reach) {
         DamRead::Refused(r) => Reach::Refused(r),
-        DamRead::Found(dam) => Reach::Read {
-            card: card_at(s, dam),
-            next: at + size_of(dam),
-        },
+        DamRead::Found(dam) => {
+            let card = card_at(s, dam);
+            Reach::Read {
+                card,
+                next: at + size_of(card),
+            }
+        }
     }
 }
 
-// A reach at the start, at a position of the file: refusals 1, 2, 4 and 5, then its dam.
+// A reach at the start, at a position of the file: refusals 1, 2, 4 and 5, then the records that follow.
 fn read_here(s: &[u8], at: usize, count: u8, reach: u8) -> Reach
     requires { ⌜ at < 9223372036854775808 ⌝ }
     ensures { λ r. ⌜ r ≡ reachOf at (readReach count reach (now (s .entry))) ⌝ }
 {
-    if s.len() < 26 {
-        return Reach::Refused(Refusal { number: 1, reach });
+    if s.len() < REACH_BYTES {
+        return Reach::Refused(refuse(1, reach));
     }
-    if !marked(s, 0, 82, 69) {
-        return Reach::Refused(Refusal { number: 2, reach });
+    if !marked(s, b'R', b'E') {
+        return Reach::Refused(refuse(2, reach));
     }
     let card = card_at(s, Dam::Absent);
     if !in_range(card) {
-        return Reach::Refused(Refusal { number: 4, reach });
+        return Reach::Refused(refuse(4, reach));
     }
     if !outlet_ok(count, reach, card.outlet) {
-        return Reach::Refused(Refusal { number: 5, reach });
+        return Reach::Refused(refuse(5, reach));
     }
     read_card(s, at, reach)
 }
@@ -142,9 +143,9 @@ pub fn read_reach(file: &[u8], at: usize, count: u8, reach: u8) -> Reach
     ensures { λ r. ⌜ r ≡ reachOf at (readReach count reach (drop at (now (file .entry)))) ⌝ }
 {
     if file.len() < at {
-        return Reach::Refused(Refusal { number: 1, reach });
+        return Reach::Refused(refuse(1, reach));
     }
-    read_here(&file[at..], at, count, reach)
+    read_here(behind(file, at), at, count, reach)
 }
 
 // The refusal in an answer about the header.
@@ -153,10 +154,7 @@ pub fn header_refusal(answer: Header) -> Refusal
 {
     match answer {
         Header::Refused(r) => r,
-        Header::Count { count: _, next: _ } => Refusal {
-            number: 0,
-            reach: 0,
-        },
+        Header::Count { count: _, next: _ } => refuse(0, 0),
     }
 }
 
@@ -166,9 +164,6 @@ pub fn reach_refusal(answer: Reach) -> Refusal
 {
     match answer {
         Reach::Refused(r) => r,
-        Reach::Read { card: _, next: _ } => Refusal {
-            number: 0,
-            reach: 0,
-        },
+        Reach::Read { card: _, next: _ } => refuse(0, 0),
     }
 }

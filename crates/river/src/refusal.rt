@@ -1,6 +1,6 @@
 // A refusal, and the number that stands for it in a result.
 ghost use mathlib.Core.Path.{_≡_};
-ghost use Rattle.river.specs.Refusal.{codeOf};
+ghost use Rattle.river.specs.Refusal.{codeOf, refuse};
 
 // The paper's number, and the reach it is about: 0 where it is about no reach.
 pub struct Refusal {
@@ -12,6 +12,13 @@ pub struct Refusal {
 pub enum Outcome {
     Accepted,
     Refused(Refusal),
+}
+
+// The refusal of a number at a reach.
+pub fn refuse(number: u8, reach: u8) -> Refusal
+    ensures { λ r. ⌜ r ≡ refuse number reach ⌝ }
+{
+    Refusal { number, reach }
 }
 
 // The result code of a refusal.

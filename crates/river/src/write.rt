@@ -7,14 +7,16 @@ ghost use Rattle.river.specs.Card.{river};
 ghost use Rattle.river.specs.Write.{encode, checkCard, checkFrom, checkOf, checkRefusal, Writes};
 use crate::card::Card;
 use crate::card::Cards;
+use crate::card::HEADER_BYTES;
 use crate::card::size_of;
 use crate::put::put_card;
 use crate::put::put_header;
 use crate::range::count_ok;
-use crate::range::dam_in_range;
 use crate::range::in_range;
+use crate::range::optionals_in_range;
 use crate::range::outlet_ok;
 use crate::refusal::Refusal;
+use crate::refusal::refuse;
 
 // Whether cards may be written.
 pub enum Check {
@@ -28,28 +30,18 @@ pub enum Written {
     Refused(Refusal),
 }
 
-// The card of reach i of n: refusals 4 and 5, then its dam's 4.
+// The card of reach i of n: refusals 4 and 5, then 4 for the records that follow its `RE` record.
 pub fn check_card(c: Card, n: u8, i: u8) -> Check
     ensures { λ r. ⌜ r ≡ checkOf (checkCard n i c) ⌝ }
 {
     if !in_range(c) {
-        return Check::Refused(Refusal {
-            number: 4,
-            reach: i,
-        });
+        return Check::Refused(refuse(4, i));
     }
     if !outlet_ok(n, i, c.outlet) {
-        return Check::Refused(Refusal {
-            number: 5,
-            reach: i,
-        });
+        return Check::Refused(refuse(5, i));
     }
-    let dam = c.dam;
-    if !dam_in_range(dam) {
-        return Check::Refused(Refusal {
-            number: 4,
-            reach: i,
-        });
+    if !optionals_in_range(c) {
+        return Check::Refused(refuse(4, i));
     }
     Check::Passed
 }
@@ -60,10 +52,7 @@ pub fn check_refusal(answer: Check) -> Refusal
 {
     match answer {
         Check::Refused(r) => r,
-        Check::Passed => Refusal {
-            number: 0,
-            reach: 0,
-        },
+        Check::Passed => refuse(0, 0),
     }
 }
 
@@ -91,12 +80,10 @@ fn file_length(cards: Cards, n: usize) -> usize
     ensures { λ r. ⌜ r ≡ length (encode (river cards)) ⌝ }
 {
     let at = cards.at;
-    let mut total: usize = 4;
+    let mut total: usize = HEADER_BYTES;
     let mut i: usize = 0;
     while i < n {
-        let c = at[i];
-        let dam = c.dam;
-        total = total + size_of(dam);
+        total = total + size_of(at[i]);
         i = i + 1;
     }
     total
@@ -123,20 +110,14 @@ pub fn write_cards(cards: Cards, out: &mut [u8]) -> Written
 {
     let n = cards.count;
     if !count_ok(n) {
-        return Written::Refused(Refusal {
-            number: 3,
-            reach: 0,
-        });
+        return Written::Refused(refuse(3, 0));
     }
     let answer = check_cards(cards, n as u8);
     let Check::Passed = answer else {
         return Written::Refused(check_refusal(answer));
     };
     if out.len() < file_length(cards, n) {
-        return Written::Refused(Refusal {
-            number: 12,
-            reach: 0,
-        });
+        return Written::Refused(refuse(12, 0));
     }
     Written::Length(put_file(cards, n, out))
 }

@@ -72,12 +72,11 @@ fn check_next(s: Checking, c: Card) -> Checking
     match check_card(c, due as u8, (passed + 1) as u8) {
         Check::Refused(r) => stopped(r),
         Check::Passed => {
-            let dam = c.dam;
             Checking {
                 check: Check::Passed,
                 due,
                 passed: passed + 1,
-                length: s.length + size_of(dam),
+                length: s.length + size_of(c),
             }
         }
     }

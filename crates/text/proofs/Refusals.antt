@@ -7,7 +7,7 @@ use lib.Dec.{lit<}
 use Rattle.river.specs.declared.card.Card.{Card}
 use Rattle.river.specs.Accept.{acceptFile}
 use Rattle.river.specs.Flow.{checksOf, reachChecks, checksFrom, flowCheck}
-use Rattle.river.specs.Read.{readHeader, readDam, readReach, readReaches, readFile}
+use Rattle.river.specs.Read.{readHeader, readReach, readReaches, readFile}
 use Rattle.river.specs.Refusal.{Answer, accepted, refused, need, choose, after}
 
 -- a refusal's number is below 256

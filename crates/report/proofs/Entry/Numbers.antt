@@ -1,16 +1,17 @@
 -- Every refusal of reading, of the flow check and of reporting has a number above 0, so that 0 is no refusal's result.
 -- Assumes nothing.
 use mathlib.Core.Bool.{Bool, true, false}
-use mathlib.Core.List.{List}
+use mathlib.Core.List.{List, [], _∷_}
 use Prim.Native.Nat.{ℕ, zero, suc, _<_}
 use lib.Dec.{lit<}
 use lib.ListN.{length, drop}
 use Rattle.river.specs.declared.card.Card.{Card}
 use Rattle.river.specs.Refusal.{Answer, accepted, refused, need, choose, after}
-use Rattle.river.specs.Read.{readHeader, readDam, readReach, readReaches, readFile}
+use Rattle.river.specs.Optional.{Kind, readOptional, readOptionals}
+use Rattle.river.specs.Read.{readHeader, readReach, readReaches, readFile}
 use Rattle.river.specs.Flow.{reachChecks, checksFrom, flowCheck}
 use Rattle.report.specs.Report.{roomAnswer, reportAnswer}
-use Rattle.river.specs.Card.{sizeOf}
+use Rattle.river.specs.Card.{reachBytes, optional, sizeOf}
 use Rattle.river.specs.Accept.{acceptFile}
 
 -- a refusal's number is above 0
@@ -38,16 +39,19 @@ header : (s : List ℕ) → Numbered (readHeader s)
 unfolding readHeader
 header s = needs _ _ _ _ (lit< tt) (needs _ _ _ _ (lit< tt) (needs _ _ _ _ (lit< tt) tt))
 
-dam : (i : ℕ) (s : List ℕ) → Numbered (readDam i s)
-unfolding readDam
-dam i s = either _ _ _ (needs _ _ _ _ (lit< tt) (needs _ _ _ _ (lit< tt) tt)) tt
+optionals : (ks : List Kind) (i : ℕ) (s : List ℕ) → Numbered (readOptionals ks i s)
+unfolding readOptionals readOptional
+optionals [] i s = tt
+optionals (k ∷ ks) i s =
+    next _ _ (either _ _ _ (needs _ _ _ _ (lit< tt) (needs _ _ _ _ (lit< tt) tt)) tt)
+    (λ v. next _ _ (optionals ks i (drop (length (k .encode v)) s)) (λ vs. tt))
 
 reach : (n i : ℕ) (s : List ℕ) → Numbered (readReach n i s)
 unfolding readReach
 reach n i s =
     needs _ _ _ _ (lit< tt)
     (needs _ _ _ _ (lit< tt)
-    (needs _ _ _ _ (lit< tt) (needs _ _ _ _ (lit< tt) (next _ _ (dam i s) (λ d. tt)))))
+    (needs _ _ _ _ (lit< tt) (needs _ _ _ _ (lit< tt) (next _ _ (optionals optional i (drop reachBytes s)) (λ vs. tt)))))
 
 reaches : (n i m : ℕ) (s : List ℕ) → Numbered (readReaches n i m s)
 unfolding readReaches

@@ -1,17 +1,17 @@
 -- Numbers and their bytes undo each other, and a list of bytes is its bytes written out.
 -- Assumes nothing.
 use Prim.Native.Nat.{ℕ, zero, suc, _+_, _-_, _*_, _/_, _%_, _≤_, _<_}
-use mathlib.Core.Path.{_≡_, ap, ap₂, _∙_}
-use mathlib.Core.List.{List, [], _∷_, _++_}
-use mathlib.Core.Bool.{true}
+use mathlib.Core.Path.{_≡_, ap, ap₂, sym, _∙_}
+use mathlib.Core.List.{List, [], _∷_, _++_, append-assoc}
+use mathlib.Core.Bool.{true, false}
 use native.Mathlib.Nat.{suc-add, add-suc, zero-add}
 use native.Mathlib.Omega.{arith}
 use lib.Arith.{digits-div, digits-mod}
 use lib.ListN.{length, getD, take, drop, length-drop}
-use lib.Seq.{drop-cons, getD-drop, take-all}
-use borrow.Author.Tests.{eqb-true}
-use Rattle.river.specs.Bytes.{AreBytes, twoBytes, fourBytes, byteAt, twoAt, fourAt, marked}
-use Rattle.river.proofs.Answers.{both-true}
+use lib.Seq.{drop-cons, drop-append-seam, getD-drop, take-all}
+use borrow.Author.Tests.{eqb-true, eq-eqb}
+use Rattle.river.specs.Bytes.{AreBytes, twoBytes, fourBytes, byteAt, twoAt, fourAt, Mark, marked, markBytes}
+use Rattle.river.proofs.Answers.{both, both-true}
 
 -- a number of two digits to a base has these two digits
 pub two-digits : (m a b : ℕ) → b < m → _≡_ {A = List ℕ} ((a * m + b) / m ∷ (a * m + b) % m ∷ []) (a ∷ b ∷ [])
@@ -65,10 +65,29 @@ spelled s (suc n) k h =
 pub whole-tail : (s : List ℕ) (k : ℕ) → take (length s - k) (drop k s) ≡ drop k s
 whole-tail s k = take-all (length s - k) (drop k s) (omega (arith, length-drop k s))
 
--- a mark that is there
-pub record Mark (s : List ℕ) (k a b : ℕ) : Type 0 where
-  pub first : byteAt s k ≡ a
-  pub second : byteAt s (k + 1) ≡ b
+-- bytes that begin with a mark
+pub record Begins (s : List ℕ) (m : Mark) : Type 0 where
+  pub first : byteAt s 0 ≡ m .first
+  pub second : byteAt s 1 ≡ m .second
 
-pub mark : (s : List ℕ) (k a b : ℕ) → marked s k a b ≡ true → Mark s k a b
-mark s k a b e = let t = both-true e in record { first = eqb-true _ _ (t .left); second = eqb-true _ _ (t .right) }
+pub begins : (s : List ℕ) (m : Mark) → marked s m ≡ true → Begins s m
+begins s m e = let t = both-true e in record { first = eqb-true _ _ (t .left); second = eqb-true _ _ (t .right) }
+
+pub begins-marked : {s : List ℕ} {m : Mark} → Begins s m → marked s m ≡ true
+begins-marked b = both (eq-eqb _ _ (b .first)) (eq-eqb _ _ (b .second))
+
+pub begins-other : {s : List ℕ} {m : Mark} (n : Mark) → Begins s m → marked (markBytes m) n ≡ false → marked s n ≡ false
+begins-other n b e = rw (b .first, b .second) e
+
+-- bytes that stand at the start of others
+abbrev pub Leads : List ℕ → List ℕ → Type 0
+Leads e s = s ≡ e ++ drop (length e) s
+
+leads : (e s t : List ℕ) → s ≡ e ++ t → Leads e s
+leads e s t p = p ∙ ap (λ (x : List ℕ). e ++ x) (sym (ap (drop (length e)) p ∙ drop-append-seam e t))
+
+pub leads-more : (a b s : List ℕ) → Leads a s → Leads b (drop (length a) s) → Leads (a ++ b) s
+leads-more a b s p q = leads (a ++ b) s _ (p ∙ ap (λ (x : List ℕ). a ++ x) q ∙ sym (append-assoc a b _))
+
+pub leads-spelled : (e s : List ℕ) {n : ℕ} → n ≤ length s → e ≡ bytesFrom s n 0 → Leads e s
+leads-spelled e s {n} h p = leads e s _ (spelled s n 0 (omega arith) ∙ ap (λ (x : List ℕ). x ++ drop (n + 0) s) (sym p))

@@ -9,9 +9,6 @@ use native.Mathlib.Omega.{arith}
 use lib.ListN.{length, drop, set, length-append}
 use lib.Seq.{sets, sets-eq}
 use Rattle.river.specs.Bytes.{Put}
-use Rattle.river.specs.Write.{encodeDam}
-use Rattle.river.specs.declared.card.Dam.{Dam}
-use Rattle.river.specs.declared.card.Dam.the-variants.{Absent}
 
 pub put-pair : (b : List ℕ) (at x y : ℕ) → Put b at (x ∷ y ∷ []) (set (set b at x) (at + 1) y) (at + 2)
 put-pair b at x y = record { buffer = rw add-one; place = refl }
@@ -33,9 +30,9 @@ chain {b} {m} {l} {x} {y} {at} {k} {r} p q =
       place = omega (arith, p .place, q .place, length-append x y);
     }
 
--- no dam puts nothing
-pub put-none : (b : List ℕ) (at : ℕ) (d : Dam) → d ≡ Absent → Put b at (encodeDam d) b at
-put-none b at d e = rw e (record { buffer = refl; place = rw add-zero })
+-- no bytes put
+pub put-none : (b : List ℕ) (at : ℕ) → Put b at [] b at
+put-none b at = record { buffer = refl; place = rw add-zero }
 
 -- bytes put at the start
 pub at-start : {b x l : List ℕ} {r : ℕ} → Put b 0 x l r → length x ≤ length b → l ≡ x ++ drop (length x) b

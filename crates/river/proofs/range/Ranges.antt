@@ -6,7 +6,8 @@ use mathlib.Core.Bool.{Bool, true, false, _&&_, cond}
 use native.Mathlib.Omega.{arith}
 use lib.Dec.{leb, ltb, eqb}
 use borrow.Author.Tests.{le-leb, leb-true, ltb-true, eq-eqb, eqb-true, ne-eqb}
-use Rattle.river.specs.Card.{FieldsInRange, LawfulDam, inRange, damInRange, countOk, outletOk}
+use Rattle.river.specs.Card.{FieldsInRange, LawfulDam, LawfulCard, optional, optionalOf, inRange, damInRange, countOk, outletOk}
+use Rattle.river.specs.Optional.{optionalsInRange}
 use Rattle.river.specs.declared.card.Card.{Card}
 use Rattle.river.specs.declared.card.Dam.{Dam}
 use Rattle.river.specs.declared.card.Dam.the-variants.{Absent, Aerating}
@@ -50,6 +51,17 @@ unfolding damInRange
 true-damInRange Absent e = tt
 true-damInRange (Aerating s g) e =
     let t = both-true e in record { share = leb-true _ _ (t .left); generating = leb-true _ _ (t .right) }
+
+-- the tests of a card hold exactly where it is lawful
+pub lawful-optionals : {n i : ℕ} {c : Card} → LawfulCard n i c → optionalsInRange optional (optionalOf c) ≡ true
+unfolding optionalsInRange
+lawful-optionals {n} {i} {c} h = both (damInRange-true (c .dam) (h .dam)) refl
+
+pub lawful-card : (n i : ℕ) (c : Card) → inRange c ≡ true → c .load < 4294967296 → outletOk n i (c .outlet) ≡ true
+    → optionalsInRange optional (optionalOf c) ≡ true → LawfulCard n i c
+unfolding optionalsInRange
+lawful-card n i c r l o e =
+    record { in-range = true-inRange c r; load = l; outlet = o; dam = true-damInRange (c .dam) (both-true e .left) }
 
 pub countOk-true : (n : ℕ) → 1 ≤ n → n ≤ 128 → countOk n ≡ true
 unfolding countOk

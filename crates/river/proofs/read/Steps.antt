@@ -2,15 +2,16 @@
 -- Assumes nothing.
 use Prim.Native.Nat.{ℕ, _+_, _≤_}
 use mathlib.Core.Path.{_≡_, ap, sym, _∙_}
-use mathlib.Core.List.{List}
+use mathlib.Core.List.{List, _∷_}
 use native.Mathlib.Omega.{arith}
-use lib.ListN.{drop}
+use lib.ListN.{length, drop}
 use Rattle.river.specs.Bytes.{twoAt}
-use Rattle.river.specs.Read.{headerOf, damOf, reachOf, headerRefusal, reachRefusal, readHeader, readReaches, readFile, readDam, cardAt}
+use Rattle.river.specs.Card.{encodeDam, damRecord, sizeOf}
+use Rattle.river.specs.Optional.{Kind, Values, readOptional, readOptionals}
+use Rattle.river.specs.Read.{headerOf, damOf, reachOf, headerRefusal, reachRefusal, readHeader, readReaches, readFile}
 use Rattle.river.specs.Refusal.{Answer, accepted, refused, after}
 use Rattle.river.specs.declared.card.Card.{Card}
 use Rattle.river.specs.declared.card.Dam.{Dam}
-use Rattle.river.specs.declared.card.Dam.the-variants.{Absent, Aerating}
 use Rattle.river.specs.declared.read.DamRead.{DamRead}
 use Rattle.river.specs.declared.read.Header.{Header}
 use Rattle.river.specs.declared.refusal.Outcome.{Outcome}
@@ -18,7 +19,7 @@ use Rattle.river.specs.declared.read.Reach.{Reach}
 use Rattle.river.specs.declared.refusal.Refusal.{Refusal}
 use Rattle.river.proofs.Answers.{after-accepted, after-refused, passed}
 use Rattle.river.proofs.range.Ranges.{true-countOk}
-use Rattle.river.specs.Card.{sizeOfDam, sizeOf}
+use Rattle.river.proofs.read.Optional.{first-refused, first-read}
 
 -- two constructors are not equal
 pub clash : {P : Type 0} → _≡_ {A = ℕ} 0 1 → P
@@ -77,22 +78,15 @@ pub file-refused : (s : List ℕ) {r : Refusal} → readHeader s ≡ refused r �
 unfolding readFile
 file-refused s e = after-refused _ _ e
 
-pub size-small : (d : Dam) → sizeOfDam d ≤ 34
-size-small Absent = omega arith
-size-small (Aerating s g) = omega arith
+-- what is read of a dam decides what comes next: a refusal, or the records behind
+module _ {A : Type 0} (ks : List Kind) (i : ℕ) (s : List ℕ) (f : Values (damRecord ∷ ks) → Answer A) {a : DamRead} (p : a ≡ damOf (readOptional damRecord i s)) where
+  pub dam-refused : {r : Refusal} → a ≡ DamRead.Refused r → after (readOptionals (damRecord ∷ ks) i s) f ≡ refused r
+  dam-refused q = first-refused damRecord ks i s f (not-found _ (sym p ∙ q))
 
-pub size-big : (d : Dam) → 26 ≤ sizeOfDam d
-size-big Absent = omega arith
-size-big (Aerating s g) = omega arith
+  pub dam-found : {d : Dam} → a ≡ DamRead.Found d
+      → after (readOptionals (damRecord ∷ ks) i s) f ≡ after (readOptionals ks i (drop (length (encodeDam d)) s)) (λ vs. f (d, vs))
+  dam-found q = first-read damRecord ks i s f (found _ (sym p ∙ q))
 
--- the card of a reach whose `RE` record has passed
-module _ (at i : ℕ) (s : List ℕ) where
-  pub card-refused : {a : DamRead} {r : Refusal} → a ≡ damOf (readDam i s) → a ≡ DamRead.Refused r
-      → Reach.Refused r ≡ reachOf at (after (readDam i s) (λ d. accepted (cardAt s d)))
-  card-refused p q = sym (ap (reachOf at) (after-refused _ _ (not-found (readDam i s) (sym p ∙ q))))
-
-  pub card-found : {a : DamRead} {d : Dam} {c : Card} {k : ℕ} → a ≡ damOf (readDam i s) → a ≡ DamRead.Found d → c ≡ cardAt s d → k ≡ sizeOfDam d
-      → Reach.Read c (at + k) ≡ reachOf at (after (readDam i s) (λ d. accepted (cardAt s d)))
-  unfolding cardAt
-  card-found p q e f =
-      rw (e, f) (sym (ap (reachOf at) (after-accepted _ _ (found (readDam i s) (sym p ∙ q)))))
+-- a card is made, and the next position is behind its records
+pub card-made : (at : ℕ) {c d : Card} {k : ℕ} → c ≡ d → k ≡ sizeOf c → Reach.Read c (at + k) ≡ reachOf at (accepted d)
+card-made at e f = rw (f, e)

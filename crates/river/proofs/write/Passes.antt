@@ -16,8 +16,9 @@ use Rattle.river.specs.declared.write.Check.{Check}
 use Rattle.river.proofs.Answers.{after-accepted, after-refused}
 use Rattle.river.proofs.bytes.Puts.{chain}
 use Rattle.river.proofs.read.Records.{length-encodeCard}
-use Rattle.river.proofs.read.Steps.{clash, size-small}
-use Rattle.river.specs.Card.{sizeOf}
+use Rattle.river.proofs.read.Steps.{clash}
+use Rattle.river.proofs.read.Rows.{size-small}
+use Rattle.river.specs.Card.{headerBytes, longestCard, sizeOf}
 
 -- the cards of a list from i on: the card at i, and the others
 pub from : (at : List Card) (n i : ℕ) (d : Card) → i < n → n ≤ length at → drop i (take n at) ≡ getD at i d ∷ drop (i + 1) (take n at)
@@ -81,7 +82,7 @@ length-encode cs = omega arith
 
 -- the sum of the first i cards' sizes, and of the header's
 pub record Measured (cs : List Card) (i total : ℕ) : Type 0 where
-  pub near : total ≤ 4 + 34 * i
+  pub near : total ≤ headerBytes + longestCard * i
   pub rest : total + length (encodeCards (drop i cs)) ≡ length (encode cs)
 
 module _ (cs : List Card) where
@@ -95,7 +96,7 @@ module _ (cs : List Card) where
         ap (λ (x : List Card). length (encodeCards x)) e ∙ length-append (encodeCard c) (encodeCards (drop (i + 1) cs))
         in
         record {
-          near = omega (arith, size-small (c .dam), p .near);
+          near = omega (arith, size-small c, p .near);
           rest = omega (arith, p .rest, length-encodeCard c);
         }
 

@@ -11,9 +11,6 @@ byte-at-requires c κs = search needs
 returns : tie.Need-returns
 returns c = rw (← c .before .byte-at .ensures, ne-eqb _ _ (c .if1 .taken))
 
-add-byte-at : tie.Need-add-byte-at
-add-byte-at c = search needs
-
 byte-at-requires-2 : tie.Need-byte-at-requires-2
 byte-at-requires-2 c κs = search needs
 
@@ -22,4 +19,4 @@ returns-2 c = rw (← c .before .before .byte-at .ensures, ← c .byte-at2 .ensu
 
 pub marked-spec : {M : Type 1} → statement M
 marked-spec =
-    tie.close (tie.spec byte-at-requires returns add-byte-at byte-at-requires-2 returns-2)
+    tie.close (tie.spec byte-at-requires returns byte-at-requires-2 returns-2)

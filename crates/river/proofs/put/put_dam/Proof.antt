@@ -13,7 +13,7 @@ enum-told : tie.Need-enum-told
 enum-told c = search needs
 
 returns : tie.Need-returns
-returns c = put-none _ _ _ (c .enum-told .given .1)
+returns c = rw (c .enum-told .given .1) (put-none _ _)
 
 put-pair-requires : tie.Need-put-pair-requires
 put-pair-requires c κs = let h = rw (c .before .before .dam .given .1) at (c .before .before .before .before .before .pre) in omega (arith, h)

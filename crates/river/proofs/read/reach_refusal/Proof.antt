@@ -10,11 +10,15 @@ enum-known-answer c = search needs
 enum-told : tie.Need-enum-told
 enum-told c = search needs
 
+refuse-requires : tie.Need-refuse-requires
+refuse-requires c κs = search needs
+
 returns : tie.Need-returns
 returns c = search needs
 
 returns-2 : tie.Need-returns-2
-returns-2 c = rw (c .enum-told .given .1)
+returns-2 c = rw (c .before .enum-told .given .1) (c .refuse .ensures)
 
 pub reach-refusal-spec : {M : Type 1} → statement M
-reach-refusal-spec = tie.close (tie.spec enum-known-answer enum-told returns returns-2)
+reach-refusal-spec =
+    tie.close (tie.spec enum-known-answer enum-told refuse-requires returns returns-2)

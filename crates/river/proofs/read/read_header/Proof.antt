@@ -10,16 +10,24 @@ use Rattle.river.specs.Refusal.{need}
 use Rattle.river.proofs.read.read_header.Statement.{statement}
 use Rattle.river.proofs.read.read_header.Tie as tie
 
+refuse-requires : tie.Need-refuse-requires
+refuse-requires c κs = search needs
+
 returns : tie.Need-returns
 unfolding readHeader need
-returns c = rw (lt-leb _ _ (c .if1 .taken))
+returns c = rw (c .refuse .ensures, lt-leb _ _ (c .before .if1 .taken))
 
 marked-requires : tie.Need-marked-requires
 marked-requires c κs = search needs
 
+refuse-requires-2 : tie.Need-refuse-requires-2
+refuse-requires-2 c κs = search needs
+
 returns-2 : tie.Need-returns-2
 unfolding readHeader need
-returns-2 c = rw (le-leb _ _ (c .before .before .if1 .left), ← c .before .marked .ensures, not-true (c .before .marked .result) (c .if2 .taken))
+returns-2 c =
+    let m = c .before .before in
+    rw (c .refuse2 .ensures, le-leb _ _ (m .before .if1 .left), ← m .marked .ensures, not-true (m .marked .result) (c .before .if2 .taken))
 
 two-at-requires : tie.Need-two-at-requires
 two-at-requires c κs = search needs
@@ -30,11 +38,15 @@ cast-count-ok c = search needs
 count-ok-requires : tie.Need-count-ok-requires
 count-ok-requires c κs = search needs
 
+refuse-requires-3 : tie.Need-refuse-requires-3
+refuse-requires-3 c κs = search needs
+
 returns-3 : tie.Need-returns-3
 unfolding readHeader need
 returns-3 c =
-    let a = c .before .before .before in
-    rw (le-leb _ _ (a .before .before .if1 .left), ← a .before .marked .ensures, not-false (a .before .marked .result) (a .if2 .left), ← c .before .before .two-at .ensures, ← c .before .count-ok .ensures, not-true (c .before .count-ok .result) (c .if3 .taken))
+    let n = c .before .before in
+    let e2 = n .before .before in
+    rw (c .refuse3 .ensures, le-leb _ _ (e2 .before .before .if1 .left), ← e2 .before .marked .ensures, not-false (e2 .before .marked .result) (e2 .if2 .left), ← n .before .two-at .ensures, ← n .count-ok .ensures, not-true (n .count-ok .result) (c .before .if3 .taken))
 
 cast-t9 : tie.Need-cast-t9
 cast-t9 c = omega (arith, true-countOk (c .before .before .two-at .result) (sym (c .before .count-ok .ensures) ∙ not-false (c .before .count-ok .result) (c .if3 .left)))
@@ -42,19 +54,23 @@ cast-t9 c = omega (arith, true-countOk (c .before .before .two-at .result) (sym 
 returns-4 : tie.Need-returns-4
 unfolding readHeader need
 returns-4 c =
-    let a = c .before .before .before in
-    rw (le-leb _ _ (a .before .before .if1 .left), ← a .before .marked .ensures, not-false (a .before .marked .result) (a .if2 .left), ← c .before .before .two-at .ensures, ← c .before .count-ok .ensures, not-false (c .before .count-ok .result) (c .if3 .left))
+    let n = c .before in
+    let e2 = n .before .before in
+    rw (le-leb _ _ (e2 .before .before .if1 .left), ← e2 .before .marked .ensures, not-false (e2 .before .marked .result) (e2 .if2 .left), ← n .before .two-at .ensures, ← n .count-ok .ensures, not-false (n .count-ok .result) (c .if3 .left))
 
 pub read-header-spec : {M : Type 1} → statement M
 read-header-spec =
     tie.close
     (tie.spec
+    refuse-requires
     returns
     marked-requires
+    refuse-requires-2
     returns-2
     two-at-requires
     cast-count-ok
     count-ok-requires
+    refuse-requires-3
     returns-3
     cast-t9
     returns-4)

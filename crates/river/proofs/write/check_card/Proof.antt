@@ -10,44 +10,61 @@ use Rattle.river.proofs.write.check_card.Tie as tie
 in-range-requires : tie.Need-in-range-requires
 in-range-requires c κs = search needs
 
+refuse-requires : tie.Need-refuse-requires
+refuse-requires c κs = search needs
+
 returns : tie.Need-returns
 unfolding checkCard need
-returns c = rw (← c .before .in-range .ensures, not-true (c .before .in-range .result) (c .if1 .taken))
+returns c =
+    let r = c .before .before in
+    rw (c .refuse .ensures, ← r .in-range .ensures, not-true (r .in-range .result) (c .before .if1 .taken))
 
 outlet-ok-requires : tie.Need-outlet-ok-requires
 outlet-ok-requires c κs = search needs
 
+refuse-requires-2 : tie.Need-refuse-requires-2
+refuse-requires-2 c κs = search needs
+
 returns-2 : tie.Need-returns-2
 unfolding checkCard need
 returns-2 c =
-    let e1 = c .before .before in
-    rw (← e1 .before .in-range .ensures, not-false (e1 .before .in-range .result) (e1 .if1 .left), ← c .before .outlet-ok .ensures, not-true (c .before .outlet-ok .result) (c .if2 .taken))
+    let o = c .before .before in
+    let r = o .before .before in
+    rw (c .refuse2 .ensures, ← r .in-range .ensures, not-false (r .in-range .result) (o .before .if1 .left), ← o .outlet-ok .ensures, not-true (o .outlet-ok .result) (c .before .if2 .taken))
 
-dam-in-range-requires : tie.Need-dam-in-range-requires
-dam-in-range-requires c κs = search needs
+optionals-in-range-requires : tie.Need-optionals-in-range-requires
+optionals-in-range-requires c κs = search needs
+
+refuse-requires-3 : tie.Need-refuse-requires-3
+refuse-requires-3 c κs = search needs
 
 returns-3 : tie.Need-returns-3
 unfolding checkCard need
 returns-3 c =
-    let e2 = c .before .before in
-    let e1 = e2 .before .before in
-    rw (← e1 .before .in-range .ensures, not-false (e1 .before .in-range .result) (e1 .if1 .left), ← e2 .before .outlet-ok .ensures, not-false (e2 .before .outlet-ok .result) (e2 .if2 .left), ← c .before .dam-in-range .ensures, not-true (c .before .dam-in-range .result) (c .if3 .taken))
+    let a = c .before .before in
+    let o = a .before .before in
+    let r = o .before .before in
+    rw (c .refuse3 .ensures, ← r .in-range .ensures, not-false (r .in-range .result) (o .before .if1 .left), ← o .outlet-ok .ensures, not-false (o .outlet-ok .result) (a .before .if2 .left), ← a .optionals-in-range .ensures, not-true (a .optionals-in-range .result) (c .before .if3 .taken))
 
 returns-4 : tie.Need-returns-4
 unfolding checkCard need
 returns-4 c =
-    let e2 = c .before .before in
-    let e1 = e2 .before .before in
-    rw (← e1 .before .in-range .ensures, not-false (e1 .before .in-range .result) (e1 .if1 .left), ← e2 .before .outlet-ok .ensures, not-false (e2 .before .outlet-ok .result) (e2 .if2 .left), ← c .before .dam-in-range .ensures, not-false (c .before .dam-in-range .result) (c .if3 .left))
+    let a = c .before in
+    let o = a .before .before in
+    let r = o .before .before in
+    rw (← r .in-range .ensures, not-false (r .in-range .result) (o .before .if1 .left), ← o .outlet-ok .ensures, not-false (o .outlet-ok .result) (a .before .if2 .left), ← a .optionals-in-range .ensures, not-false (a .optionals-in-range .result) (c .if3 .left))
 
 pub check-card-spec : {M : Type 1} → statement M
 check-card-spec =
     tie.close
     (tie.spec
     in-range-requires
+    refuse-requires
     returns
     outlet-ok-requires
+    refuse-requires-2
     returns-2
-    dam-in-range-requires
+    optionals-in-range-requires
+    refuse-requires-3
     returns-3
     returns-4)

@@ -43,11 +43,11 @@ one-more c =
 loop-holds : tie.Need-loop-holds Inv-loop μ-loop
 loop-holds c = (omega arith, measure-start _)
 
-mul-c : tie.Need-mul-c Inv-loop μ-loop
-mul-c c = omega (arith, c .before .before .before .pre)
+mul-size-of : tie.Need-mul-size-of Inv-loop μ-loop
+mul-size-of c = omega (arith, c .before .before .before .pre)
 
-array-copy-out-c : tie.Need-array-copy-out-c Inv-loop μ-loop
-array-copy-out-c c = omega (arith, c .before .before .before .pre)
+array-copy-out-size-of : tie.Need-array-copy-out-size-of Inv-loop μ-loop
+array-copy-out-size-of c = omega (arith, c .before .before .before .pre)
 
 size-of-requires : tie.Need-size-of-requires Inv-loop μ-loop
 size-of-requires c κs = search needs
@@ -79,8 +79,8 @@ file-length-spec =
     Inv-loop
     μ-loop
     loop-holds
-    mul-c
-    array-copy-out-c
+    mul-size-of
+    array-copy-out-size-of
     size-of-requires
     add-total
     add-i

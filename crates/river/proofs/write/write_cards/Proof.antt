@@ -22,11 +22,16 @@ few c = true-countOk (c .before .before .before .args .cards .count) (passes c) 
 count-ok-requires : tie.Need-count-ok-requires
 count-ok-requires c κs = search needs
 
+refuse-requires : tie.Need-refuse-requires
+refuse-requires c κs = search needs
+
 returns : tie.Need-returns
 returns c =
-    let a = c .before .before .before .args in
-    refuses-count (a .cards .count) (river (a .cards)) (now (a .out))
-    (sym (c .before .count-ok .ensures) ∙ not-true (c .before .count-ok .result) (c .if1 .taken))
+    let count = c .before .before in
+    let a = count .before .before .args in
+    rw (c .refuse .ensures)
+    (refuses-count (a .cards .count) (river (a .cards)) (now (a .out))
+    (sym (count .count-ok .ensures) ∙ not-true (count .count-ok .result) (c .before .if1 .taken)))
 
 cast-check-cards : tie.Need-cast-check-cards
 cast-check-cards c = omega (arith, few c)
@@ -54,13 +59,18 @@ returns-2 c =
 file-length-requires : tie.Need-file-length-requires
 file-length-requires c κs = (refl, few (c .before .before .before))
 
+refuse-requires-2 : tie.Need-refuse-requires-2
+refuse-requires-2 c κs = search needs
+
 returns-3 : tie.Need-returns-3
 returns-3 c =
-    let told = c .before .before in
+    let length = c .before .before in
+    let told = length .before in
     let call = told .before .before in
     let a = call .before .before .before .before .args in
-    refuses-room (a .cards .count) (river (a .cards)) (now (a .out)) (passes (call .before)) (call .check-cards .ensures)
-    (told .enum-told .given .1) (c .before .file-length .ensures) (c .if2 .taken)
+    rw (c .refuse2 .ensures)
+    (refuses-room (a .cards .count) (river (a .cards)) (now (a .out)) (passes (call .before)) (call .check-cards .ensures)
+    (told .enum-told .given .1) (length .file-length .ensures) (c .before .if2 .taken))
 
 put-file-requires : tie.Need-put-file-requires
 put-file-requires c κs =
@@ -85,6 +95,7 @@ write-cards-spec =
     tie.close
     (tie.spec
     count-ok-requires
+    refuse-requires
     returns
     cast-check-cards
     check-cards-requires
@@ -93,6 +104,7 @@ write-cards-spec =
     check-refusal-requires
     returns-2
     file-length-requires
+    refuse-requires-2
     returns-3
     put-file-requires
     same-length

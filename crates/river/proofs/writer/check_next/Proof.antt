@@ -9,7 +9,7 @@ use Rattle.river.specs.Writer.{nextChecking}
 use Rattle.river.specs.declared.write.Check.{Check}
 use Rattle.river.specs.declared.writer.Checking.{Checking}
 use Rattle.river.proofs.write.Passes.{passed-check, refused-check}
-use Rattle.river.proofs.read.Steps.{size-small}
+use Rattle.river.proofs.read.Rows.{size-small}
 use borrow.Author.Needs.{needs}
 use Rattle.river.proofs.writer.check_next.Statement.{statement}
 use Rattle.river.proofs.writer.check_next.Tie as tie
@@ -38,16 +38,16 @@ stopped-requires c κs = search needs
 enum-told : tie.Need-enum-told
 enum-told c = search needs
 
-add-t13 : tie.Need-add-t13
-add-t13 c = search needs
+add-t12 : tie.Need-add-t12
+add-t12 c = search needs
 
 size-of-requires : tie.Need-size-of-requires
 size-of-requires c κs = search needs
 
-add-t15 : tie.Need-add-t15
-add-t15 c =
+add-t14 : tie.Need-add-t14
+add-t14 c =
     let start = c .before .before .before .before .before in
-    omega (arith, start .pre, c .before .size-of .ensures, size-small (start .args .c .dam))
+    omega (arith, start .pre, c .before .size-of .ensures, size-small (start .args .c))
 
 returns : tie.Need-returns
 returns c =
@@ -78,8 +78,8 @@ check-next-spec =
     enum-known-r
     stopped-requires
     enum-told
-    add-t13
+    add-t12
     size-of-requires
-    add-t15
+    add-t14
     returns
     returns-2)

@@ -1,0 +1,27 @@
+-- `river::card::size_of` meets its contract: the length of records one behind the other is the sum of theirs.
+-- Assumes nothing.
+use borrow.Author.Needs.{needs}
+use Prim.Native.Nat.{_+_}
+use mathlib.Core.Path.{_≡_}
+use native.Mathlib.Omega.{arith}
+use lib.ListN.{length-append}
+use Rattle.river.specs.Card.{reachBytes, sizeOf}
+use Rattle.river.proofs.read.Rows.{size-small}
+use Rattle.river.proofs.card.size_of.Statement.{statement}
+use Rattle.river.proofs.card.size_of.Tie as tie
+
+-- the lengths of the records, added up
+added : (c : tie.After-dam-size) → reachBytes + c .dam-size .result ≡ sizeOf (c .before .args .c)
+added c = simp length-append (omega (arith, c .dam-size .ensures))
+
+dam-size-requires : tie.Need-dam-size-requires
+dam-size-requires c κs = search needs
+
+add-result : tie.Need-add-result
+add-result c = omega (arith, added c, size-small (c .before .args .c))
+
+returns : tie.Need-returns
+returns c = added c
+
+pub size-of-spec : {M : Type 1} → statement M
+size-of-spec = tie.close (tie.spec dam-size-requires add-result returns)

@@ -1,0 +1,54 @@
+-- The kinds of records that may follow an `RE` record satisfy what a kind must.
+-- Assumes nothing.
+use Prim.Native.Nat.{ℕ, _≤_}
+use mathlib.Core.Logic.{_⊎_, inl, inr}
+use mathlib.Core.Path.{_≡_, refl, sym}
+use mathlib.Core.List.{List, _∷_, _++_}
+use mathlib.Core.Bool.{true}
+use native.Mathlib.Nat.{div-add-mod'}
+use native.Mathlib.Omega.{arith}
+use Rattle.river.specs.Bytes.{AreBytes}
+use Rattle.river.specs.Card.{damRecord, encodeDam, damInRange, optional, optionalOf, sizeOf, longestCard}
+use Rattle.river.specs.declared.card.Card.{Card}
+use Rattle.river.specs.declared.card.Dam.{Dam}
+use Rattle.river.specs.declared.card.Dam.the-variants.{Absent, Aerating}
+use Rattle.river.proofs.bytes.Numbers.{twoBytes-twoAt, fourBytes-fourAt, are-bytes-cons, are-bytes-two, are-bytes-four}
+use Rattle.river.proofs.range.Ranges.{true-damInRange}
+use Rattle.river.proofs.read.Optional.{Present, Sound, AllSound, optionals-small}
+
+cases-dam : (d : Dam) → (d ≡ Absent) ⊎ Present damRecord d
+cases-dam Absent = inl refl
+cases-dam (Aerating s g) =
+    inr
+    (record {
+      marks = λ post. record { first = refl; second = refl };
+      long = refl;
+      passes = λ post r. simp div-add-mod' r;
+      back = λ post. simp div-add-mod';
+    })
+
+bytes-dam : (d : Dam) {s : List ℕ} → damInRange d ≡ true → AreBytes s → AreBytes (encodeDam d ++ s)
+bytes-dam Absent r h = h
+bytes-dam (Aerating s g) r h =
+    let d = true-damInRange (Aerating s g) r in
+    are-bytes-cons (omega arith)
+    (are-bytes-cons (omega arith)
+    (are-bytes-two s (omega (arith, d .share)) (are-bytes-four g (omega (arith, d .generating)) h)))
+
+sound-dam : Sound damRecord
+unfolding damInRange
+sound-dam =
+    record {
+      none-empty = refl;
+      none-in-range = refl;
+      cases = cases-dam;
+      in-range = λ s r. r;
+      spells = λ s h m r i. sym (m .first) i ∷ sym (m .second) i ∷ twoBytes-twoAt s 2 h i ++ fourBytes-fourAt s 4 h i;
+      bytes = bytes-dam;
+    }
+
+pub rows : AllSound optional
+rows = (sound-dam, tt)
+
+pub size-small : (c : Card) → sizeOf c ≤ longestCard
+size-small c = omega (arith, optionals-small optional rows (optionalOf c))
