@@ -1,9 +1,9 @@
 -- The entry's contract follows from its result and the buffer that it leaves: 0 is no refusal's result, and the figures read
 -- back from the bytes are those of the definitions, for which demand 3 holds. Assumes nothing.
 pub mod Numbers
-use mathlib.Core.Path.{_≡_, refl, sym, ap, _∙_, subst}
+use mathlib.Core.Path.{_≡_, refl, sym, ap, ap₂, _∙_, subst}
 use mathlib.Core.List.{List, _++_}
-use Prim.Native.Nat.{ℕ, zero, suc, _-_, _≤_, _<_}
+use Prim.Native.Nat.{ℕ, zero, suc, _-_, _/_, _%_, _≤_, _<_}
 use native.Mathlib.Omega.{arith}
 use borrow.Author.Tests.{lt-ltb, le-ltb, le-leb, lt-leb, leb-true}
 use lib.Dec.{leb→le}
@@ -19,15 +19,17 @@ use Rattle.river.specs.Refusal.{Answer, accepted, refused, refuse, after, codeO
 use Rattle.river.specs.Flow.{cardOf, above}
 use Rattle.river.specs.Stored.{storedZero}
 use Rattle.river.specs.Accept.{Accepts, acceptFile}
+use Rattle.river.proofs.Acceptance.{accepts-exactly}
 use Rattle.river.proofs.Answers.{passed, went, need-true, need-false, after-accepted, after-refused}
 use Rattle.report.specs.Program.{oxygenAt, figuresOf, figuresAt, foot}
 use Rattle.report.specs.Distance.{allowanceAt, WithinAllowance}
 use Rattle.report.specs.Record.{complement, fromComplement, recordSize, recordAt, readRecord, Figures}
 use Rattle.report.specs.Report.{recordOf, reportOf, reportSize, roomAnswer, reportAnswer, resultOf, bufferReported, figuresRead, Accepted, Reports}
+use Rattle.report.specs.Ties.{Tied}
 use Rattle.report.specs.Lines.{Ready}
 use Rattle.report.proofs.Lowest.{lowest-first}
 use Rattle.report.proofs.Bounds.{Range}
-use Rattle.report.proofs.River.{IsRiver, river-of-file, head-in-range, instant-in-range, reach-within-allowance}
+use Rattle.report.proofs.River.{IsRiver, river-of-file, head-in-range, instant-in-range, reach-tied, reach-within-allowance}
 use Rattle.report.proofs.record.Encoding.{Writable, record-length, read-back}
 use Rattle.report.proofs.record.Rows.{Begins, stands}
 use Rattle.report.proofs.Entry.Numbers.{Numbered, report-numbered}
@@ -91,6 +93,12 @@ module _ (file before : List ℕ) where
         let s = record-stands file before buffer river i l in
         ap readRecord (s .is) ∙ read-back (figuresAt (river .cards) (suc i)) (s .rest) (writable is-river i l)
 
+-- the number and the reach of a refusal are read back from its result
+read-refusal : (x : Answer (List Card)) {result : ℕ} → Numbered x → result ≡ resultOf x → (result ≡ 0 → ⊥) → x ≡ refused (refuse (result % 256) (result / 256))
+unfolding resultOf
+read-refusal (accepted cards) n e h = absurd (h e)
+read-refusal (refused r) {result} n e h = ap₂ (λ (k i : ℕ). refused (refuse k i)) (omega arith) (omega arith)
+
 -- a refusal leaves the buffer as it was
 left-alone : (x : Answer (List Card)) (before : List ℕ) → (resultOf x ≡ 0 → ⊥) → bufferReported x before ≡ before
 unfolding resultOf bufferReported
@@ -108,6 +116,8 @@ unfolding resultOf figuresOf
 reports-of file before after result bytes answer buffer =
     record {
       answer = answer;
+      refuses = read-refusal (reportAnswer file (length before)) (report-numbered file (length before)) answer;
+      lawful = λ cards. accepts-exactly file cards bytes;
       accepts = λ z. answered file before (reportAnswer file (length before)) refl (report-numbered file (length before)) (sym answer ∙ z);
       zero = λ river. answer ∙ ap resultOf (answers file river);
       buffer = buffer;
@@ -115,6 +125,10 @@ reports-of file before after result bytes answer buffer =
       figures = figures-read file before bytes buffer;
       depth = λ river i l. ap (λ (f : Figures). f .depth) (figures-read file before bytes buffer river i l);
       flow = λ river i l. ap (λ (f : Figures). f .flow) (figures-read file before bytes buffer river i l);
+      tied =
+          λ river i l.
+          subst (Tied (cardOf (river .cards) (suc i)) (oxygenAt (cardOf (river .cards) (suc i)) (above (river .cards) (suc i)))) (sym (figures-read file before bytes buffer river i l))
+          (reach-tied (is-river file before bytes buffer river i l) i l);
       within =
           λ river i l N long.
           subst (λ (f : Figures). WithinAllowance N (cardOf (river .cards) (suc i)) (above (river .cards) (suc i)) f (allowanceAt (river .cards) (suc i))) (sym (figures-read file before bytes buffer river i l))

@@ -9,13 +9,11 @@ use lib.Dec.{T, leb, leb→le, nleb→lt, ltb→lt, le→leb}
 use lib.IntN.{ℤ, pos, negsuc}
 use lib.Signed.{ltZ, _≤ℤ_, _<ℤ_, ltZ-yes, ltZ-no, ≤ℤ-refl, <ℤ-irrefl, <ℤ-≤ℤ-trans}
 use Rattle.report.specs.Program.{Critical, lower, lowest}
+use Rattle.report.specs.Ties.{FirstLowest}
 
--- c is the first lowest of the values at instants 0 to n
-pub record FirstLowest (at : ℕ → ℤ) (n : ℕ) (c : Critical) : Type 0 where
-  pub within : c .instant ≤ n
-  pub value : c .oxygen ≡ at (c .instant)
-  pub least : (m : ℕ) → m ≤ n → c .oxygen ≤ℤ at m
-  pub first : (m : ℕ) → m < c .instant → c .oxygen <ℤ at m
+-- a critical point is the first lowest of the values at instants 0 to n
+abbrev pub Lowest : (ℕ → ℤ) → ℕ → Critical → Type 0
+Lowest at n c = FirstLowest at n (c .instant) (c .oxygen)
 
 pub <ℤ-weak : {a b : ℤ} → a <ℤ b → a ≤ℤ b
 <ℤ-weak {a = pos a} {b = pos b} h = record { le = le→leb a b (weak (ltb→lt a b (h .lt))) }
@@ -40,7 +38,7 @@ last-or-before k m h = go (leb k m) refl
         here : m < k → suc m ≡ k
         here l = omega arith
 
-lower-first : (at : ℕ → ℤ) (m : ℕ) (c : Critical) → FirstLowest at m c → (t : Bool) → (T t → at (suc m) <ℤ (c .oxygen)) → (T (not t) → (c .oxygen) ≤ℤ at (suc m)) → FirstLowest at (suc m) (cond t (record { instant = suc m; oxygen = at (suc m) }) c)
+lower-first : (at : ℕ → ℤ) (m : ℕ) (c : Critical) → Lowest at m c → (t : Bool) → (T t → at (suc m) <ℤ (c .oxygen)) → (T (not t) → (c .oxygen) ≤ℤ at (suc m)) → Lowest at (suc m) (cond t (record { instant = suc m; oxygen = at (suc m) }) c)
 lower-first at m c h true below above =
     record {
       within = le-refl (suc m);
@@ -65,7 +63,7 @@ lower-first at m c h false below above =
     pick k (inr e) = subst (λ (x : ℕ). (c .oxygen) ≤ℤ at x) e (above tt)
 
 -- the definition's critical point is the first lowest
-pub lowest-first : (at : ℕ → ℤ) (n : ℕ) → FirstLowest at n (lowest at n)
+pub lowest-first : (at : ℕ → ℤ) (n : ℕ) → Lowest at n (lowest at n)
 unfolding lowest lower
 lowest-first at zero =
     record {

@@ -1,11 +1,11 @@
 -- The ties along a reach: BOD lies from 0 to head BOD, and where nothing decays or is aerated the figures stay to the unit.
-use mathlib.Core.Path.{_≡_, sym, _∙_, ap}
+use mathlib.Core.Path.{_≡_, refl, sym, _∙_, ap}
 use Prim.Native.Nat.{ℕ, _*_, _≤_}
 use native.Mathlib.Nat.{mul-div-cancel-left, zero-mul, add-zero}
 use native.Mathlib.Omega.{arith}
 use lib.IntN.{ℤ, pos, negℤ, _+ℤ_, _-ℤ_, +ℤ-assoc, +ℤ-idl, +ℤ-invr, negℤ-negℤ, negℤ-+ℤ}
 use Rattle.decay.specs.Fixed.{one, product}
-use Rattle.decay.specs.Factors.{AreShares}
+use Rattle.decay.specs.Factors.{AreShares, headFactors, factorsAt}
 use Rattle.decay.proofs.fixed.Digits.{one-pos, share-below}
 use Rattle.decay.proofs.step.Shares.{step-sound}
 use Rattle.decay.proofs.factors.Instants.{range, bod-tie, deficit-tie}
@@ -31,6 +31,11 @@ back-again a b = ap (λ (x : ℤ). a +ℤ x) (negℤ-+ℤ a (negℤ b) ∙ ap (�
 pub oxygen-stays : (f : Factors) (Cs L : ℕ) (C : ℤ) → f .turned ≡ 0 → f .kept ≡ one → oxygenWith f Cs L C ≡ C
 unfolding oxygenWith product
 oxygen-stays f Cs L C h k = rw (h, k, zero-mul, floor-multiple (pos Cs -ℤ C) one one-pos, add-zero) (back-again (pos Cs) C)
+
+-- instant 0 is the head
+pub oxygen-at-head : (card : Card) (up : Feeders) → oxygenAt card up 0 ≡ oxygenAtHead card up
+unfolding oxygenAt oxygenAlong factorsAlong factorsAt headFactors
+oxygen-at-head card up = oxygen-stays _ (saturationOf card) (bodAtHead card up) (oxygenAtHead card up) refl refl
 
 -- the factors of an accepted reach are shares of one
 pub factors-range : {card : Card} {up : Feeders} → AcceptedReach card up → (m : ℕ) → AreShares (factorsAlong card (reachFlow card up) m)

@@ -1,6 +1,7 @@
 pub mod Program
 pub mod Recurrence
 pub mod Distance
+pub mod Ties
 pub mod Locality
 pub mod Profile
 pub mod Record

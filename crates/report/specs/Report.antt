@@ -1,16 +1,18 @@
 -- "Reporting" of document 01: what a call of the entry returns and leaves in the report buffer.
 use mathlib.Core.Path.{_≡_}
+use mathlib.Core.Logic.{_↔_}
 use mathlib.Core.List.{List, [], _++_}
-use Prim.Native.Nat.{ℕ, zero, suc, _*_, _≤_, _<_}
+use Prim.Native.Nat.{ℕ, zero, suc, _*_, _/_, _%_, _≤_, _<_}
 use lib.Dec.{leb}
 use lib.ListN.{length, drop}
 use Rattle.river.specs.declared.card.Card.{Card}
-use Rattle.river.specs.Refusal.{Answer, accepted, refused, need, after, codeOf}
+use Rattle.river.specs.Refusal.{Answer, accepted, refused, refuse, need, after, codeOf}
 use Rattle.river.specs.Flow.{cardOf, above, depthAt, flowAt}
-use Rattle.report.specs.Program.{figuresAt}
+use Rattle.report.specs.Program.{oxygenAt, figuresAt}
 use Rattle.report.specs.Distance.{allowanceAt, WithinAllowance}
+use Rattle.report.specs.Ties.{Tied}
 use Rattle.report.specs.Record.{Figures, encodeRecord, recordSize, recordAt, readRecord}
-use Rattle.river.specs.Accept.{acceptFile}
+use Rattle.river.specs.Accept.{acceptFile, AcceptedFile}
 
 -- the first n of some rows of bytes, one behind the other
 unfoldable pub rows : (ℕ → List ℕ) → ℕ → List ℕ
@@ -60,7 +62,11 @@ figuresRead cards buffer i = readRecord (recordAt (recordSize cards) buffer i)
 pub record Reports (file before after : List ℕ) (result : ℕ) : Type 0 where
   -- the result, by the order of refusals
   pub answer : result ≡ resultOf (reportAnswer file (length before))
-  -- it is 0 exactly for an accepted river whose report the buffer can hold
+  -- any other than 0 has the number and the reach of the refusal
+  pub refuses : (result ≡ 0 → ⊥) → reportAnswer file (length before) ≡ refused (refuse (result % 256) (result / 256))
+  -- a file is accepted exactly if it is the file of lawful cards that pass the flow rules
+  pub lawful : (cards : List Card) → (acceptFile file ≡ accepted cards) ↔ AcceptedFile file cards
+  -- the result is 0 exactly for an accepted river whose report the buffer can hold
   pub accepts : result ≡ 0 → Accepted file (length before)
   pub zero : Accepted file (length before) → result ≡ 0
   -- the whole buffer: untouched by a refusal, else each reach's record, and past the report what stood there
@@ -81,6 +87,11 @@ pub record Reports (file before after : List ℕ) (result : ℕ) : Type 0 where
       (river : Accepted file (length before)) (i : ℕ) →
       i < length (river .cards) →
       figuresRead (river .cards) after i .flow ≡ flowAt (river .cards) (suc i)
+  -- the ties and the critical point, on the figures in the bytes and the program's oxygen at each instant
+  pub tied :
+      (river : Accepted file (length before)) (i : ℕ) →
+      i < length (river .cards) →
+      Tied (cardOf (river .cards) (suc i)) (oxygenAt (cardOf (river .cards) (suc i)) (above (river .cards) (suc i))) (figuresRead (river .cards) after i)
   -- demand 3: at every reach, and for every series length from 40 on, the concentrations in the bytes are near the exact ones
   pub within :
       (river : Accepted file (length before)) (i : ℕ) →

@@ -21,7 +21,7 @@ use Rattle.river.specs.Refusal.{accepted, refused, outcomeOf}
 use Rattle.river.specs.Read.{readFile}
 use Rattle.river.specs.Write.{encode}
 use Rattle.river.specs.Flow.{above, feedersAmong, joinedIf, Flows, flowCheck}
-use Rattle.river.specs.Accept.{Accepts, acceptFile}
+use Rattle.river.specs.Accept.{Accepts, AcceptedFile, acceptFile}
 use Rattle.river.proofs.Answers.{after-accepted, after-refused, went}
 use Rattle.river.proofs.Files.{reads-lawful, reads-only-lawful}
 use Rattle.river.proofs.read.Steps.{no-refusal}
@@ -30,12 +30,6 @@ use Rattle.river.proofs.flow.Checks.{lawful-at, first-tabled}
 use Rattle.river.proofs.flow.FlowCheck.{flows-of-accepted, accepted-of-flows}
 use Rattle.river.specs.FlowTable.{Underway, FlowChecked}
 use Rattle.river.specs.File.{Reads}
-
--- a file of lawful cards that pass the flow rules
-pub record AcceptedFile (file : List ℕ) (cards : List Card) : Type 0 where
-  pub bytes : file ≡ encode cards
-  pub lawful : Lawful cards
-  pub flows : Flows cards
 
 accepts-only : (file : List ℕ) (cards : List Card) → AreBytes file → acceptFile file ≡ accepted cards → AcceptedFile file cards
 unfolding acceptFile

@@ -11,10 +11,17 @@ use Rattle.river.specs.Flow.{Flows, flowCheck}
 use Rattle.river.specs.FlowTable.{Tabled}
 use Rattle.river.specs.Refusal.{outcomeOf, Answer, after}
 use Rattle.river.specs.Read.{readFile}
+use Rattle.river.specs.Write.{encode}
 
 -- a river file that was read without refusal goes on to the flow check
 unfoldable pub acceptFile : List ℕ → Answer (List Card)
 acceptFile file = after (readFile file) flowCheck
+
+-- the file of lawful cards that pass the flow rules
+pub record AcceptedFile (file : List ℕ) (cards : List Card) : Type 0 where
+  pub bytes : file ≡ encode cards
+  pub lawful : Lawful cards
+  pub flows : Flows cards
 
 -- the answer of reading and flow check; the cards of an accepted river are lawful and pass the flow rules, and the tables are theirs
 pub record Accepts (file : List ℕ) (r : Acceptance) : Type 0 where

@@ -1,5 +1,4 @@
 -- What `render` rests on besides the laws of its modules, and the bench values.
-pub mod Refusals
 pub mod Rendering
 pub mod Notation
 pub mod Bench

@@ -10,17 +10,17 @@ use Rattle.io.specs.Counts.{Counts}
 use Rattle.river.specs.declared.card.Card.{Card}
 use Rattle.river.specs.Accept.{acceptFile}
 use Rattle.river.specs.Bytes.{AreBytes, twoAt}
-use Rattle.river.specs.Refusal.{Answer, accepted, refused, codeOf}
+use Rattle.river.specs.declared.refusal.Refusal.{Refusal}
+use Rattle.river.specs.Refusal.{Answer, accepted, refused, refuse}
 use Rattle.river.specs.Write.{encode}
 use Rattle.river.proofs.Acceptance.{accepts-exactly}
 use Rattle.river.proofs.Answers.{after-refused}
 use Rattle.river.proofs.bytes.Puts.{at-start}
 use Rattle.report.specs.Program.{figuresAt}
 use Rattle.report.specs.Record.{Figures, recordSize}
-use Rattle.report.specs.Report.{reportAnswer, resultOf, Reports}
+use Rattle.report.specs.Report.{reportAnswer, Reports}
 use Rattle.text.specs.Text.{lineOf, linesOf, refusalLine, textOf, Renders}
 use Rattle.text.specs.Held.{recorded, PutWithin}
-use Rattle.text.proofs.Refusals.{Small, small-number}
 
 -- equal figures have equal lines
 same-lines : (f g : ℕ → Figures) (n : ℕ) → ((i : ℕ) → i < n → f (suc i) ≡ g (suc i)) → linesOf f n ≡ linesOf g n
@@ -47,16 +47,16 @@ module _ {file : List ℕ} (bytes : AreBytes file) where
         ∙ sym (ap textOf (river .passes))
 
     -- any other: its number and reach are the refusal's
-    refusal-of : (x : Answer (List Card)) → acceptFile file ≡ x → Small x → (result ≡ 0 → ⊥) → refusalLine (result % 256) (result / 256) ≡ textOf x
-    unfolding textOf resultOf reportAnswer recordSize
-    refusal-of (accepted cards) e s h =
+    refusal-of : (x : Answer (List Card)) → acceptFile file ≡ x → (result ≡ 0 → ⊥) → refusalLine (result % 256) (result / 256) ≡ textOf x
+    unfolding textOf reportAnswer recordSize
+    refusal-of (accepted cards) e h =
         absurd (h (reports .zero (record { cards = cards; passes = e; holds = omega (arith, counted e .1) })))
-    refusal-of (refused r) e s h =
-        let c : result ≡ codeOf r = reports .answer ∙ ap resultOf (after-refused (acceptFile file) _ e) in
-        ap₂ refusalLine (omega arith) (omega arith)
+    refusal-of (refused r) e h =
+        let same : refuse (result % 256) (result / 256) ≡ r = cc (reports .refuses h, after-refused (acceptFile file) _ e) in
+        ap (λ (x : Refusal). refusalLine (x .number) (x .reach)) same
 
     pub refusal-is : (result ≡ 0 → ⊥) → refusalLine (result % 256) (result / 256) ≡ textOf (acceptFile file)
-    refusal-is = refusal-of (acceptFile file) refl (small-number file)
+    refusal-is = refusal-of (acceptFile file) refl
 
 -- a text that is put at the start of a buffer
 pub renders :

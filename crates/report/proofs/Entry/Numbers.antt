@@ -1,4 +1,5 @@
--- Every refusal of reading, of the flow check and of reporting has a number above 0, so that 0 is no refusal's result.
+-- Every refusal of reading, of the flow check and of reporting has a number from 1 to 255, so that 0 is no refusal's result, and number and
+-- reach are read back from the result.
 -- Assumes nothing.
 use mathlib.Core.Bool.{Bool, true, false}
 use mathlib.Core.List.{List, [], _∷_}
@@ -14,16 +15,16 @@ use Rattle.report.specs.Report.{roomAnswer, reportAnswer}
 use Rattle.river.specs.Card.{reachBytes, optional, sizeOf}
 use Rattle.river.specs.Accept.{acceptFile}
 
--- a refusal's number is above 0
+-- a refusal's number is from 1 to 255
 abbrev pub Numbered : {A : Type 0} → Answer A → Type 0
 Numbered (accepted a) = Unit
-Numbered (refused r) = 0 < r .number
+Numbered (refused r) = (0 < r .number) × (r .number < 256)
 
 module _ {A : Type 0} where
-  needs : (b : Bool) (n i : ℕ) (x : Answer A) → 0 < n → Numbered x → Numbered (need b n i x)
+  needs : (b : Bool) (n i : ℕ) (x : Answer A) → 0 < n → n < 256 → Numbered x → Numbered (need b n i x)
   unfolding need
-  needs true n i x p h = h
-  needs false n i x p h = p
+  needs true n i x p q h = h
+  needs false n i x p q h = (p, q)
 
   either : (b : Bool) (x y : Answer A) → Numbered x → Numbered y → Numbered (choose b x y)
   unfolding choose
@@ -35,46 +36,25 @@ module _ {A : Type 0} where
   next (accepted a) f h k = k a
   next (refused r) f h k = h
 
-header : (s : List ℕ) → Numbered (readHeader s)
-unfolding readHeader
-header s = needs _ _ _ _ (lit< tt) (needs _ _ _ _ (lit< tt) (needs _ _ _ _ (lit< tt) tt))
-
 optionals : (ks : List Kind) (i : ℕ) (s : List ℕ) → Numbered (readOptionals ks i s)
 unfolding readOptionals readOptional
 optionals [] i s = tt
-optionals (k ∷ ks) i s =
-    next _ _ (either _ _ _ (needs _ _ _ _ (lit< tt) (needs _ _ _ _ (lit< tt) tt)) tt)
-    (λ v. next _ _ (optionals ks i (drop (length (k .encode v)) s)) (λ vs. tt))
+optionals (k ∷ ks) i s = search (needs, either, next, lit<, optionals ks i) depth 12
 
 reach : (n i : ℕ) (s : List ℕ) → Numbered (readReach n i s)
 unfolding readReach
-reach n i s =
-    needs _ _ _ _ (lit< tt)
-    (needs _ _ _ _ (lit< tt)
-    (needs _ _ _ _ (lit< tt) (needs _ _ _ _ (lit< tt) (next _ _ (optionals optional i (drop reachBytes s)) (λ vs. tt)))))
+reach n i s = search (needs, next, lit<, optionals) depth 12
 
 reaches : (n i m : ℕ) (s : List ℕ) → Numbered (readReaches n i m s)
 unfolding readReaches
-reaches n i zero s = needs _ _ _ _ (lit< tt) tt
-reaches n i (suc m) s =
-    next _ _ (reach n i s) (λ c. next _ _ (reaches n (suc i) m (drop (sizeOf c) s)) (λ cs. tt))
-
-file-numbered : (s : List ℕ) → Numbered (readFile s)
-unfolding readFile
-file-numbered s = next _ _ (header s) (λ n. reaches n 1 n (drop 4 s))
+reaches n i zero s = search (needs, lit<)
+reaches n i (suc m) s = search (next, reach, reaches n (suc i) m)
 
 checks : (cards : List Card) (i m : ℕ) → Numbered (checksFrom cards i m)
 unfolding checksFrom reachChecks
 checks cards i zero = tt
-checks cards i (suc m) =
-    needs _ _ _ _ (lit< tt)
-    (needs _ _ _ _ (lit< tt)
-    (needs _ _ _ _ (lit< tt)
-    (needs _ _ _ _ (lit< tt)
-    (needs _ _ _ _ (lit< tt) (needs _ _ _ _ (lit< tt) (checks cards (suc i) m))))))
+checks cards i (suc m) = search (needs, lit<, checks cards (suc i) m) depth 12
 
 pub report-numbered : (file : List ℕ) (room : ℕ) → Numbered (reportAnswer file room)
-unfolding reportAnswer roomAnswer acceptFile flowCheck
-report-numbered file room =
-    next _ _ (next _ _ (file-numbered file) (λ cards. checks cards 1 (length cards)))
-    (λ cards. needs _ _ _ _ (lit< tt) tt)
+unfolding reportAnswer roomAnswer acceptFile readFile readHeader flowCheck
+report-numbered file room = search (needs, next, reaches, checks, lit<) depth 12

@@ -28,7 +28,7 @@ use Rattle.report.specs.Record.{figuresIn, Figures}
 use Rattle.report.specs.declared.record.Line.{Line}
 use Rattle.report.specs.Lines.{Ready, FeetOf, LineOf}
 use Rattle.report.proofs.Forest.{rates-pass, reach-accepted}
-use Rattle.report.proofs.River.{IsRiver, head-in-range, instant-in-range, foot-bod-at-most-head}
+use Rattle.report.proofs.River.{IsRiver, head-in-range, instant-in-range, reach-tied}
 use Rattle.river.specs.Stored.{storedZero, oxygenOf, storedOf}
 use Rattle.river.specs.HeadTable.{HeadInput, HeadOf}
 
@@ -163,7 +163,7 @@ module _ {cards : List Card} {i : ℕ} {line : Line} (of : LineOf cards i line) 
   line-falls : Lawful cards → Flows cards → i < length cards → line .«foot_bod» ≤ line .«head_bod»
   unfolding figuresOf
   line-falls lawful sound l =
-      rw (line-foot-bod, ap (λ (f : Figures). f .head-bod) (of .figures)) (foot-bod-at-most-head (record { lawful = lawful; flows = sound }) i l)
+      rw (line-foot-bod, ap (λ (f : Figures). f .head-bod) (of .figures)) (reach-tied (record { lawful = lawful; flows = sound }) i l .foot-bod)
 
 -- the feet with that of one more reach
 pub feet-next :
