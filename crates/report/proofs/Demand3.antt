@@ -1,4 +1,5 @@
 -- Demand 3: the figures of every reach of every river that reading and the flow check accept lie within the allowance of the exact recurrence.
+-- The refutations are named here so that they are checked first: an allowance that rules out too little is refused by them.
 use mathlib.Core.Path.{sym, subst}
 use mathlib.Core.List.{List, [], _∷_}
 use Prim.Native.Nat.{ℕ, suc, _≤_, _<_}
@@ -15,6 +16,7 @@ use Rattle.report.specs.Program.{lowest, bodAt, oxygenAt, figuresOf, fig
 use Rattle.report.specs.Recurrence.{exactOxygenAt}
 use Rattle.report.specs.Distance.{stepUnits, allowanceAt, WithinAllowance, broughtAllowance, waterAllowance}
 use Rattle.report.specs.Record.{Figures}
+use Rattle.report.proofs.Refutations
 use Rattle.report.proofs.Lowest.{lowest-first}
 use Rattle.report.proofs.Forest.{AcceptedReach, AllAccepted, reach-accepted, above-accepted, reach-shallow}
 use Rattle.report.proofs.Accuracy.Errors.{Near, head-adds}

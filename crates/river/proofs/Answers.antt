@@ -1,9 +1,11 @@
 -- Laws of answers: what passes a guard and a sequence, and what an accepted answer says about the guards before it.
+-- The orders of the checks are named here so that their rows are checked before the laws: a wrong order is refused by them.
 -- Assumes nothing.
 use Prim.Native.Nat.{ℕ}
 use mathlib.Core.Path.{_≡_, refl}
 use mathlib.Core.Bool.{Bool, true, false, _&&_}
 use native.Mathlib.Omega.{arith}
+use Rattle.river.proofs.Orders
 use Rattle.river.specs.Refusal.{Answer, accepted, refused, refuse, need, choose, after}
 
 pub never : {A : Type 0} {a : A} {r : _} {P : Type 0} → _≡_ {A = Answer A} (refused r) (accepted a) → P

@@ -1,0 +1,109 @@
+-- The orders of the checks: a file, a list of cards or a river that breaks two rules is refused by the earlier one.
+-- Computed from the definitions, and named by the laws of reading, writing and the flow check, so that these rows are checked first.
+use mathlib.Core.Path.{_≡_, refl}
+use mathlib.Core.List.{List, [], _∷_, _++_}
+use Prim.Native.Nat.{ℕ}
+use lib.ListN.{take, drop}
+use Rattle.river.specs.declared.card.Card.{Card}
+use Rattle.river.specs.declared.card.Dam.{Dam}
+use Rattle.river.specs.declared.card.Dam.the-variants.{Absent, Aerating}
+use Rattle.river.specs.Refusal.{accepted, refused, refuse, need, choose, after}
+use Rattle.river.specs.Card.{countOk, inRange, outletOk, damInRange}
+use Rattle.river.specs.Optional.{readOptional, readOptionals, optionalsInRange}
+use Rattle.river.specs.Read.{readHeader, readReach, readReaches, readFile, cardAt}
+use Rattle.river.specs.Write.{encode, encodeCard, encodeHeader, checkCard, checkFrom, writeAnswer}
+use Rattle.river.specs.Flow.{fed, flowOf, massOf, feedersAmong, joinedIf, damFits, flowCheck, checksFrom, reachChecks}
+
+-- a reach by the fields that break a rule
+abbrev reach : (outlet temperature volume inflow load : ℕ) → Dam → Card
+reach outlet temperature volume inflow load dam =
+    record {
+      outlet = outlet;
+      temperature = temperature;
+      k1 = 1_000;
+      k2 = 0;
+      volume = volume;
+      inflow = inflow;
+      «inflow_bod» = 0;
+      «inflow_oxygen» = 0;
+      load = load;
+      dam = dam;
+    }
+
+-- a dam in range, and one out of range
+abbrev weir : Dam
+weir = Aerating 500 0
+
+abbrev weir-out : Dam
+weir-out = Aerating 1_001 0
+
+-- the file of one reach, whatever its fields
+abbrev file : Card → List ℕ
+file c = encodeHeader 1 ++ encodeCard c
+
+pub record Reading : Type 0 where
+  -- the header: 1, 2, 3
+  pub cut-header : readFile (88 ∷ 86 ∷ 0 ∷ []) ≡ refused (refuse 1 0)
+  pub wrong-header : readFile (88 ∷ 86 ∷ 0 ∷ 0 ∷ []) ≡ refused (refuse 2 0)
+  -- a reach: 1, 2, 4, 5
+  pub cut-reach : readFile (82 ∷ 86 ∷ 0 ∷ 1 ∷ 88 ∷ 69 ∷ []) ≡ refused (refuse 1 1)
+  pub wrong-reach : readReach 1 1 (88 ∷ 69 ∷ drop 2 (encodeCard (reach 0 36 0 1 0 Absent))) ≡ refused (refuse 2 1)
+  pub range-and-outlet : readFile (file (reach 9 36 0 1 0 Absent)) ≡ refused (refuse 4 1)
+  -- then its dam: 1, 4
+  pub outlet-and-dam : readFile (file (reach 9 20 0 1 0 weir-out)) ≡ refused (refuse 5 1)
+  pub cut-dam : readFile (take 37 (file (reach 0 20 0 1 0 weir-out))) ≡ refused (refuse 1 1)
+  -- 6 comes last
+  pub dam-and-more : readFile (file (reach 0 20 0 1 0 weir-out) ++ (0 ∷ [])) ≡ refused (refuse 4 1)
+
+pub record Writing : Type 0 where
+  -- 3, then 4 and 5 of a reach, then its dam's 4, then 12
+  pub count-and-range : writeAnswer 0 (reach 9 36 0 1 0 Absent ∷ []) 0 ≡ refused (refuse 3 0)
+  pub range-and-outlet : writeAnswer 1 (reach 9 36 0 1 0 Absent ∷ []) 0 ≡ refused (refuse 4 1)
+  pub outlet-and-dam : writeAnswer 1 (reach 9 20 0 1 0 weir-out ∷ []) 0 ≡ refused (refuse 5 1)
+  pub dam-and-room : writeAnswer 1 (reach 0 20 0 1 0 weir-out ∷ []) 0 ≡ refused (refuse 4 1)
+
+pub record Flowing : Type 0 where
+  -- 7, 8, 9, 10, 11, each with the next rule that the same reach can break
+  pub none-and-dam : flowCheck (reach 0 20 0 0 0 weir ∷ []) ≡ refused (refuse 7 1)
+  pub flow-and-dam : flowCheck (reach 0 20 0 100_000_001 0 weir ∷ []) ≡ refused (refuse 8 1)
+  pub dam-and-load : flowCheck (reach 0 20 0 1 1_001 weir ∷ []) ≡ refused (refuse 9 1)
+  pub load-and-rate : flowCheck (reach 0 20 346 1 1_001 Absent ∷ []) ≡ refused (refuse 10 1)
+  pub rate : flowCheck (reach 0 20 346 1 0 Absent ∷ []) ≡ refused (refuse 11 1)
+
+-- THEOREM: whoever breaks two rules of reading gets the earlier one's number
+pub reading-order : Reading
+unfolding readFile readHeader readReaches readReach readOptionals readOptional cardAt countOk inRange outletOk damInRange need after choose
+reading-order =
+    record {
+      cut-header = refl;
+      wrong-header = refl;
+      cut-reach = refl;
+      wrong-reach = refl;
+      range-and-outlet = refl;
+      outlet-and-dam = refl;
+      cut-dam = refl;
+      dam-and-more = refl;
+    }
+
+-- THEOREM: the same for writing
+pub writing-order : Writing
+unfolding writeAnswer checkFrom checkCard encode countOk inRange outletOk damInRange optionalsInRange need after
+writing-order =
+    record {
+      count-and-range = refl;
+      range-and-outlet = refl;
+      outlet-and-dam = refl;
+      dam-and-room = refl;
+    }
+
+-- THEOREM: the same for the flow check
+pub flow-order : Flowing
+unfolding flowCheck checksFrom reachChecks need damFits fed flowOf massOf feedersAmong joinedIf
+flow-order =
+    record {
+      none-and-dam = refl;
+      flow-and-dam = refl;
+      dam-and-load = refl;
+      load-and-rate = refl;
+      rate = refl;
+    }
