@@ -148,9 +148,9 @@ one-river cs ds p q e =
     let c = ap readFile e in
     cc
 
--- THEOREM: a dam of share 0 and generating flow 0 makes another card than no dam
-pub idle-dam : (c d : Card) → c .dam ≡ Absent → d .dam ≡ Aerating 0 0 → c ≡ d → ⊥
-idle-dam c d p q e = let z : _≡_ {A = ℕ} 0 1 = cc (ap (λ (x : Card). x .dam) e) in omega arith
+-- THEOREM: a dam makes another card than no dam, whatever its numbers
+pub dam-or-none : {share generating : ℕ} (c d : Card) → c .dam ≡ Absent → d .dam ≡ Aerating share generating → c ≡ d → ⊥
+dam-or-none c d p q e = let z : _≡_ {A = ℕ} 0 1 = cc (ap (λ (x : Card). x .dam) e) in omega arith
 
 -- the file of lawful cards is made of bytes
 

@@ -9,6 +9,7 @@ use crate::reader::begin;
 use crate::reader::read_cards;
 use crate::refusal::Outcome;
 use crate::refusal::Refusal;
+use crate::refusal::refuse;
 
 // What reading a file yields: the cards if it was accepted, or a refusal and no card.
 pub struct Reading {
@@ -38,10 +39,7 @@ pub fn finish(p: Progress, file: &[u8]) -> Reading
         Outcome::Refused(r) => refused(r),
         Outcome::Accepted => {
             if p.next < file.len() {
-                return refused(Refusal {
-                    number: 6,
-                    reach: 0,
-                });
+                return refused(refuse(6, 0));
             }
             let cards = p.at;
             let n = p.count as usize;

@@ -10,7 +10,7 @@ use crate::card::Card;
 use crate::card::Cards;
 use crate::card::Dam;
 use crate::refusal::Outcome;
-use crate::refusal::Refusal;
+use crate::refusal::refuse;
 use crate::source::bod_source;
 use crate::source::source_mass;
 
@@ -135,13 +135,13 @@ fn flow_rules(dam: Dam, up: Upstream, flow: u64, reach: u8) -> Outcome
     ensures { λ r. ⌜ Decides r (flowRules dam (ltb 0 (up .deepest)) (up .flow) flow reach) ⌝ }
 {
     if flow == 0 {
-        return Outcome::Refused(Refusal { number: 7, reach });
+        return Outcome::Refused(refuse(7, reach));
     }
     if FLOW_LIMIT < flow {
-        return Outcome::Refused(Refusal { number: 8, reach });
+        return Outcome::Refused(refuse(8, reach));
     }
     if !dam_fits(dam, up) {
-        return Outcome::Refused(Refusal { number: 9, reach });
+        return Outcome::Refused(refuse(9, reach));
     }
     Outcome::Accepted
 }
@@ -152,7 +152,7 @@ fn load_rule(flow: u64, mass: u64, reach: u8) -> Outcome
     ensures { λ r. ⌜ Decides r (loadRule flow mass reach) ⌝ }
 {
     if MASS_LIMIT * flow < mass {
-        return Outcome::Refused(Refusal { number: 10, reach });
+        return Outcome::Refused(refuse(10, reach));
     }
     Outcome::Accepted
 }
@@ -163,10 +163,10 @@ fn rate_rules(card: Card, flow: u64, reach: u8) -> Outcome
     ensures { λ r. ⌜ Decides r (rateRules card flow reach) ⌝ }
 {
     if !rate_fits(card.k1, card.volume, flow) {
-        return Outcome::Refused(Refusal { number: 11, reach });
+        return Outcome::Refused(refuse(11, reach));
     }
     if !rate_fits(card.k2, card.volume, flow) {
-        return Outcome::Refused(Refusal { number: 11, reach });
+        return Outcome::Refused(refuse(11, reach));
     }
     Outcome::Accepted
 }

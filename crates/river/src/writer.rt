@@ -12,6 +12,7 @@ use crate::put::put_card;
 use crate::put::put_header;
 use crate::range::count_ok;
 use crate::refusal::Refusal;
+use crate::refusal::refuse;
 use crate::write::Check;
 use crate::write::Written;
 use crate::write::check_card;
@@ -49,10 +50,7 @@ fn start(n: usize) -> Checking
     ensures { λ s. ⌜ s ≡ startChecking n ⌝ }
 {
     if !count_ok(n) {
-        return stopped(Refusal {
-            number: 3,
-            reach: 0,
-        });
+        return stopped(refuse(3, 0));
     }
     Checking {
         check: Check::Passed,
@@ -100,10 +98,7 @@ fn head(s: Checking, out: &mut [u8]) -> Putting
         Check::Passed => {
             if out.len() < length {
                 return Putting {
-                    answer: Written::Refused(Refusal {
-                        number: 12,
-                        reach: 0,
-                    }),
+                    answer: Written::Refused(refuse(12, 0)),
                     due: 0,
                     put: 0,
                     next: 0,

@@ -20,14 +20,18 @@ refused-requires c κs = search needs
 enum-told : tie.Need-enum-told
 enum-told c = search needs
 
+refuse-requires : tie.Need-refuse-requires
+refuse-requires c κs = search needs
+
 refused-requires-2 : tie.Need-refused-requires-2
 refused-requires-2 c κs = search needs
 
 returns : tie.Need-returns
 returns c =
-    let told = c .before .before .before in
+    let long = c .before .before in
+    let told = long .before .before in
     let start = told .before .before .before in
-    rw (too-long (now (start .args .file)) (start .pre .goes) (start .pre .none-due) (told .enum-told .given .1) (c .before .if1 .taken)) (c .refused2 .ensures)
+    rw (too-long (now (start .args .file)) (start .pre .goes) (start .pre .none-due) (told .enum-told .given .1) (long .if1 .taken), ← c .before .refuse .ensures) (c .refused2 .ensures)
 
 cast-n : tie.Need-cast-n
 cast-n c = search needs
@@ -53,4 +57,4 @@ returns-3 c =
     }
 
 pub finish-spec : {M : Type 1} → statement M
-finish-spec = tie.close (tie.spec enum-known-outcome refused-requires enum-told refused-requires-2 returns cast-n returns-2 returns-3)
+finish-spec = tie.close (tie.spec enum-known-outcome refused-requires enum-told refuse-requires refused-requires-2 returns cast-n returns-2 returns-3)

@@ -10,18 +10,27 @@ use Rattle.river.proofs.flow.rate_rules.Tie as tie
 rate-fits-requires : tie.Need-rate-fits-requires
 rate-fits-requires c κs = search needs
 
+refuse-requires : tie.Need-refuse-requires
+refuse-requires c κs = search needs
+
 returns : tie.Need-returns
 unfolding rateRules _then_ need goOn
-returns c = record { answer = λ later. rw (sym (c .before .rate-fits .ensures) ∙ not-true _ (c .if1 .taken)) }
+returns c =
+    let first = c .before in
+    record { answer = λ later. rw (c .refuse .ensures, sym (first .before .rate-fits .ensures) ∙ not-true _ (first .if1 .taken)) }
 
 rate-fits-requires-2 : tie.Need-rate-fits-requires-2
 rate-fits-requires-2 c κs = search needs
 
+refuse-requires-2 : tie.Need-refuse-requires-2
+refuse-requires-2 c κs = search needs
+
 returns-2 : tie.Need-returns-2
 unfolding rateRules _then_ need goOn
 returns-2 c =
-    let first = c .before .before in
-    record { answer = λ later. rw (sym (first .before .rate-fits .ensures) ∙ not-false _ (first .if1 .left), sym (c .before .rate-fits2 .ensures) ∙ not-true _ (c .if2 .taken)) }
+    let second = c .before in
+    let first = second .before .before in
+    record { answer = λ later. rw (c .refuse2 .ensures, sym (first .before .rate-fits .ensures) ∙ not-false _ (first .if1 .left), sym (second .before .rate-fits2 .ensures) ∙ not-true _ (second .if2 .taken)) }
 
 returns-3 : tie.Need-returns-3
 unfolding rateRules _then_ need goOn
@@ -31,4 +40,4 @@ returns-3 c =
 
 pub rate-rules-spec : {M : Type 1} → statement M
 rate-rules-spec =
-    tie.close (tie.spec rate-fits-requires returns rate-fits-requires-2 returns-2 returns-3)
+    tie.close (tie.spec rate-fits-requires refuse-requires returns rate-fits-requires-2 refuse-requires-2 returns-2 returns-3)

@@ -22,13 +22,16 @@ enum-known-check c = search needs
 enum-told : tie.Need-enum-told
 enum-told c = search needs
 
+refuse-requires : tie.Need-refuse-requires
+refuse-requires c κs = search needs
+
 returns : tie.Need-returns
 returns c =
     record {
       none = refl;
-      stops = λ e. not-both (c .before .enum-told .given .1) e;
-      short = λ e l. record { answer = refl; due = refl; buffer = refl };
-      begins = λ e l. absurd (let z : ⊥ = omega (arith, c .if1 .taken) in z);
+      stops = λ e. not-both (c .before .before .enum-told .given .1) e;
+      short = λ e l. record { answer = ap Written.Refused (c .refuse .ensures); due = refl; buffer = refl };
+      begins = λ e l. absurd (let z : ⊥ = omega (arith, c .before .if1 .taken) in z);
     }
 
 cast-put-header : tie.Need-cast-put-header
@@ -66,6 +69,7 @@ head-spec =
     (tie.spec
     enum-known-check
     enum-told
+    refuse-requires
     returns
     cast-put-header
     put-header-requires

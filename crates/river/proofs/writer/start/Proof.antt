@@ -3,7 +3,7 @@
 use mathlib.Core.Path.{sym, ap, _∙_}
 use borrow.Author.Tests.{not-true, not-false}
 use Rattle.river.specs.Refusal.{Answer}
-use Rattle.river.specs.Writer.{startFrom}
+use Rattle.river.specs.Writer.{stoppedAt, startFrom}
 use Rattle.river.proofs.Answers.{need-true, need-false}
 use borrow.Author.Needs.{needs}
 use Rattle.river.proofs.writer.start.Statement.{statement}
@@ -12,14 +12,19 @@ use Rattle.river.proofs.writer.start.Tie as tie
 count-ok-requires : tie.Need-count-ok-requires
 count-ok-requires c κs = search needs
 
+refuse-requires : tie.Need-refuse-requires
+refuse-requires c κs = search needs
+
 stopped-requires : tie.Need-stopped-requires
 stopped-requires c κs = search needs
 
 returns : tie.Need-returns
 returns c =
-    let n = c .before .before .before .args .n in
+    let no = c .before .before in
+    let n = no .before .before .args .n in
     c .stopped .ensures ∙
-    ap (λ (x : Answer Unit). startFrom x n) (sym (need-false _ _ _ _ (sym (c .before .before .count-ok .ensures) ∙ not-true (c .before .before .count-ok .result) (c .before .if1 .taken))))
+    ap stoppedAt (c .before .refuse .ensures) ∙
+    ap (λ (x : Answer Unit). startFrom x n) (sym (need-false _ _ _ _ (sym (no .before .count-ok .ensures) ∙ not-true (no .before .count-ok .result) (no .if1 .taken))))
 
 returns-2 : tie.Need-returns-2
 returns-2 c =
@@ -27,4 +32,4 @@ returns-2 c =
     ap (λ (x : Answer Unit). startFrom x n) (sym (need-true _ _ _ _ (sym (c .before .count-ok .ensures) ∙ not-false (c .before .count-ok .result) (c .if1 .left))))
 
 pub start-spec : {M : Type 1} → statement M
-start-spec = tie.close (tie.spec count-ok-requires stopped-requires returns returns-2)
+start-spec = tie.close (tie.spec count-ok-requires refuse-requires stopped-requires returns returns-2)
