@@ -11,6 +11,7 @@ use lib.ListN.{length, drop}
 use borrow.Author.Tests.{le-leb, leb-true, eqb-true}
 use Rattle.river.specs.Bytes.{AreBytes, twoAt}
 use Rattle.river.specs.Card.{Lawful, LawfulCard, LawfulFrom, RV, optional, optionalOf, sizeOf}
+use Rattle.river.specs.File.{IsFile}
 use Rattle.river.specs.Read.{readHeader, readReaches, readFile}
 use Rattle.river.specs.Refusal.{accepted}
 use Rattle.river.specs.Write.{encode, encodeCard, encodeCards, encodeHeader}
@@ -104,11 +105,6 @@ readHeader-is s n h e =
       few = ok .1;
       bytes = leads-spelled _ s (leb-true _ _ (p .test)) (λ j. sym (m .first) j ∷ sym (m .second) j ∷ twoBytes-twoAt s 2 h j);
     })
-
--- what reading accepts: lawful cards, from their file
-pub record IsFile (s : List ℕ) (cs : List Card) : Type 0 where
-  pub lawful : Lawful cs
-  pub bytes : s ≡ encode cs
 
 -- THEOREM: whatever is read as cards is the file of these cards, and they are lawful
 pub reads-only-lawful : (s : List ℕ) (cs : List Card) → AreBytes s → readFile s ≡ accepted cs → IsFile s cs

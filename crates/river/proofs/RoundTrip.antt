@@ -1,33 +1,30 @@
--- Writing accepts exactly lawful cards; writing what was read gives the same bytes, and reading what was written the same cards.
+-- Writing accepts exactly lawful cards; a file that is read is written back as the same bytes, and cards that are written are read back as the same cards.
 -- Assumes nothing.
 use Prim.Native.Nat.{ℕ, suc, _≤_, _<_}
 use mathlib.Core.Logic.{_↔_}
-use mathlib.Core.Path.{_≡_, refl, ap, sym, subst, _∙_}
+use mathlib.Core.Path.{_≡_, refl, ap, sym, _∙_}
+use mathlib.Core.Bool.{Bool, true, false}
 use mathlib.Core.List.{List, [], _∷_, _++_}
 use native.Mathlib.Omega.{arith}
-use lib.ListN.{length, take, drop, length-take}
+use lib.Dec.{leb}
+use lib.ListN.{length, take, drop}
 use lib.Seq.{take-at}
 use borrow.Author.Tests.{le-leb, leb-true}
-use denote.Ref.{RefT, now}
 use Rattle.river.specs.Bytes.{AreBytes}
 use Rattle.river.specs.Card.{Lawful, LawfulCard, LawfulFrom, river}
 use Rattle.river.specs.Read.{readFile}
-use Rattle.river.specs.Refusal.{accepted}
-use Rattle.river.specs.Write.{encode, checkCard, checkFrom, writeAnswer, bufferWritten, writtenOf, Writes}
+use Rattle.river.specs.Refusal.{Answer, accepted, refused, refuse, need, after, outcomeOf}
+use Rattle.river.specs.Write.{encode, checkCard, checkFrom, writeAnswer, bufferWritten, writtenOf, Writes, HasRoom, LoadsFit}
+use Rattle.river.specs.Rewrite.{rewriteAnswer, bufferRewritten, Rewritable, WritesBack, Within, cardsBack, ReadsBack}
 use Rattle.river.specs.declared.card.Card.{Card}
-use Rattle.river.specs.declared.card.Cards.{Cards}
 use Rattle.river.specs.declared.refusal.Outcome.{Outcome}
+use Rattle.river.specs.declared.refusal.Refusal.{Refusal}
 use Rattle.river.specs.declared.file.Reading.{Reading}
 use Rattle.river.specs.declared.write.Written.{Written}
-use Rattle.river.proofs.Answers.{never, need-true, after-accepted, passed, went}
-use Rattle.river.proofs.Files.{reads-lawful, reads-only-lawful}
+use Rattle.river.proofs.Answers.{never, need-true, after-accepted, after-refused, passed, went}
+use Rattle.river.proofs.Files.{reads-lawful, reads-only-lawful, reads-exactly}
 use Rattle.river.proofs.range.Ranges.{inRange-true, lawful-optionals, lawful-card, countOk-true, true-countOk}
-use Rattle.river.specs.File.{answerOf, Reads}
-
--- each load is a number of four bytes, as the field's type has it
-abbrev pub LoadsFit : List Card → Type 0
-LoadsFit [] = Unit
-LoadsFit (c ∷ cs) = (c .load < 4294967296) × LoadsFit cs
+use Rattle.river.specs.File.{answerOf, Yields, Reads}
 
 checkCard-lawful : (n i : ℕ) (c : Card) → LawfulCard n i c → checkCard n i c ≡ accepted tt
 unfolding checkCard
@@ -57,32 +54,37 @@ checkFrom-is n i (c ∷ cs) l e =
     let p = went _ _ e in
     (checkCard-is n i c (l .0) (p .first), checkFrom-is n (suc i) cs (l .1) (p .then))
 
--- what writing accepts: lawful cards whose file has room
-pub record HasRoom (cs : List Card) (room l : ℕ) : Type 0 where
-  pub lawful : Lawful cs
-  pub size : length (encode cs) ≡ l
-  pub fits : l ≤ room
-
-pub writes-lawful : (cs : List Card) (room : ℕ) → Lawful cs → length (encode cs) ≤ room
-    → writeAnswer (length cs) cs room ≡ accepted (length (encode cs))
+-- writing of lawful cards: 12 where the buffer is shorter than their file
+lawful-answer : (cs : List Card) (room : ℕ) → Lawful cs → writeAnswer (length cs) cs room ≡ need (leb (length (encode cs)) room) 12 0 (accepted (length (encode cs)))
 unfolding writeAnswer
-writes-lawful cs room h l =
+lawful-answer cs room h =
     need-true _ _ _ _ (countOk-true (length cs) (h .some) (h .few)) ∙
-    after-accepted _ _ (checkFrom-lawful (length cs) 1 cs (h .each)) ∙
-    need-true _ _ _ _ (le-leb _ _ l)
+    after-accepted _ _ (checkFrom-lawful (length cs) 1 cs (h .each))
 
-pub writes-only-lawful : (cs : List Card) (room l : ℕ) → LoadsFit cs → writeAnswer (length cs) cs room ≡ accepted l → HasRoom cs room l
+writes-lawful : (cs : List Card) (room : ℕ) → Lawful cs → length (encode cs) ≤ room → writeAnswer (length cs) cs room ≡ accepted (length (encode cs))
+writes-lawful cs room h l = lawful-answer cs room h ∙ need-true _ _ _ _ (le-leb _ _ l)
+
+-- what writing accepts has room
+has-room : (n : ℕ) (cs : List Card) (room l : ℕ) → writeAnswer n cs room ≡ accepted l → (length (encode cs) ≡ l) × (l ≤ room)
+unfolding writeAnswer
+has-room n cs room l e =
+    let p = passed _ _ _ _ e in
+    let q = went _ _ (p .rest) in
+    let r = passed _ _ _ _ (q .then) in
+    let size : length (encode cs) ≡ l = cc (r .rest) in
+    (size, omega (arith, leb-true (length (encode cs)) room (r .test)))
+
+writes-only-lawful : (cs : List Card) (room l : ℕ) → LoadsFit cs → writeAnswer (length cs) cs room ≡ accepted l → HasRoom cs room l
 unfolding writeAnswer
 writes-only-lawful cs room l h e =
     let p = passed _ _ _ _ e in
     let q = went _ _ (p .rest) in
-    let r = passed _ _ _ _ (q .then) in
     let ok = true-countOk (length cs) (p .test) in
-    let size : length (encode cs) ≡ l = cc (r .rest) in
+    let room = has-room (length cs) cs room l e in
     record {
       lawful = record { some = ok .0; few = ok .1; each = checkFrom-is (length cs) 1 cs h (q .first) };
-      size = size;
-      fits = omega (arith, leb-true (length (encode cs)) room (r .test));
+      size = room .0;
+      fits = room .1;
     }
 
 -- THEOREM: writing accepts exactly lawful cards whose file has room, with the file's length
@@ -92,85 +94,110 @@ writes-exactly cs room l h = (
   λ w. writes-lawful cs room (w .lawful) (omega (arith, w .size, w .fits)) ∙ ap accepted (w .size),
 )
 
--- what an accepted write answers and leaves
-pub record Wrote (cs : List Card) (before : List ℕ) (l : ℕ) (w : Written) (left : List ℕ) : Type 0 where
-  pub answer : w ≡ Written.Length l
-  pub buffer : left ≡ encode cs ++ drop l before
+-- an outcome is accepted where its answer is
+accepted-outcome : {A : Type 0} {b : A} (o : Outcome) (a : A) → outcomeOf o a ≡ accepted b → o ≡ Outcome.Accepted
+accepted-outcome Outcome.Accepted a e = refl
+accepted-outcome (Outcome.Refused r) a e = never e
 
-pub wrote : (cs : List Card) (before left : List ℕ) (l : ℕ) (w : Written) → writtenOf w ≡ accepted l
-    → left ≡ bufferWritten (writtenOf w) cs before → Wrote cs before l w left
+-- Rewriting a file.
+
+module _ (file before left : List ℕ) (o : Outcome) (bytes : AreBytes file) (answer : outcomeOf o tt ≡ rewriteAnswer file (length before)) where
+  only-rewritable : o ≡ Outcome.Accepted → Rewritable file (length before)
+  unfolding rewriteAnswer
+  only-rewritable e =
+      let p = went _ _ (sym answer ∙ ap (λ (x : Outcome). outcomeOf x tt) e) in
+      let q = passed _ _ _ _ (p .then) in
+      record { cards = p .value; is-file = reads-only-lawful file (p .value) bytes (p .first); holds = leb-true _ _ (q .test) }
+
+  all-rewritable : Rewritable file (length before) → o ≡ Outcome.Accepted
+  unfolding rewriteAnswer
+  all-rewritable w = accepted-outcome o tt (answer ∙ after-accepted _ _ (reads-exactly file (w .cards) bytes .1 (w .is-file)) ∙ need-true _ _ _ _ (le-leb _ _ (w .holds)))
+
+  writes-back : left ≡ bufferRewritten (rewriteAnswer file (length before)) file before → WritesBack file before o left
+  writes-back buffer = record { answer = answer; exactly = (only-rewritable, all-rewritable); buffer = buffer }
+
+-- the outcome of a writing, its length aside
+abbrev pub endOf : Written → Outcome
+endOf (Written.Length l) = Outcome.Accepted
+endOf (Written.Refused r) = Outcome.Refused r
+
+-- writing the file of lawful cards ends as rewriting it does, and leaves the same buffer
+same-end : (b : Bool) (l : ℕ) (w : Written) → writtenOf w ≡ need b 12 0 (accepted l) → _≡_ {A = Answer Unit} (outcomeOf (endOf w) tt) (need b 12 0 (accepted tt))
+unfolding need
+same-end true l (Written.Length k) e = refl
+same-end true l (Written.Refused r) e = never e
+same-end false l (Written.Length k) e = never (sym e)
+same-end false l (Written.Refused r) e = let same : r ≡ refuse 12 0 = cc in ap refused same
+
+same-buffer : (b : Bool) (file before : List ℕ) (cs : List Card) → file ≡ encode cs → bufferWritten (need b 12 0 (accepted (length file))) cs before ≡ bufferRewritten (need b 12 0 (accepted tt)) file before
+unfolding need bufferWritten bufferRewritten
+same-buffer true file before cs e = ap (λ (x : List ℕ). x ++ drop (length file) before) (sym e)
+same-buffer false file before cs e = refl
+
+module _ {file : List ℕ} {r : Reading} (bytes : AreBytes file) (reads : Reads file r) where
+  -- THEOREM: where reading refuses, rewriting does, and writes nothing
+  pub refused-back : {before : List ℕ} {x : Refusal} → r .outcome ≡ Outcome.Refused x → WritesBack file before (r .outcome) before
+  unfolding rewriteAnswer bufferRewritten
+  refused-back {before} {x} e =
+      let read : readFile file ≡ refused x = sym (reads .answer) ∙ ap (λ (o : Outcome). outcomeOf o (river (r .cards))) e in
+      let same : rewriteAnswer file (length before) ≡ refused x = after-refused _ _ read in
+      writes-back file before before (r .outcome) bytes (ap (λ (o : Outcome). outcomeOf o tt) e ∙ sym same) (sym (ap (λ (a : Answer Unit). bufferRewritten a file before) same))
+
+  -- THEOREM: writing what was read gives the same bytes, or 12 where the buffer is shorter
+  pub written-back : {before left : List ℕ} {w : Written} {o : Outcome} → r .outcome ≡ Outcome.Accepted → Writes (length (river (r .cards))) (river (r .cards)) before w left → endOf w ≡ o → WritesBack file before o left
+  unfolding rewriteAnswer
+  written-back {before} {left} {w} {o} e writes end =
+      let cards = river (r .cards) in
+      let test = leb (length file) (length before) in
+      let read : readFile file ≡ accepted cards = sym (reads .answer) ∙ ap (λ (x : Outcome). outcomeOf x cards) e in
+      let f = reads-only-lawful file cards bytes read in
+      let same : rewriteAnswer file (length before) ≡ need test 12 0 (accepted tt) = after-accepted _ _ read in
+      let written : writtenOf w ≡ need test 12 0 (accepted (length file)) =
+      writes .answer ∙ lawful-answer cards (length before) (f .lawful) ∙ ap (λ (s : List ℕ). need (leb (length s) (length before)) 12 0 (accepted (length s))) (sym (f .bytes)) in
+      writes-back file before left o bytes (ap (λ (x : Outcome). outcomeOf x tt) (sym end) ∙ same-end test (length file) w written ∙ sym same)
+      (writes .buffer ∙
+      ap (λ (a : Answer ℕ). bufferWritten a cards before) written ∙
+      same-buffer test file before cards (f .bytes) ∙
+      ap (λ (a : Answer Unit). bufferRewritten a file before) (sym same))
+
+-- Reading what was written.
+
+-- what was written lies within the buffer
+pub within : (cs : List Card) (before left : List ℕ) (w : Written) → Writes (length cs) cs before w left → length left ≡ length before → Within w (length left)
+within cs before left (Written.Length l) writes e = omega (arith, has-room (length cs) cs (length before) l (sym (writes .answer)) .1)
+within cs before left (Written.Refused r) writes e = tt
+
+-- the answer of a writing and of the reading after it
+came-back : (cs : List Card) (before left : List ℕ) (w : Written) → LoadsFit cs → Writes (length cs) cs before w left → after (writtenOf w) (λ l. readFile (take l left)) ≡ cardsBack cs (length before)
 unfolding bufferWritten
-wrote cs before left l (Written.Length k) e b =
-    let same : k ≡ l = cc in
-    record { answer = ap Written.Length same; buffer = b ∙ rw same }
-wrote cs before left l (Written.Refused r) e b = never e
-
--- THEOREM: writing what was read gives the same bytes
-pub write-what-was-read :
-    (s before left : List ℕ) (r : Reading) (w : Written)
-    → AreBytes s → Reads s r → r .outcome ≡ Outcome.Accepted → length s ≤ length before
-    → Writes (length (river (r .cards))) (river (r .cards)) before w left
-    → (w ≡ Written.Length (length s)) × (left ≡ s ++ drop (length s) before)
-write-what-was-read s before left r w h reads ok room writes =
-    let cs = river (r .cards) in
-    let f = reads-only-lawful s cs h (sym (reads .answer) ∙ rw ok) in
-    let e = writes .answer ∙ writes-lawful cs (length before) (f .lawful) (rw (f .bytes) at room) ∙ ap (λ (x : List ℕ). accepted (length x)) (sym (f .bytes)) in
-    let x = wrote cs before left (length s) w e (writes .buffer) in
-    (x .answer, x .buffer ∙ ap (λ (x : List ℕ). x ++ drop (length s) before) (sym (f .bytes)))
+came-back cs before left (Written.Length l) h writes =
+    let p = writes-only-lawful cs (length before) l h (sym (writes .answer)) in
+    after-accepted _ _ refl ∙
+    ap readFile (ap (take l) (writes .buffer) ∙ take-at (encode cs) (drop l before) l (p .size)) ∙
+    reads-lawful cs (p .lawful) ∙
+    sym (after-accepted _ _ (sym (writes .answer)))
+came-back cs before left (Written.Refused x) h writes = after-refused _ _ refl ∙ sym (after-refused _ _ (sym (writes .answer)))
 
 -- THEOREM: reading what was written gives the same cards
-pub read-what-was-written :
-    (cs : List Card) (before left : List ℕ) (l : ℕ) (r : Reading)
-    → LoadsFit cs → Writes (length cs) cs before (Written.Length l) left → Reads (take l left) r
-    → answerOf r ≡ accepted cs
-read-what-was-written cs before left l r h writes reads =
-    let p = writes-only-lawful cs (length before) l h (sym (writes .answer)) in
-    let x = wrote cs before left l (Written.Length l) refl (writes .buffer) in
-    reads .answer ∙
-    ap readFile (ap (take l) (x .buffer) ∙ take-at (encode cs) (drop l before) l (p .size)) ∙
-    reads-lawful cs (p .lawful)
+pub reads-back :
+    {cs : List Card} {before left : List ℕ} {w : Written} {r : Reading}
+    → LoadsFit cs → Writes (length cs) cs before w left → Yields (after (writtenOf w) (λ l. readFile (take l left))) r → ReadsBack cs before r left
+reads-back {cs} {before} {left} {w} {r} h writes reads =
+    record {
+      answer = answer;
+      exactly = (only, λ p. accepted-outcome (r .outcome) _ (answer ∙ after-accepted _ _ (writes-lawful cs (length before) (p .lawful) (p .fits))));
+      same = λ e. let p = went _ _ (came e) in cc (p .then);
+      buffer = writes .buffer ∙ ap (λ (a : Answer ℕ). bufferWritten a cs before) (writes .answer);
+    }
+  where
+    answer : answerOf r ≡ cardsBack cs (length before)
+    answer = reads .answer ∙ came-back cs before left w h writes
 
--- an array of 128 cards holds as many as a count up to 128 says
-pub count-held : (cs : Cards) → length (cs .at) ≡ 128 → cs .count ≤ 128 → length (river cs) ≡ cs .count
-count-held cs a h = simp length-take (omega arith)
+    came : r .outcome ≡ Outcome.Accepted → cardsBack cs (length before) ≡ accepted (river (r .cards))
+    came e = sym answer ∙ ap (λ (o : Outcome). outcomeOf o (river (r .cards))) e
 
--- THEOREM: the cards that were read, written by value as they came: the same bytes
-pub read-cards-write-back :
-    (s before left : List ℕ) (r : Reading) (w : Written)
-    → AreBytes s → Reads s r → r .outcome ≡ Outcome.Accepted → length (r .cards .at) ≡ 128 → length s ≤ length before
-    → Writes (r .cards .count) (river (r .cards)) before w left
-    → (w ≡ Written.Length (length s)) × (left ≡ s ++ drop (length s) before)
-read-cards-write-back s before left r w h reads ok array room writes =
-    write-what-was-read s before left r w h reads ok room
-    (subst (λ (n : ℕ). Writes n (river (r .cards)) before w left) (sym (count-held (r .cards) array (reads .few))) writes)
-
--- THEOREM: cards written by value, and their file read: the same cards
-pub written-cards-read-back :
-    (cs : Cards) (before left : List ℕ) (l : ℕ) (r : Reading)
-    → length (cs .at) ≡ 128 → LoadsFit (river cs) → Writes (cs .count) (river cs) before (Written.Length l) left → Reads (take l left) r
-    → answerOf r ≡ accepted (river cs)
-unfolding writeAnswer
-written-cards-read-back cs before left l r array h writes reads =
-    let p = passed _ _ _ _ (sym (writes .answer)) in
-    let few : cs .count ≤ 128 = true-countOk (cs .count) (p .test) .1 in
-    read-what-was-written (river cs) before left l r h
-    (subst (λ (n : ℕ). Writes n (river cs) before (Written.Length l) left) (sym (count-held cs array few)) writes) reads
-
--- THEOREM: cards written from a lent slice, and their file read through the reader: the same cards
-pub lent-cards-come-back :
-    (cards : RefT (List Card)) (out file : RefT (List ℕ)) (left : List ℕ) (l : ℕ) (r : Reading)
-    → LoadsFit (now cards) → Writes (length (now cards)) (now cards) (now out) (Written.Length l) left
-    → now file ≡ take l left → Reads (now file) r
-    → answerOf r ≡ accepted (now cards)
-lent-cards-come-back cards out file left l r h writes same reads =
-    read-what-was-written (now cards) (now out) left l r h writes (subst (λ (s : List ℕ). Reads s r) same reads)
-
--- THEOREM: a file read through the reader, and its cards written from a lent slice: the same bytes
-pub read-file-comes-back :
-    (file out : RefT (List ℕ)) (cards : RefT (List Card)) (left : List ℕ) (r : Reading) (w : Written)
-    → AreBytes (now file) → Reads (now file) r → r .outcome ≡ Outcome.Accepted → now cards ≡ river (r .cards)
-    → length (now file) ≤ length (now out) → Writes (length (now cards)) (now cards) (now out) w left
-    → (w ≡ Written.Length (length (now file))) × (left ≡ now file ++ drop (length (now file)) (now out))
-read-file-comes-back file out cards left r w h reads ok same room writes =
-    write-what-was-read (now file) (now out) left r w h reads ok room
-    (subst (λ (cs : List Card). Writes (length cs) cs (now out) w left) same writes)
+    only : r .outcome ≡ Outcome.Accepted → HasRoom cs (length before) (length (encode cs))
+    only e =
+        let p = went _ _ (came e) in
+        let q = writes-only-lawful cs (length before) (p .value) h (p .first) in
+        record { lawful = q .lawful; size = refl; fits = omega (arith, q .size, q .fits) }

@@ -6,9 +6,10 @@ use Rattle.river.specs.declared.card.Card.{Card}
 use Rattle.river.specs.declared.refusal.Refusal.{Refusal}
 use Rattle.river.specs.declared.refusal.Outcome.{Outcome}
 use Rattle.river.specs.declared.file.Reading.{Reading}
-use Rattle.river.specs.Card.{river}
+use Rattle.river.specs.Card.{Lawful, river}
 use Rattle.river.specs.Refusal.{Answer, outcomeOf}
 use Rattle.river.specs.Read.{readFile}
+use Rattle.river.specs.Write.{encode}
 
 abbrev pub answerOf : Reading → Answer (List Card)
 answerOf r = outcomeOf (r .outcome) (river (r .cards))
@@ -22,3 +23,8 @@ pub record Yields (a : Answer (List Card)) (r : Reading) : Type 0 where
 -- the reading of a file
 abbrev pub Reads : List ℕ → Reading → Type 0
 Reads file r = Yields (readFile file) r
+
+-- what reading accepts: lawful cards, from their file
+pub record IsFile (s : List ℕ) (cs : List Card) : Type 0 where
+  pub lawful : Lawful cs
+  pub bytes : s ≡ encode cs

@@ -12,6 +12,7 @@ pub mod Accept
 pub mod File
 pub mod Reader
 pub mod Writer
+pub mod Rewrite
 pub mod Stored
 pub mod FlowTable
 pub mod HeadTable

@@ -1,7 +1,7 @@
 -- Writing: the file of a river, and what writing leaves in a buffer.
 use mathlib.Core.Path.{_≡_}
 use mathlib.Core.List.{List, [], _∷_, _++_}
-use Prim.Native.Nat.{ℕ, suc}
+use Prim.Native.Nat.{ℕ, suc, _≤_, _<_}
 use lib.ListN.{length, drop}
 use lib.Dec.{leb}
 use Rattle.river.specs.declared.card.Card.{Card}
@@ -9,7 +9,7 @@ use Rattle.river.specs.declared.refusal.Refusal.{Refusal}
 use Rattle.river.specs.declared.write.Check.{Check}
 use Rattle.river.specs.declared.write.Written.{Written}
 use Rattle.river.specs.Bytes.{twoBytes, fourBytes, markBytes}
-use Rattle.river.specs.Card.{RV, RE, optional, optionalOf, countOk, inRange, outletOk}
+use Rattle.river.specs.Card.{Lawful, RV, RE, optional, optionalOf, countOk, inRange, outletOk}
 use Rattle.river.specs.Optional.{encodeOptionals, optionalsInRange}
 use Rattle.river.specs.Refusal.{Answer, accepted, refused, refuse, need, after}
 
@@ -81,3 +81,14 @@ writtenOf (Written.Refused r) = refused r
 pub record Writes (n : ℕ) (cs : List Card) (before : List ℕ) (w : Written) (left : List ℕ) : Type 0 where
   pub answer : writtenOf w ≡ writeAnswer n cs (length before)
   pub buffer : left ≡ bufferWritten (writtenOf w) cs before
+
+-- what writing accepts: lawful cards whose file has room
+pub record HasRoom (cs : List Card) (room l : ℕ) : Type 0 where
+  pub lawful : Lawful cs
+  pub size : length (encode cs) ≡ l
+  pub fits : l ≤ room
+
+-- each load is a number of four bytes, as the field's type has it
+abbrev pub LoadsFit : List Card → Type 0
+LoadsFit [] = Unit
+LoadsFit (c ∷ cs) = (c .load < 4294967296) × LoadsFit cs

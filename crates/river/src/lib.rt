@@ -10,6 +10,7 @@ pub mod range;
 pub mod read;
 pub mod reader;
 pub mod refusal;
+pub mod rewrite;
 pub mod source;
 pub mod write;
 pub mod writer;

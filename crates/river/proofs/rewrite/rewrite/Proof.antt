@@ -1,0 +1,70 @@
+-- `river::rewrite::rewrite` meets its contract: the laws of proofs/RoundTrip over what reading and writing yield. That the file's elements are bytes comes from its slice.
+-- Assumes nothing.
+use mathlib.Core.Path.{_≡_, ap}
+use borrow.Author.Needs.{needs}
+use Rattle.river.specs.Bytes.{AreBytes}
+use Rattle.river.specs.Rewrite.{WritesBack}
+use Rattle.river.specs.declared.refusal.Outcome.{Outcome}
+use Rattle.river.proofs.RoundTrip.{endOf, refused-back, written-back}
+use Rattle.river.proofs.rewrite.rewrite.Statement.{statement}
+use Rattle.river.proofs.rewrite.rewrite.Tie as tie
+
+bytes : (c : tie.After-shared-slice-known) → AreBytes (c .before .args .file .now)
+bytes c = record { below = λ k. c .shared-slice-known .given k .fits }
+
+read-file-requires : tie.Need-read-file-requires
+read-file-requires c κs = search needs
+
+enum-told : tie.Need-enum-told
+enum-told c = search needs
+
+enum-told-2 : tie.Need-enum-told-2
+enum-told-2 c = search needs
+
+returns : tie.Need-returns
+returns c =
+    let a = c .before .before in
+    refused-back (bytes (a .before .before)) (a .read-file .ensures) (c .enum-told2 .given .1)
+
+write-first-requires : tie.Need-write-first-requires
+write-first-requires c κs = search needs
+
+enum-told-3 : tie.Need-enum-told-3
+enum-told-3 c = search needs
+
+enum-known-r : tie.Need-enum-known-r
+enum-known-r c = search needs
+
+same-length : tie.Need-same-length
+same-length c = search needs
+
+-- what was read is written
+written : (c : tie.After-write-first) {o : Outcome} → endOf (c .write-first .result) ≡ o → WritesBack (c .before .before .before .before .before .before .before .before .before .args .file .now) (c .before .before .before .before .before .before .before .before .before .args .out .now) o (c .write-first .last .1 .1 .0)
+written c e =
+    let a = c .before .before .before .before .before .before in
+    written-back (bytes (a .before .before)) (a .read-file .ensures) (c .before .before .before .before .enum-told .given .1) (c .write-first .ensures) e
+
+returns-2 : tie.Need-returns-2
+returns-2 c = written (c .before .before .before .before) (ap endOf (c .enum-told3 .given .1))
+
+same-length-2 : tie.Need-same-length-2
+same-length-2 c = search needs
+
+returns-3 : tie.Need-returns-3
+returns-3 c = written (c .before .before .before .before .before) (ap endOf (c .before .r .given .1))
+
+pub rewrite-spec : {M : Type 1} → statement M
+rewrite-spec =
+    tie.close
+    (tie.spec
+    read-file-requires
+    enum-told
+    enum-told-2
+    returns
+    write-first-requires
+    enum-told-3
+    enum-known-r
+    same-length
+    returns-2
+    same-length-2
+    returns-3)

@@ -1,0 +1,53 @@
+-- A file that is read and written back, and cards that are written and read back.
+use mathlib.Core.Path.{_≡_}
+use mathlib.Core.Logic.{_↔_}
+use mathlib.Core.List.{List, _++_}
+use Prim.Native.Nat.{ℕ, _≤_}
+use lib.ListN.{length, drop}
+use lib.Dec.{leb}
+use Rattle.river.specs.declared.card.Card.{Card}
+use Rattle.river.specs.declared.refusal.Outcome.{Outcome}
+use Rattle.river.specs.declared.file.Reading.{Reading}
+use Rattle.river.specs.declared.write.Written.{Written}
+use Rattle.river.specs.Card.{river}
+use Rattle.river.specs.Refusal.{Answer, accepted, refused, need, after, outcomeOf}
+use Rattle.river.specs.Read.{readFile}
+use Rattle.river.specs.File.{answerOf, IsFile}
+use Rattle.river.specs.Write.{encode, writeAnswer, bufferWritten, HasRoom}
+
+-- rewriting refuses as reading, then 12 with reach 0 for a buffer shorter than the file
+unfoldable pub rewriteAnswer : (file : List ℕ) (room : ℕ) → Answer Unit
+rewriteAnswer file room = after (readFile file) (λ _. need (leb (length file) room) 12 0 (accepted tt))
+
+-- the buffer afterwards: the file and then what stood there, and as it was after a refusal
+unfoldable pub bufferRewritten : Answer Unit → (file before : List ℕ) → List ℕ
+bufferRewritten (accepted u) file before = file ++ drop (length file) before
+bufferRewritten (refused r) file before = before
+
+-- the file is that of lawful cards, and a buffer of so many bytes can hold it
+pub record Rewritable (file : List ℕ) (room : ℕ) : Type 0 where
+  pub cards : List Card
+  pub is-file : IsFile file cards
+  pub holds : length file ≤ room
+
+-- a file is read and written back: the outcome, when it is accepted, and the whole buffer
+pub record WritesBack (file before : List ℕ) (o : Outcome) (left : List ℕ) : Type 0 where
+  pub answer : outcomeOf o tt ≡ rewriteAnswer file (length before)
+  pub exactly : (o ≡ Outcome.Accepted) ↔ Rewritable file (length before)
+  pub buffer : left ≡ bufferRewritten (rewriteAnswer file (length before)) file before
+
+-- what a writing has left lies within a buffer of so many bytes
+abbrev pub Within : Written → ℕ → Type 0
+Within (Written.Length l) room = l ≤ room
+Within (Written.Refused r) room = Unit
+
+-- the answer where cards are written and their file is read: the refusal of writing, or the cards themselves
+abbrev pub cardsBack : List Card → ℕ → Answer (List Card)
+cardsBack cs room = after (writeAnswer (length cs) cs room) (λ _. accepted cs)
+
+-- cards are written and their file is read: the reading, when it is accepted, the cards that it has, and the whole buffer
+pub record ReadsBack (cs : List Card) (before : List ℕ) (r : Reading) (left : List ℕ) : Type 0 where
+  pub answer : answerOf r ≡ cardsBack cs (length before)
+  pub exactly : (r .outcome ≡ Outcome.Accepted) ↔ HasRoom cs (length before) (length (encode cs))
+  pub same : r .outcome ≡ Outcome.Accepted → river (r .cards) ≡ cs
+  pub buffer : left ≡ bufferWritten (writeAnswer (length cs) cs (length before)) cs before

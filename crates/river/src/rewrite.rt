@@ -1,0 +1,58 @@
+// A file that is read and written back, and cards that are written and read back.
+ghost use Prim.Native.Nat.{_≤_};
+ghost use lib.ListN.{length, take};
+ghost use Rattle.river.specs.Read.{readFile};
+ghost use Rattle.river.specs.Refusal.{after};
+ghost use Rattle.river.specs.File.{Yields};
+ghost use Rattle.river.specs.Write.{writtenOf, Writes};
+ghost use Rattle.river.specs.Rewrite.{WritesBack, Within, ReadsBack};
+use crate::card::Card;
+use crate::file::Reading;
+use crate::file::read_file;
+use crate::file::refused;
+use crate::refusal::Outcome;
+use crate::write::Written;
+use crate::writer::write;
+
+// The file of the first n cards of an array, which are lent to the writer.
+fn write_first(at: [Card; 128], n: usize, out: &mut [u8]) -> Written
+    requires { ⌜ n ≤ 128 ⌝ }
+    ensures { λ r. ⌜ Writes (length (take n at)) (take n at) (now (out .entry)) r (now (out .exit)) ⌝ }
+{
+    write(&at[..n], out)
+}
+
+// A file is read and written back: the same bytes, or the refusal of reading, or 12 where the buffer is shorter than the file.
+pub fn rewrite(file: &[u8], out: &mut [u8]) -> Outcome
+    ensures { λ r. ⌜ WritesBack (now (file .entry)) (now (out .entry)) r (now (out .exit)) ⌝ }
+{
+    let reading = read_file(file);
+    let outcome = reading.outcome;
+    let Outcome::Accepted = outcome else {
+        return outcome;
+    };
+    let cards = reading.cards;
+    let at = cards.at;
+    match write_first(at, cards.count, out) {
+        Written::Length(_) => Outcome::Accepted,
+        Written::Refused(r) => Outcome::Refused(r),
+    }
+}
+
+// The file that a writing has left at the start of a buffer is read, or the writing's refusal is handed on.
+fn read_written(w: Written, out: &[u8]) -> Reading
+    requires { ⌜ Within w (length (now out)) ⌝ }
+    ensures { λ r. ⌜ Yields (after (writtenOf w) (λ l. readFile (take l (now (out .entry))))) r ⌝ }
+{
+    match w {
+        Written::Length(l) => read_file(&out[..l]),
+        Written::Refused(r) => refused(r),
+    }
+}
+
+// Lent cards are written and their file is read: the same cards, or the refusal of writing.
+pub fn written_back(cards: &[Card], out: &mut [u8]) -> Reading
+    ensures { λ r. ⌜ ReadsBack (now (cards .entry)) (now (out .entry)) r (now (out .exit)) ⌝ }
+{
+    read_written(write(cards, out), out)
+}
