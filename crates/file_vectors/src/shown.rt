@@ -6,6 +6,7 @@ use river::card::blank;
 use river::file::read_file;
 use river::refusal::Outcome;
 use river::refusal::Refusal;
+use river::rewrite::rewrite;
 use river::write::Written;
 use river::write::write_cards;
 
@@ -99,7 +100,17 @@ fn written(river: Cards, out: &mut [u8]) {
     buffer(out);
 }
 
-// What reading a file answers, and writing the cards again.
+// What reading a file and writing it back answers and leaves in a buffer.
+fn rewritten(file: &[u8], out: &mut [u8]) {
+    let outcome = rewrite(file, out);
+    match outcome {
+        Outcome::Accepted => count(b"wrote ", file.len()),
+        Outcome::Refused(r) => refusal(r),
+    }
+    buffer(out);
+}
+
+// What reading a file answers, and writing it back.
 pub fn show(file: &[u8]) {
     let reading = read_file(file);
     let outcome = reading.outcome;
@@ -110,7 +121,7 @@ pub fn show(file: &[u8]) {
             count(b"read ", river.count);
             cards(river);
             let mut out = [7u8; 100];
-            written(river, &mut out);
+            rewritten(file, &mut out);
         }
     }
 }

@@ -1,9 +1,9 @@
 -- The entry's contract follows from its result and the buffer that it leaves: 0 is no refusal's result, and the figures read
 -- back from the bytes are those of the definitions, for which demand 3 holds. Assumes nothing.
 pub mod Numbers
-use mathlib.Core.Path.{_≡_, refl, sym, ap, ap₂, _∙_, subst}
+use mathlib.Core.Path.{_≡_, refl, sym, ap, _∙_, subst}
 use mathlib.Core.List.{List, _++_}
-use Prim.Native.Nat.{ℕ, zero, suc, _-_, _/_, _%_, _≤_, _<_}
+use Prim.Native.Nat.{ℕ, zero, suc, _-_, _≤_, _<_}
 use native.Mathlib.Omega.{arith}
 use borrow.Author.Tests.{lt-ltb, le-ltb, le-leb, lt-leb, leb-true}
 use lib.Dec.{leb→le}
@@ -32,7 +32,7 @@ use Rattle.report.proofs.Bounds.{Range}
 use Rattle.report.proofs.River.{IsRiver, river-of-file, head-in-range, instant-in-range, reach-tied, reach-within-allowance}
 use Rattle.report.proofs.record.Encoding.{Writable, record-length, read-back}
 use Rattle.report.proofs.record.Rows.{Begins, stands}
-use Rattle.report.proofs.Entry.Numbers.{Numbered, report-numbered}
+use Rattle.report.proofs.Entry.Numbers.{Numbered, read-refusal, report-numbered}
 
 -- two's complement holds the oxygen of an accepted river
 complement-back : {b : ℕ} (z : ℤ) → Range b z → fromComplement (complement z) ≡ z
@@ -92,12 +92,6 @@ module _ (file before : List ℕ) where
     figures-read =
         let s = record-stands file before buffer river i l in
         ap readRecord (s .is) ∙ read-back (figuresAt (river .cards) (suc i)) (s .rest) (writable is-river i l)
-
--- the number and the reach of a refusal are read back from its result
-read-refusal : (x : Answer (List Card)) {result : ℕ} → Numbered x → result ≡ resultOf x → (result ≡ 0 → ⊥) → x ≡ refused (refuse (result % 256) (result / 256))
-unfolding resultOf
-read-refusal (accepted cards) n e h = absurd (h e)
-read-refusal (refused r) {result} n e h = ap₂ (λ (k i : ℕ). refused (refuse k i)) (omega arith) (omega arith)
 
 -- a refusal leaves the buffer as it was
 left-alone : (x : Answer (List Card)) (before : List ℕ) → (resultOf x ≡ 0 → ⊥) → bufferReported x before ≡ before

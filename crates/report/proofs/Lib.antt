@@ -10,5 +10,6 @@ pub mod Demand3
 pub mod River
 pub mod Entry
 pub mod Reported
+pub mod Rewrite
 pub mod Bench
 pub mod Refutations

@@ -6,4 +6,5 @@ pub mod Locality
 pub mod Profile
 pub mod Record
 pub mod Report
+pub mod Rewrite
 pub mod Lines

@@ -38,9 +38,9 @@ roomAnswer room cards = need (leb (reportSize cards) room) 12 0 (accepted cards)
 unfoldable pub reportAnswer : (file : List ℕ) (room : ℕ) → Answer (List Card)
 reportAnswer file room = after (acceptFile file) (roomAnswer room)
 
--- the result: 0 for a river that is reported, and number + 256 × reach for a refusal
-unfoldable pub resultOf : Answer (List Card) → ℕ
-resultOf (accepted cards) = 0
+-- the result: 0 where an answer is accepted, and number + 256 × reach for a refusal
+unfoldable pub resultOf : {A : Type 0} → Answer A → ℕ
+resultOf (accepted a) = 0
 resultOf (refused r) = codeOf r
 
 -- the buffer afterwards: the report and then what stood there, and as it was after a refusal

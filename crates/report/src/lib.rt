@@ -6,7 +6,9 @@ pub mod record;
 use river::accept;
 use river::refusal;
 use river::refusal::Outcome;
+use river::rewrite;
 ghost use Rattle.report.specs.Report.{Reports};
+ghost use Rattle.report.specs.Rewrite.{Rewrites};
 
 // The report of a river file: 0, or the number and 256 times the reach of a refusal.
 #[no_mangle]
@@ -27,5 +29,16 @@ pub extern "C" fn xylandreo_report(file: &[u8], report: &mut [u8]) -> u32
             lines::report_all(cards, flows, report);
             0
         }
+    }
+}
+
+// A river file that is read and written back, with no flow check: 0, or the number and 256 times the reach of a refusal.
+#[no_mangle]
+pub extern "C" fn xylandreo_rewrite(file: &[u8], out: &mut [u8]) -> u32
+    ensures { λ r. ⌜ Rewrites (now (file .entry)) (now (out .entry)) (now (out .exit)) r ⌝ }
+{
+    match rewrite::rewrite(file, out) {
+        Outcome::Refused(r) => refusal::code(r),
+        Outcome::Accepted => 0,
     }
 }

@@ -1,19 +1,22 @@
--- Every refusal of reading, of the flow check and of reporting has a number from 1 to 255, so that 0 is no refusal's result, and number and
--- reach are read back from the result.
+-- Every refusal of reading, of the flow check, of reporting and of rewriting has a number from 1 to 255, so that 0 is no refusal's result, and
+-- number and reach are read back from the result.
 -- Assumes nothing.
+use mathlib.Core.Path.{_≡_, ap₂}
 use mathlib.Core.Bool.{Bool, true, false}
 use mathlib.Core.List.{List, [], _∷_}
-use Prim.Native.Nat.{ℕ, zero, suc, _<_}
+use Prim.Native.Nat.{ℕ, zero, suc, _/_, _%_, _<_}
+use native.Mathlib.Omega.{arith}
 use lib.Dec.{lit<}
 use lib.ListN.{length, drop}
 use Rattle.river.specs.declared.card.Card.{Card}
-use Rattle.river.specs.Refusal.{Answer, accepted, refused, need, choose, after}
+use Rattle.river.specs.Refusal.{Answer, accepted, refused, refuse, need, choose, after}
 use Rattle.river.specs.Optional.{Kind, readOptional, readOptionals}
 use Rattle.river.specs.Read.{readHeader, readReach, readReaches, readFile}
 use Rattle.river.specs.Flow.{reachChecks, checksFrom, flowCheck}
-use Rattle.report.specs.Report.{roomAnswer, reportAnswer}
+use Rattle.report.specs.Report.{roomAnswer, reportAnswer, resultOf}
 use Rattle.river.specs.Card.{reachBytes, optional, sizeOf}
 use Rattle.river.specs.Accept.{acceptFile}
+use Rattle.river.specs.Rewrite.{rewriteAnswer}
 
 -- a refusal's number is from 1 to 255
 abbrev pub Numbered : {A : Type 0} → Answer A → Type 0
@@ -35,6 +38,12 @@ module _ {A : Type 0} where
   unfolding after
   next (accepted a) f h k = k a
   next (refused r) f h k = h
+
+  -- the number and the reach of a refusal are read back from its result
+  pub read-refusal : (x : Answer A) {result : ℕ} → Numbered x → result ≡ resultOf x → (result ≡ 0 → ⊥) → x ≡ refused (refuse (result % 256) (result / 256))
+  unfolding resultOf
+  read-refusal (accepted a) n e h = absurd (h e)
+  read-refusal (refused r) {result} n e h = ap₂ (λ (k i : ℕ). refused (refuse k i)) (omega arith) (omega arith)
 
 optionals : (ks : List Kind) (i : ℕ) (s : List ℕ) → Numbered (readOptionals ks i s)
 unfolding readOptionals readOptional
@@ -58,3 +67,7 @@ checks cards i (suc m) = search (needs, lit<, checks cards (suc i) m) depth 12
 pub report-numbered : (file : List ℕ) (room : ℕ) → Numbered (reportAnswer file room)
 unfolding reportAnswer roomAnswer acceptFile readFile readHeader flowCheck
 report-numbered file room = search (needs, next, reaches, checks, lit<) depth 12
+
+pub rewrite-numbered : (file : List ℕ) (room : ℕ) → Numbered (rewriteAnswer file room)
+unfolding rewriteAnswer readFile readHeader
+rewrite-numbered file room = search (needs, next, reaches, lit<) depth 12
