@@ -1,6 +1,8 @@
 /*
- * River oxygen reports for C. Link with target/staticlib/libreport.a, which `rt staticlib report`
- * makes; examples/display.sh shows the commands.
+ * River oxygen reports for C. Link with target/staticlib/libreport.a, which `scripts/build archive`
+ * makes; display/ has two programs over it, and display/check.sh shows the commands.
+ *
+ * The records and their fields are one table below, xylandreo_kinds; sizes are named once, above it.
  */
 #ifndef XYLANDREO_H
 #define XYLANDREO_H
@@ -13,23 +15,42 @@ extern "C" {
 #endif
 
 #define XYLANDREO_MAX_REACHES 128
-#define XYLANDREO_MAX_FILE 4356 /* bytes of the longest river file: 4 + 128 * (26 + 8) */
-#define XYLANDREO_RECORD 29     /* bytes of one record of a report */
+
+/* Bytes of each record: of a river file, and last of a report. */
+#define XYLANDREO_RV_BYTES 4
+#define XYLANDREO_RE_BYTES 26
+#define XYLANDREO_DM_BYTES 8
+#define XYLANDREO_RECORD 29
+
+/* Bytes of the longest river file, in which every reach has every record, and of the longest report. */
+#define XYLANDREO_MAX_FILE \
+    (XYLANDREO_RV_BYTES + XYLANDREO_MAX_REACHES * (XYLANDREO_RE_BYTES + XYLANDREO_DM_BYTES))
 #define XYLANDREO_MAX_REPORT (XYLANDREO_MAX_REACHES * XYLANDREO_RECORD)
 
 /*
  * Reads the river file file[0 .. file_len), checks its flows and writes one record for each of its
  * n reaches, in the order of the file, to the start of report[0 .. report_len).
  *
- * The result is 0 exactly for an accepted river whose report the buffer can hold (29 * n bytes).
- * Otherwise it is number + 256 * reach, with the number of the refusal (xylandreo_reason below)
+ * The result is 0 exactly for an accepted river whose report the buffer can hold, XYLANDREO_RECORD * n
+ * bytes. Otherwise it is number + 256 * reach, with the number of the refusal (xylandreo_reason below)
  * and the reach, counted from 1, where it was met; reach is 0 for the header and for 6 and 12.
  *
- * A refused call writes nothing. Bytes past 29 * n keep their contents. Every call ends. Nothing is
+ * A refused call writes nothing. Bytes past the report keep their contents. Every call ends. Nothing is
  * kept between calls, so calls on different buffers may run at the same time.
  * Neither pointer may be null, even for a length of 0, and the buffers may not overlap.
  */
 uint32_t xylandreo_report(const uint8_t *file, size_t file_len, uint8_t *report, size_t report_len);
+
+/*
+ * Reads the river file file[0 .. file_len) and writes the river that it read to the start of
+ * out[0 .. out_len): by proof the same bytes, since a river has one file.
+ *
+ * The result is number + 256 * reach where reading refuses, 12 where the buffer is shorter than the file,
+ * and 0 otherwise. The flow check plays no part: a river whose flows are refused is written all the same.
+ * A refused call writes nothing, bytes past the file keep their contents, and pointers and buffers are as
+ * for xylandreo_report.
+ */
+uint32_t xylandreo_rewrite(const uint8_t *file, size_t file_len, uint8_t *out, size_t out_len);
 
 #ifdef __cplusplus
 }
@@ -47,7 +68,11 @@ static inline uint32_t xylandreo_reach(uint32_t result)
     return result / 256;
 }
 
-/* What a number means. */
+/*
+ * What a number means; 1 to 6 are refusals of reading. 10 tests the undecayed BOD, all that has entered the
+ * reach and those above it as if nothing had decayed, so a river can be refused with 10 though BOD at
+ * the head would be far lower. The script `run` takes its reasons from these lines.
+ */
 static inline const char *xylandreo_reason(uint32_t number)
 {
     static const char *const reasons[] = {
@@ -61,15 +86,130 @@ static inline const char *xylandreo_reason(uint32_t number)
         "the reach has no flow",
         "the flow is above 100,000,000 L/s",
         "a dam without feeders, or one that generates with more than the flow from above",
-        "the BOD is above 1,000 mg/L",
+        "all BOD that has entered down to here, as if none had decayed, is above 1,000 mg/L of the flow",
         "the reach is too long for its rates and must be split",
-        "the report buffer is too short",
+        "the buffer is too short",
     };
     return number < sizeof reasons / sizeof *reasons ? reasons[number] : "unknown";
 }
 
+/* A field of a record of a river file: a whole number, high byte first, unsigned. */
+struct xylandreo_field {
+    const char *name;
+    uint8_t at;    /* bytes before it in its record, the two of the mark included */
+    uint8_t bytes; /* its width */
+    uint64_t lowest, highest;
+    const char *unit;
+};
+
+#define XYLANDREO_MAX_FIELDS 9
+
+/* A kind of record. Its fields end at the first without a name. */
+struct xylandreo_kind {
+    const char *mark;
+    uint8_t bytes;
+    uint8_t of_reach; /* 0 for a record of the header, 1 for one of a reach */
+    struct xylandreo_field fields[XYLANDREO_MAX_FIELDS + 1];
+};
+
 /*
- * One record of a report, 29 bytes, whole numbers high byte first:
+ * The records in the order of the file. RV is due once and RE once for each reach; any other may stand
+ * after those of its header or reach that are above it here, at most once.
+ * The lawful outlets depend on the reach, so a wrong one is refused with 5 and its range here is its width.
+ * The count of reaches is refused with 3; any other field out of range with 4.
+ */
+static const struct xylandreo_kind xylandreo_kinds[] = {
+    {"RV", XYLANDREO_RV_BYTES, 0, {
+        {"count", 2, 2, 1, XYLANDREO_MAX_REACHES, "reaches"},
+    }},
+    {"RE", XYLANDREO_RE_BYTES, 1, {
+        {"outlet", 2, 1, 0, 255, "the number of a reach"},
+        {"temperature", 3, 1, 0, 35, "degrees C"},
+        {"k1", 4, 2, 0, 20000, "thousandths per day"},
+        {"k2", 6, 2, 0, 20000, "thousandths per day"},
+        {"volume", 8, 4, 0, 1000000000, "m3"},
+        {"inflow", 12, 4, 0, 100000000, "L/s"},
+        {"inflow BOD", 16, 4, 0, 1000000, "thousandths of mg/L"},
+        {"inflow oxygen", 20, 2, 0, 20000, "thousandths of mg/L"},
+        {"load", 22, 4, 0, 4294967295u, "mg/s"},
+    }},
+    {"DM", XYLANDREO_DM_BYTES, 1, {
+        {"aeration share", 2, 2, 0, 1000, "thousandths"},
+        {"generating flow", 4, 4, 0, 100000000, "L/s"},
+    }},
+};
+
+/* The number that stands in a field of a record. */
+static inline uint64_t xylandreo_value(const uint8_t *record, const struct xylandreo_field *field)
+{
+    uint64_t value = 0;
+    for (size_t i = 0; i < field->bytes; i++)
+        value = value << 8 | record[field->at + i];
+    return value;
+}
+
+/* Which field a refusal with 4 is about, and the number that stands there. The field is null where there is none. */
+struct xylandreo_fault {
+    const struct xylandreo_field *field;
+    uint64_t value;
+};
+
+/* The first field of a record that is out of its range. */
+static inline struct xylandreo_fault xylandreo_fault_in(const uint8_t *record, const struct xylandreo_kind *kind)
+{
+    struct xylandreo_fault fault = {NULL, 0};
+    for (size_t i = 0; kind->fields[i].name; i++) {
+        uint64_t value = xylandreo_value(record, &kind->fields[i]);
+        if (value < kind->fields[i].lowest || value > kind->fields[i].highest) {
+            fault.field = &kind->fields[i];
+            fault.value = value;
+            break;
+        }
+    }
+    return fault;
+}
+
+/*
+ * Goes over the records that begin at file[at] and belong to the header (of_reach 0) or to one reach
+ * (of_reach 1). Returns where they end, and leaves in *fault the first field out of range among them.
+ */
+static inline size_t xylandreo_pass(const uint8_t *file, size_t file_len, size_t at, int of_reach,
+                                    struct xylandreo_fault *fault)
+{
+    fault->field = NULL;
+    for (size_t i = 0; i < sizeof xylandreo_kinds / sizeof *xylandreo_kinds; i++) {
+        const struct xylandreo_kind *kind = &xylandreo_kinds[i];
+        if (kind->of_reach != of_reach || file_len - at < kind->bytes)
+            continue;
+        if (file[at] != (uint8_t)kind->mark[0] || file[at + 1] != (uint8_t)kind->mark[1])
+            continue;
+        if (!fault->field)
+            *fault = xylandreo_fault_in(file + at, kind);
+        at += kind->bytes;
+    }
+    return at;
+}
+
+/* The field that a result with number 4 is about: the first out of range among the records of its reach. */
+static inline struct xylandreo_fault xylandreo_fault_of(const uint8_t *file, size_t file_len, uint32_t result)
+{
+    struct xylandreo_fault fault;
+    size_t at = xylandreo_pass(file, file_len, 0, 0, &fault);
+    for (uint32_t reach = 1; reach <= xylandreo_reach(result); reach++)
+        at = xylandreo_pass(file, file_len, at, 1, &fault);
+    if (xylandreo_number(result) != 4)
+        fault.field = NULL;
+    return fault;
+}
+
+/* The count of reaches of an accepted river file. */
+static inline uint32_t xylandreo_reaches(const uint8_t *file)
+{
+    return (uint32_t)file[2] << 8 | file[3];
+}
+
+/*
+ * One record of a report, XYLANDREO_RECORD bytes, whole numbers high byte first:
  *
  *   at  bytes
  *    0    2   mark, "RP"
@@ -94,6 +234,9 @@ struct xylandreo_record {
     int32_t critical_oxygen;
     int32_t foot_oxygen;
 };
+
+#define XYLANDREO_UNITS 1000000 /* of one mg/L */
+#define XYLANDREO_INSTANTS 1024 /* of the travel time of a reach */
 
 /* Four bytes, high byte first, unsigned. */
 static inline uint32_t xylandreo_unsigned(const uint8_t *p)
@@ -122,12 +265,6 @@ static inline struct xylandreo_record xylandreo_record_of(const uint8_t *report,
     record.critical_oxygen = xylandreo_signed(p + 21);
     record.foot_oxygen = xylandreo_signed(p + 25);
     return record;
-}
-
-/* The count of reaches of an accepted river file. */
-static inline uint32_t xylandreo_reaches(const uint8_t *file)
-{
-    return (uint32_t)file[2] << 8 | file[3];
 }
 
 #endif
