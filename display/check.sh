@@ -1,53 +1,130 @@
 #!/usr/bin/env bash
-# Builds the C display against the proved entry's archive and runs it on the example rivers: the tables,
-# then the checks of the entry's promises, then a comparison with what the printing program prints, also for
-# rivers that are refused. It needs the toolchain and a C compiler (CC, or else cc).
-set -eu
-cd "$(dirname "${BASH_SOURCE[0]}")"
+# Checks the desk's programs from outside, on the example rivers and on files that no text gives:
+#   the promises of the reporting entry about its buffer; the display's lines against the printing program;
+#   the display's tables against its lines; the collection's verdicts; exit statuses.
+# It builds what is missing and needs a C compiler (CC, or else cc). The exit status is 0 where all is right, 1 where
+# something is wrong, 2 where it cannot check.
+set -u
+unset CDPATH
+cd "$(dirname "${BASH_SOURCE[0]}")/../examples" || exit 2
 
-cc=${CC:-cc}
-command -v "$cc" >/dev/null || { echo "display.sh: no C compiler: $cc" >&2; exit 2; }
-archive=$(../scripts/build archive)
-program=$(../scripts/build print)
-scratch=$(mktemp -d)
+display=$(../scripts/build display) || exit 2
+collection=$(../scripts/build collection) || exit 2
+print=$(../scripts/build print) || exit 2
+scratch=$(mktemp -d) || exit 2
 trap 'rm -rf "$scratch"' EXIT
-display=$scratch/display
-"$cc" -std=c11 -O2 -Wall -Wextra -I../include display.c "$archive" -o "$display"
+passed=0
 
-for river in *.river; do
-    "$display" "$river"
-    echo
-done
-for river in *.river refused/*.river; do
-    "$display" --check "$river"
-done
+wrong() {
+    echo "check.sh: $1" >&2
+    exit 1
+}
+
+# Runs a command that is to end with a status, and keeps what it says: expect STATUS COMMAND...
+expect() {
+    "${@:2}" > "$scratch/said" 2> "$scratch/complaint"
+    local status=$?
+    if [ "$status" != "$1" ]; then
+        cat "$scratch/complaint" >&2
+        wrong "'${*:2}' ended with status $status where $1 is due"
+    fi
+    passed=$((passed + 1))
+}
+
+# What the last command said must have a line like this: says PATTERN
+says() {
+    grep -q -- "$1" "$scratch/said" || { cat "$scratch/said" >&2; wrong "there is no line like '$1'"; }
+    passed=$((passed + 1))
+}
 
 # Files that no text gives: cut short, with a wrong mark, with a byte too many, too long.
-head -c 3 town.river > "$scratch/header-cut.river"
-head -c 100 town.river > "$scratch/reach-cut.river"
-head -c -1 town.river > "$scratch/dam-cut.river"
-{ printf 'XV'; tail -c +3 town.river; } > "$scratch/header-mark.river"
-{ head -c 30 town.river; printf 'RX'; tail -c +33 town.river; } > "$scratch/reach-mark.river"
-{ cat town.river; printf '.'; } > "$scratch/byte-more.river"
-{ cat chain.river; head -c 4096 /dev/zero; } > "$scratch/long.river"
-: > "$scratch/empty.river"
+make_odd_files() {
+    head -c 3 town.river > "$1/header-cut.river"
+    head -c 100 town.river > "$1/reach-cut.river"
+    head -c -1 town.river > "$1/dam-cut.river"
+    { printf 'XV'; tail -c +3 town.river; } > "$1/header-mark.river"
+    { head -c 30 town.river; printf 'RX'; tail -c +33 town.river; } > "$1/reach-mark.river"
+    { cat town.river; echo; } > "$1/line-end-more.river"
+    { cat chain.river; head -c 5000000 /dev/zero; } > "$1/long.river"
+    cp town.txt "$1/text.river"
+    : > "$1/empty.river"
+}
 
-# The display's lines are the program's, and a refused example has the number that its name begins with.
-agreed=0
-for river in *.river refused/*.river "$scratch"/*.river; do
-    "$display" --lines "$river" > "$scratch/ours" || true
-    "$program" < "$river" > "$scratch/printed"
-    if ! cmp -s "$scratch/ours" "$scratch/printed"; then
-        echo "display.sh: $river: the display and the program differ:" >&2
-        diff "$scratch/ours" "$scratch/printed" >&2 || true
-        exit 1
-    fi
-    case "$river" in
-        refused/*)
-            number=${river#refused/}
-            number=${number%%-*}
-            grep -q "^refused $number reach " "$scratch/printed" || { echo "display.sh: $river: not refused with $number" >&2; exit 1; } ;;
-    esac
-    agreed=$((agreed + 1))
+# The lines are the printing program's, and the status tells a refusal.
+check_lines() {
+    "$print" < "$1" > "$scratch/printed"
+    local status=0
+    ! grep -q '^refused' "$scratch/printed" || status=1
+    expect "$status" "$display" --lines "$1"
+    cmp -s "$scratch/said" "$scratch/printed" || wrong "$1: the display and the printing program differ"
+}
+
+# The rows that a table should have, worked out from the lines: mg/L with three decimals, rounded down, and a mark where
+# the units are below those of the limit.
+rows_from_lines() {
+    awk -v limit="$1" '
+        function mg(units,   size) {
+            size = units < 0 ? int((-units + 999) / 1000) : int(units / 1000)
+            return sprintf("%s%d.%03d", units < 0 ? "-" : "", int(size / 1000), size % 1000)
+        }
+        function oxygen(units) { return mg(units) (units < limit ? "*" : "") }
+        { flow[NR] = $3; if ($3 >= 10000) cubic = 1
+          before[NR] = $1 " " $2
+          after[NR] = mg($4) " " mg($5) " " oxygen($6) " " oxygen($8) " " oxygen($9) " " \
+                      sprintf("%.1f", int($7 * 1000 / 1024 + 0.5) / 10) }
+        END { for (i = 1; i <= NR; i++) print before[i], cubic ? sprintf("%.3f", flow[i] / 1000) : flow[i], after[i] }'
+}
+
+# Holds a table to the lines: check_table FILE LIMIT UNITS
+check_table() {
+    "$display" --lines "$1" | rows_from_lines "$3" > "$scratch/due"
+    expect 0 "$display" --limit "$2" "$1"
+    sed -n 's/  */ /g; s/^ \([0-9]\)/\1/p' "$scratch/said" > "$scratch/rows"
+    diff "$scratch/rows" "$scratch/due" >&2 || wrong "$1: the table does not have the figures of the lines"
+}
+
+mkdir "$scratch/odd" && make_odd_files "$scratch/odd" || exit 2
+for river in *.river refused/*.river "$scratch"/odd/*.river; do
+    expect 0 "$display" --check "$river"
+    check_lines "$river"
 done
-echo "display and program agree on $agreed files"
+for river in refused/*.river; do
+    number=${river#refused/}
+    expect 1 "$display" "$river"
+    says ": refused ${number%%-*} reach "
+done
+for river in *.river; do
+    check_table "$river" 5.0 5000000
+    check_table "$river" 8.4 8400000
+done
+
+# The limit counts in units: 6.5 mg/L is not below 6.5, and is below 6.500001.
+expect 0 "$display" --limit 6.5 two.river
+says '; 0 of 2 reaches below 6.5 mg/L$'
+expect 0 "$display" --limit 6.500001 two.river
+says ' 6.500\* .*0.0$'
+says '; 1 of 2 reaches below 6.500001 mg/L, marked \*$'
+for limit in "" 5, 5. .5 -1 5e0 1234 5.1234567 " 5"; do
+    expect 2 "$display" --limit "$limit" two.river
+done
+expect 2 "$display"
+expect 2 "$display" --limit 5.0
+expect 2 "$display" --check
+expect 2 "$display" missing.river
+expect 2 "$display" refused
+expect 1 "$display" two.river refused/4-too-warm.river town.river
+says 'reach 2: a field is out of range: temperature is 36, not from 0 to 35 degrees C'
+
+expect 0 "$collection" .
+expect 1 "$collection" refused
+expect 1 "$collection" "$scratch/odd"
+says '^9 rivers: 0 accepted, 9 refused; rewritten: 0 the same, 0 differ; reports beside them: 0 the same, 0 differ$'
+mkdir "$scratch/changed" "$scratch/none"
+cp two.river two.report "$scratch/changed"
+echo >> "$scratch/changed/two.report"
+expect 1 "$collection" "$scratch/changed"
+says '^two.river  accepted  *same  *6.500  *2  DIFFERS$'
+expect 2 "$collection" "$scratch/none"
+expect 2 "$collection" two.river
+expect 2 "$collection"
+echo "display/check.sh: $passed checks passed"

@@ -1,191 +1,223 @@
 /*
- * The desk's display: shows the report of a river file as a table with units.
+ * The desk's display: shows the reports of river files as tables with units. Of the archive it calls
+ * reporting and nothing deeper.
  *
- *   display FILE             the table
- *   display --lines FILE     the lines that the printing program prints
- *   display --check FILE     calls the entry on this file and on thousands made from it, and checks
- *                            from outside what the entry promises about its buffer
+ *   display [--limit 5.0] FILE...   a table and a summary line for each; marks oxygen below the limit, in mg/L
+ *   display --lines FILE            the lines that the printing program prints
+ *   display --check FILE            calls the entry on this file and on thousands made from it, and checks
+ *                                   from outside what the entry promises about its buffer
  *
- * The exit status is 0 for an accepted river, 1 for a refused one or a failed check, 2 for bad use.
+ * Tables and lines: the exit status is 0 where all rivers are accepted, 1 where one is refused, 2 for bad use.
+ * Check: 0 where all promises held, whether or not the river is accepted, 1 where one broke, 2 for bad use.
  */
-#include <stdio.h>
-#include <stdlib.h>
+#include <inttypes.h>
 #include <string.h>
 
-#include "xylandreo.h"
+#include "desk.h"
+#include "promises.h"
 
-#define PATTERN 0xa5
-#define GUARD 64 /* bytes before and after the lent buffer that must stay as they are */
-
-struct river {
-    uint8_t bytes[XYLANDREO_MAX_FILE + 2]; /* one byte past the longest file, and one for a check to append */
-    size_t length;
+/* The desk's limit for oxygen, as it was given and in units. The text is null where none was given. */
+struct limit {
+    const char *text;
+    int64_t units;
 };
 
-/* A longer file is cut one byte past the longest lawful length, which keeps its refusal. */
-static struct river load(const char *path)
+static int is_digit(char c)
 {
-    struct river river;
-    FILE *file = fopen(path, "rb");
-    if (!file) {
-        perror(path);
-        exit(2);
-    }
-    river.length = fread(river.bytes, 1, XYLANDREO_MAX_FILE + 1, file);
-    if (ferror(file)) {
-        perror(path);
-        exit(2);
-    }
-    fclose(file);
-    return river;
+    return c >= '0' && c <= '9';
 }
 
-/* Units of 0.000001 mg/L as mg/L with six decimals. */
-static void show_concentration(int64_t units)
+/* Takes a limit in mg/L: one to three digits, perhaps a point and one to six more. Returns 0 for anything else. */
+static int take_limit(const char *text, struct limit *limit)
 {
-    char text[24];
-    int64_t size = units < 0 ? -units : units;
-    snprintf(text, sizeof text, "%s%lld.%06lld", units < 0 ? "-" : "", (long long)(size / 1000000), (long long)(size % 1000000));
-    printf("%13s", text);
+    const char *at = text;
+    int whole = 0, places = 0;
+    limit->text = text;
+    limit->units = 0;
+    for (; is_digit(*at) && whole < 3; at++, whole++)
+        limit->units = limit->units * 10 + (*at - '0');
+    if (*at == '.' && is_digit(at[1]))
+        for (at++; is_digit(*at) && places < 6; at++, places++)
+            limit->units = limit->units * 10 + (*at - '0');
+    for (; places < 6; places++)
+        limit->units *= 10;
+    return whole > 0 && *at == 0;
 }
 
-static void show_table(const char *path, uint32_t reaches, const uint8_t *report)
+/* By the reported units; the figure shown is rounded. */
+static int is_below(int32_t oxygen, const struct limit *limit)
 {
-    printf("%s: %u %s\n\n", path, reaches, reaches == 1 ? "reach" : "reaches");
-    printf("%48s%39s\n", "BOD, mg/L", "oxygen, mg/L");
-    printf("reach depth  flow, L/s         head         foot         head         foot       lowest  at, of travel time\n");
-    for (uint32_t i = 1; i <= reaches; i++) {
-        struct xylandreo_record r = xylandreo_record_of(report, i);
-        printf("%5u %5u %10u", i, r.depth, r.flow);
-        show_concentration(r.head_bod);
-        show_concentration(r.foot_bod);
-        show_concentration(r.head_oxygen);
-        show_concentration(r.foot_oxygen);
-        show_concentration(r.critical_oxygen);
-        printf("  %5.1f %%\n", r.critical_instant * 100.0 / 1024.0);
-    }
+    return limit->text && oxygen < limit->units;
 }
 
-static void show_lines(uint32_t reaches, const uint8_t *report)
+/* Where a flow has five digits or more in L/s, m3/s read better. */
+static int in_cubic_metres(const struct report *report)
 {
-    for (uint32_t i = 1; i <= reaches; i++) {
-        struct xylandreo_record r = xylandreo_record_of(report, i);
-        printf("%u %u %u %u %u %d %u %d %d\n", i, r.depth, r.flow, r.head_bod, r.foot_bod, r.head_oxygen,
-               r.critical_instant, r.critical_oxygen, r.foot_oxygen);
-    }
+    for (uint32_t i = 1; i <= report->reaches; i++)
+        if (xylandreo_record_of(report->bytes, i).flow >= 10000)
+            return 1;
+    return 0;
 }
 
-static unsigned long calls, refusals;
-
-/* A promise of the entry; the first broken one ends the program. */
-static void expect(int holds, const char *promise, uint32_t result)
+static void show_headings(int cubic)
 {
-    if (!holds) {
-        fprintf(stderr, "display: broken promise after %lu calls: %s (result: number %u reach %u)\n", calls, promise,
-                xylandreo_number(result), xylandreo_reach(result));
-        exit(1);
-    }
+    printf("%39s%22s%19s\n", "BOD, mg/L", "oxygen, mg/L", "lowest at,");
+    printf("reach depth %10s %8s %8s %8s  %8s  %8s  %9s\n", cubic ? "flow, m3/s" : "flow, L/s", "head", "foot",
+           "head", "lowest", "foot", "% of time");
 }
 
-static int is_pattern(const uint8_t *bytes, size_t length)
+/* Three decimals of m3/s are the litres, so neither unit rounds anything. */
+static void show_flow(uint32_t flow, int cubic)
 {
-    for (size_t i = 0; i < length; i++)
-        if (bytes[i] != PATTERN)
-            return 0;
-    return 1;
+    if (cubic)
+        printf(" %6" PRIu32 ".%03" PRIu32, flow / 1000, flow % 1000);
+    else
+        printf(" %10" PRIu32, flow);
 }
 
-/* Calls the entry with a buffer of the given length, full of the pattern, and checks which bytes it wrote. */
-static uint32_t checked_call(const struct river *river, size_t report_len)
+static void show_oxygen(int32_t oxygen, const struct limit *limit)
 {
-    static uint8_t memory[GUARD + XYLANDREO_MAX_REPORT + GUARD];
-    uint8_t *report = memory + GUARD;
-    memset(memory, PATTERN, sizeof memory);
-    uint32_t result = xylandreo_report(river->bytes, river->length, report, report_len);
-    size_t written = 0;
-    calls++;
-    if (result == 0) {
-        uint32_t reaches = xylandreo_reaches(river->bytes);
-        written = (size_t)reaches * XYLANDREO_RECORD;
-        expect(written <= report_len, "a buffer under 29 * n bytes is refused", result);
-        for (uint32_t i = 0; i < reaches; i++)
-            expect(memcmp(report + i * XYLANDREO_RECORD, "RP", 2) == 0, "each record begins with its mark", result);
-    } else {
-        refusals++;
-        expect(xylandreo_number(result) >= 1 && xylandreo_number(result) <= 12, "a refusal has a number from 1 to 12", result);
-        expect(xylandreo_reach(result) <= XYLANDREO_MAX_REACHES, "a refusal names a reach of the file", result);
-        expect(is_pattern(report, report_len), "a refused call leaves the buffer untouched", result);
-    }
-    expect(is_pattern(memory, GUARD), "bytes before the buffer are untouched", result);
-    expect(is_pattern(report + written, sizeof memory - GUARD - written), "bytes past 29 * n keep their contents", result);
-    return result;
+    printf(" %8s%c", milligrams(oxygen).chars, is_below(oxygen, limit) ? '*' : ' ');
 }
 
-/* The file itself, with buffers of different lengths. */
-static uint32_t check_file(const struct river *river)
+/* Tenths of a per cent, to the nearest: 0.0 is the head and 100.0 the foot, and no other instant. */
+static void show_share(uint16_t instant)
 {
-    uint32_t result = checked_call(river, XYLANDREO_MAX_REPORT);
-    if (result != 0) {
-        expect(checked_call(river, 0) == result, "a refused river is refused alike whatever the buffer", result);
-        return result;
-    }
-    size_t needed = (size_t)xylandreo_reaches(river->bytes) * XYLANDREO_RECORD;
-    expect(checked_call(river, needed) == 0, "a buffer of 29 * n bytes is long enough", result);
-    expect(checked_call(river, needed - 1) == 12, "a buffer one byte too short gets 12 with reach 0", result);
-    expect(checked_call(river, 0) == 12, "an empty buffer gets 12 with reach 0", result);
-    struct river longer = *river;
-    longer.bytes[longer.length++] = 0;
-    expect(checked_call(&longer, XYLANDREO_MAX_REPORT) == 6, "a byte after the last record gets 6 with reach 0", result);
-    return result;
+    unsigned tenths = (instant * 1000u + XYLANDREO_INSTANTS / 2) / XYLANDREO_INSTANTS;
+    printf(" %7u.%u\n", tenths / 10, tenths % 10);
 }
 
-/* Files cut short at every length, and files with one byte changed. */
-static void check_damaged(const struct river *river)
+static void show_row(uint32_t reach, struct xylandreo_record r, int cubic, const struct limit *limit)
 {
-    for (size_t length = 0; length < river->length; length++) {
-        struct river cut = *river;
-        cut.length = length;
-        checked_call(&cut, XYLANDREO_MAX_REPORT);
+    printf("%5" PRIu32 " %5u", reach, r.depth);
+    show_flow(r.flow, cubic);
+    printf(" %8s %8s", milligrams(r.head_bod).chars, milligrams(r.foot_bod).chars);
+    show_oxygen(r.head_oxygen, limit);
+    show_oxygen(r.critical_oxygen, limit);
+    show_oxygen(r.foot_oxygen, limit);
+    show_share(r.critical_instant);
+}
+
+static void show_summary(const struct report *report, const struct limit *limit)
+{
+    uint32_t below = 0, lowest = lowest_reach(report);
+    for (uint32_t i = 1; i <= report->reaches; i++)
+        below += (uint32_t)is_below(xylandreo_record_of(report->bytes, i).critical_oxygen, limit);
+    printf("lowest oxygen %s mg/L in reach %" PRIu32,
+           milligrams(xylandreo_record_of(report->bytes, lowest).critical_oxygen).chars, lowest);
+    if (limit->text)
+        printf("; %" PRIu32 " of %" PRIu32 " %s below %s mg/L%s", below, report->reaches,
+               report->reaches == 1 ? "reach" : "reaches", limit->text, below ? ", marked *" : "");
+}
+
+static void show_table(const char *path, const struct report *report, const struct limit *limit)
+{
+    int cubic = in_cubic_metres(report);
+    show_name(stdout, path);
+    printf(": %" PRIu32 " %s\n", report->reaches, report->reaches == 1 ? "reach" : "reaches");
+    show_headings(cubic);
+    for (uint32_t i = 1; i <= report->reaches; i++)
+        show_row(i, xylandreo_record_of(report->bytes, i), cubic, limit);
+}
+
+/* The table of an accepted river, and the summary line that every river has. */
+static void show_river(const char *path, const struct river *river, const struct report *report,
+                       const struct limit *limit)
+{
+    if (report->result == 0)
+        show_table(path, report, limit);
+    show_name(stdout, path);
+    printf(": ");
+    if (report->result == 0)
+        show_summary(report, limit);
+    else
+        show_refusal(stdout, river, report->result);
+    printf("\n");
+}
+
+static void show_lines(const struct report *report)
+{
+    static char text[MAX_LINES];
+    fwrite(text, 1, put_lines(report, text), stdout);
+}
+
+static struct river river;
+static struct report report;
+
+static int load(const char *path)
+{
+    int problem = load_river(path, &river);
+    if (problem)
+        say_problem("display", path, problem);
+    return !problem;
+}
+
+static int lines(const char *path)
+{
+    if (!load(path))
+        return BAD_USE;
+    report_river(&river, &report);
+    show_lines(&report);
+    return report.result == 0 ? ACCEPTED : REFUSED;
+}
+
+static int check(const char *path)
+{
+    if (!load(path))
+        return BAD_USE;
+    check_promises(path, &river);
+    return 0;
+}
+
+/* All files, one after another, with an empty line before and after a table. */
+static int tables(char **paths, const struct limit *limit)
+{
+    int status = ACCEPTED, after_table = 0;
+    for (char **path = paths; *path; path++) {
+        if (!load(*path)) {
+            status = BAD_USE;
+            continue;
+        }
+        report_river(&river, &report);
+        if (path > paths && (after_table || report.result == 0))
+            printf("\n");
+        show_river(*path, &river, &report, limit);
+        after_table = report.result == 0;
+        if (report.result != 0 && status == ACCEPTED)
+            status = REFUSED;
     }
-    for (size_t at = 0; at < river->length; at++) {
-        struct river changed = *river;
-        changed.bytes[at] ^= 0xff;
-        checked_call(&changed, XYLANDREO_MAX_REPORT);
-    }
+    return status;
 }
 
 static int usage(void)
 {
-    fprintf(stderr, "usage: display [--lines | --check] FILE\n");
-    return 2;
+    fprintf(stderr, "usage: display [--limit 5.0] FILE... | display --lines FILE | display --check FILE\n");
+    return BAD_USE;
+}
+
+/* The tables, with or without a limit; `--` may stand before the files. */
+static int table_mode(char **arguments)
+{
+    struct limit limit = {NULL, 0};
+    if (arguments[0] && arguments[1] && !strcmp(arguments[0], "--limit")) {
+        if (!take_limit(arguments[1], &limit)) {
+            fprintf(stderr, "display: a limit is a number of mg/L with at most six decimals, such as 5.0\n");
+            return BAD_USE;
+        }
+        arguments += 2;
+    }
+    if (arguments[0] && !strcmp(arguments[0], "--"))
+        arguments++;
+    else if (arguments[0] && arguments[0][0] == '-')
+        return usage();
+    return arguments[0] ? tables(arguments, &limit) : usage();
 }
 
 int main(int argc, char **argv)
 {
-    const char *mode = argc == 3 ? argv[1] : "";
-    if (argc < 2 || argc > 3 || (argc == 3 && strcmp(mode, "--lines") && strcmp(mode, "--check")))
-        return usage();
-    const char *path = argv[argc - 1];
-    struct river river = load(path);
-    if (!strcmp(mode, "--check")) {
-        check_file(&river);
-        check_damaged(&river);
-        printf("%s: all promises held in %lu calls, %lu of them refused\n", path, calls, refusals);
-        return 0;
-    }
-    static uint8_t report[XYLANDREO_MAX_REPORT];
-    uint32_t result = xylandreo_report(river.bytes, river.length, report, sizeof report);
-    if (result != 0) {
-        if (mode[0])
-            printf("refused %u reach %u\n", xylandreo_number(result), xylandreo_reach(result));
-        else
-            fprintf(stderr, "%s: refused %u reach %u: %s\n", path, xylandreo_number(result), xylandreo_reach(result),
-                    xylandreo_reason(xylandreo_number(result)));
-        return 1;
-    }
-    if (mode[0])
-        show_lines(xylandreo_reaches(river.bytes), report);
-    else
-        show_table(path, xylandreo_reaches(river.bytes), report);
-    return 0;
+    if (argc == 3 && !strcmp(argv[1], "--lines"))
+        return finish("display", lines(argv[2]));
+    if (argc == 3 && !strcmp(argv[1], "--check"))
+        return finish("display", check(argv[2]));
+    return finish("display", table_mode(argv + 1));
 }

@@ -1,0 +1,283 @@
+/*
+ * Goes through the river files of a folder, not of its subfolders, sorted by name: a line for each, and a
+ * last one with the counts. Of the archive it calls reporting and rewriting.
+ *
+ *   collection DIR
+ *
+ * For each NAME.river it says whether the river is accepted, or the refusal with its reason; whether rewriting
+ * gives the same bytes; the lowest oxygen and its reach; and, where NAME.report lies beside it, whether that
+ * is what the printing program prints now.
+ *
+ * The exit status is 0 where all is accepted and the same, 1 where a river is refused or something differs,
+ * 2 for bad use and where a file cannot be read.
+ */
+#define _POSIX_C_SOURCE 200809L
+#include <dirent.h>
+#include <errno.h>
+#include <inttypes.h>
+#include <stdlib.h>
+#include <string.h>
+#include <sys/stat.h>
+#include <time.h>
+#include <unistd.h>
+
+#include "desk.h"
+
+#define SUFFIX ".river"
+#define WIDEST_NAME 40 /* columns kept for names; a longer one moves the rest of its line */
+
+/* How a comparison went; NOTHING where there was nothing to compare. */
+enum verdict { NOTHING, SAME, DIFFERS };
+
+/* What was found out about one file. */
+struct finding {
+    struct river river;
+    struct report report;
+    enum verdict rewritten; /* NOTHING where reading refuses, so that there is no river to write */
+    enum verdict kept;      /* the report beside the file; NOTHING where there is none */
+};
+
+/* Counts of files; those of verdicts by verdict. */
+struct counts {
+    size_t accepted, refused, unreadable, rewritten[3], kept[3];
+};
+
+/* What *.river means in a shell, folders aside. A link to nothing is told when it is opened. */
+static int is_river(const struct dirent *entry)
+{
+    const char *name = entry->d_name;
+    size_t length = strlen(name), suffix = strlen(SUFFIX);
+    struct stat about;
+    if (name[0] == '.' || length < suffix || strcmp(name + length - suffix, SUFFIX))
+        return 0;
+    return stat(name, &about) != 0 || S_ISREG(about.st_mode);
+}
+
+static int by_name(const struct dirent **a, const struct dirent **b)
+{
+    return strcmp((*a)->d_name, (*b)->d_name);
+}
+
+static int is_all(const uint8_t *bytes, size_t length, uint8_t value)
+{
+    for (size_t i = 0; i < length; i++)
+        if (bytes[i] != value)
+            return 0;
+    return 1;
+}
+
+/*
+ * Wanted are the same bytes, with the rest of the buffer kept, or reading's refusal, which reporting gives
+ * too, with nothing written.
+ */
+static enum verdict rewrite(const struct river *river, uint32_t reported)
+{
+    static uint8_t out[XYLANDREO_MAX_FILE + 64];
+    const uint8_t pattern = 0xa5;
+    memset(out, pattern, sizeof out);
+    uint32_t result = xylandreo_rewrite(river->bytes, river->length, out, sizeof out);
+    size_t written = result == 0 ? river->length : 0;
+    if (!is_all(out + written, sizeof out - written, pattern) || memcmp(out, river->bytes, written))
+        return DIFFERS;
+    if (result == 0)
+        return SAME;
+    return result == reported ? NOTHING : DIFFERS;
+}
+
+/* Whether NAME.report is what is printed now for NAME.river. One that cannot be read is not. */
+static enum verdict compare_report(const char *name, const struct report *report)
+{
+    static char printed[MAX_LINES], kept[MAX_LINES];
+    char path[512];
+    snprintf(path, sizeof path, "%.*s.report", (int)(strlen(name) - strlen(SUFFIX)), name);
+    FILE *file = fopen(path, "rb");
+    if (!file)
+        return errno == ENOENT || errno == ENAMETOOLONG ? NOTHING : DIFFERS;
+    size_t length = fread(kept, 1, sizeof kept, file);
+    int failed = ferror(file);
+    fclose(file);
+    return !failed && length == put_lines(report, printed) && !memcmp(kept, printed, length) ? SAME : DIFFERS;
+}
+
+/* Looks at one file. Returns 0, or the errno of what went wrong. */
+static int examine(const char *name, struct finding *finding)
+{
+    int problem = load_river(name, &finding->river);
+    if (problem)
+        return problem;
+    report_river(&finding->river, &finding->report);
+    finding->rewritten = rewrite(&finding->river, finding->report.result);
+    finding->kept = compare_report(name, &finding->report);
+    return 0;
+}
+
+static void count(const struct finding *finding, struct counts *counts)
+{
+    counts->accepted += finding->report.result == 0;
+    counts->refused += finding->report.result != 0;
+    counts->rewritten[finding->rewritten]++;
+    counts->kept[finding->kept]++;
+}
+
+static const char *word(enum verdict verdict)
+{
+    static const char *const words[] = {"-", "same", "DIFFERS"};
+    return words[verdict];
+}
+
+static void show_padded(const char *name, size_t width)
+{
+    size_t columns = name_columns(name);
+    show_name(stdout, name);
+    printf("%*s", columns < width ? (int)(width - columns) : 0, "");
+}
+
+static void show_headings(size_t width)
+{
+    show_padded("river", width);
+    printf("  %-20s %-9s %20s %6s  report\n", "verdict", "rewritten", "lowest oxygen, mg/L", "reach");
+}
+
+static void show_accepted(const struct finding *finding)
+{
+    uint32_t reach = lowest_reach(&finding->report);
+    struct text oxygen = milligrams(xylandreo_record_of(finding->report.bytes, reach).critical_oxygen);
+    printf("  %-20s %-9s %20s %6" PRIu32 "  %s\n", "accepted", word(finding->rewritten), oxygen.chars, reach,
+           word(finding->kept));
+}
+
+static void show_refused(const struct finding *finding)
+{
+    uint32_t result = finding->report.result;
+    char verdict[32];
+    snprintf(verdict, sizeof verdict, "refused %" PRIu32 " reach %" PRIu32, xylandreo_number(result),
+             xylandreo_reach(result));
+    printf("  %-20s %-9s %20s %6s  %-8s ", verdict, word(finding->rewritten), "-", "-", word(finding->kept));
+    show_reason(stdout, &finding->river, result);
+    printf("\n");
+}
+
+static void show_counts(const struct counts *counts)
+{
+    size_t rivers = counts->accepted + counts->refused;
+    printf("%zu %s: %zu accepted, %zu refused", rivers, rivers == 1 ? "river" : "rivers", counts->accepted,
+           counts->refused);
+    if (counts->unreadable)
+        printf(", %zu more not readable", counts->unreadable);
+    printf("; rewritten: %zu the same, %zu differ; reports beside them: %zu the same, %zu differ\n",
+           counts->rewritten[SAME], counts->rewritten[DIFFERS], counts->kept[SAME], counts->kept[DIFFERS]);
+}
+
+/* Hundredths of a second, for the progress line alone. */
+static int64_t now(void)
+{
+    struct timespec time;
+    clock_gettime(CLOCK_MONOTONIC, &time);
+    return (int64_t)time.tv_sec * 100 + time.tv_nsec / 10000000;
+}
+
+/* The progress line on the terminal: when it is next due, and whether it stands there. */
+static struct {
+    int64_t due;
+    int shown;
+} progress;
+
+static void wipe_progress(void)
+{
+    if (progress.shown)
+        fprintf(stderr, "\r%50s\r", "");
+    progress.shown = 0;
+}
+
+/* From half a second on, ten times a second; after each line of the list where that runs over a terminal too. */
+static void show_progress(size_t done, size_t all)
+{
+    if (!isatty(STDERR_FILENO) || now() < progress.due)
+        return;
+    fprintf(stderr, "\r%zu of %zu river files", done, all);
+    progress.shown = 1;
+    progress.due = now() + (isatty(STDOUT_FILENO) ? 0 : 10);
+}
+
+static void show_line(const char *name, size_t width, const struct finding *finding)
+{
+    if (isatty(STDOUT_FILENO))
+        wipe_progress();
+    show_padded(name, width);
+    if (finding->report.result == 0)
+        show_accepted(finding);
+    else
+        show_refused(finding);
+}
+
+/* One file of the folder: its line, or on standard error why it cannot be read. */
+static void one_file(const char *name, size_t width, struct counts *counts)
+{
+    static struct finding finding;
+    int problem = examine(name, &finding);
+    if (problem) {
+        wipe_progress();
+        say_problem("collection", name, problem);
+        counts->unreadable++;
+        return;
+    }
+    count(&finding, counts);
+    show_line(name, width, &finding);
+}
+
+static size_t name_width(struct dirent **names, size_t all)
+{
+    size_t width = strlen("river");
+    for (size_t i = 0; i < all; i++) {
+        size_t columns = name_columns(names[i]->d_name);
+        width = columns > width && columns <= WIDEST_NAME ? columns : width;
+    }
+    return width;
+}
+
+static int status_of(const struct counts *counts)
+{
+    if (counts->unreadable)
+        return BAD_USE;
+    return counts->refused || counts->rewritten[DIFFERS] || counts->kept[DIFFERS] ? REFUSED : ACCEPTED;
+}
+
+/* All river files of the current folder, whose names are given and freed here. */
+static int all_files(struct dirent **names, size_t all)
+{
+    struct counts counts = {0};
+    size_t width = name_width(names, all);
+    progress.due = now() + 50;
+    show_headings(width);
+    for (size_t i = 0; i < all; i++) {
+        one_file(names[i]->d_name, width, &counts);
+        show_progress(i + 1, all);
+        free(names[i]);
+    }
+    free(names);
+    wipe_progress();
+    show_counts(&counts);
+    return status_of(&counts);
+}
+
+int main(int argc, char **argv)
+{
+    struct dirent **names;
+    if (argc != 2) {
+        fprintf(stderr, "usage: collection DIR\n");
+        return BAD_USE;
+    }
+    int all = chdir(argv[1]) == 0 ? scandir(".", &names, is_river, by_name) : -1;
+    if (all < 0) {
+        say_problem("collection", argv[1], errno);
+        return BAD_USE;
+    }
+    if (all == 0) {
+        free(names);
+        fprintf(stderr, "collection: ");
+        show_name(stderr, argv[1]);
+        fprintf(stderr, ": no river files (*" SUFFIX ") in it\n");
+        return BAD_USE;
+    }
+    return finish("collection", all_files(names, (size_t)all));
+}

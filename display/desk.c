@@ -1,0 +1,112 @@
+/* See desk.h. */
+#include "desk.h"
+
+#include <errno.h>
+#include <inttypes.h>
+#include <string.h>
+
+int load_river(const char *path, struct river *river)
+{
+    FILE *file = fopen(path, "rb");
+    if (!file)
+        return errno;
+    errno = 0;
+    river->length = fread(river->bytes, 1, XYLANDREO_MAX_FILE + 1, file);
+    int problem = ferror(file) ? (errno ? errno : EIO) : 0;
+    fclose(file);
+    return problem;
+}
+
+void say_problem(const char *program, const char *path, int problem)
+{
+    fprintf(stderr, "%s: ", program);
+    show_name(stderr, path);
+    fprintf(stderr, ": %s\n", strerror(problem));
+}
+
+int finish(const char *program, int status)
+{
+    if (fflush(stdout) == 0 && !ferror(stdout))
+        return status;
+    fprintf(stderr, "%s: the output could not be written\n", program);
+    return BAD_USE;
+}
+
+void report_river(const struct river *river, struct report *report)
+{
+    report->result = xylandreo_report(river->bytes, river->length, report->bytes, sizeof report->bytes);
+    report->reaches = report->result == 0 ? xylandreo_reaches(river->bytes) : 0;
+}
+
+uint32_t lowest_reach(const struct report *report)
+{
+    uint32_t lowest = 1;
+    for (uint32_t i = 2; i <= report->reaches; i++)
+        if (xylandreo_record_of(report->bytes, i).critical_oxygen <
+            xylandreo_record_of(report->bytes, lowest).critical_oxygen)
+            lowest = i;
+    return lowest;
+}
+
+void show_name(FILE *to, const char *name)
+{
+    for (; *name; name++) {
+        unsigned char byte = (unsigned char)*name;
+        fputc(byte < 0x20 || byte == 0x7f ? '?' : byte, to);
+    }
+}
+
+size_t name_columns(const char *name)
+{
+    size_t columns = 0;
+    for (; *name; name++)
+        columns += ((unsigned char)*name & 0xc0) != 0x80;
+    return columns;
+}
+
+struct text milligrams(int64_t units)
+{
+    const int64_t step = XYLANDREO_UNITS / 1000;
+    int64_t size = units < 0 ? (-units + step - 1) / step : units / step; /* rounded down: away from zero below it */
+    struct text text;
+    snprintf(text.chars, sizeof text.chars, "%s%" PRId64 ".%03" PRId64, units < 0 ? "-" : "", size / 1000,
+             size % 1000);
+    return text;
+}
+
+void show_refusal(FILE *to, const struct river *river, uint32_t result)
+{
+    fprintf(to, "refused %" PRIu32 " reach %" PRIu32 ": ", xylandreo_number(result), xylandreo_reach(result));
+    show_reason(to, river, result);
+}
+
+void show_reason(FILE *to, const struct river *river, uint32_t result)
+{
+    fputs(xylandreo_reason(xylandreo_number(result)), to);
+    struct xylandreo_fault fault = xylandreo_fault_of(river->bytes, river->length, result);
+    if (fault.field)
+        fprintf(to, ": %s is %" PRIu64 ", not from %" PRIu64 " to %" PRIu64 " %s", fault.field->name, fault.value,
+                fault.field->lowest, fault.field->highest, fault.field->unit);
+}
+
+/* Puts the line of one reach. */
+static int put_line(char *text, uint32_t reach, const struct xylandreo_record *r)
+{
+    return snprintf(text, MAX_LINE,
+                    "%" PRIu32 " %u %" PRIu32 " %" PRIu32 " %" PRIu32 " %" PRId32 " %u %" PRId32 " %" PRId32 "\n",
+                    reach, r->depth, r->flow, r->head_bod, r->foot_bod, r->head_oxygen, r->critical_instant,
+                    r->critical_oxygen, r->foot_oxygen);
+}
+
+size_t put_lines(const struct report *report, char text[MAX_LINES])
+{
+    if (report->result != 0)
+        return (size_t)snprintf(text, MAX_LINES, "refused %" PRIu32 " reach %" PRIu32 "\n",
+                                xylandreo_number(report->result), xylandreo_reach(report->result));
+    size_t length = 0;
+    for (uint32_t i = 1; i <= report->reaches; i++) {
+        struct xylandreo_record record = xylandreo_record_of(report->bytes, i);
+        length += (size_t)put_line(text + length, i, &record);
+    }
+    return length;
+}
