@@ -262,7 +262,7 @@ static int all_files(struct dirent **names, size_t all)
 
 int main(int argc, char **argv)
 {
-    struct dirent **names;
+    struct dirent **names = NULL;
     if (argc != 2) {
         fprintf(stderr, "usage: collection DIR\n");
         return BAD_USE;
