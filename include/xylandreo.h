@@ -1,8 +1,9 @@
 /*
- * River oxygen reports for C. Link with target/staticlib/libreport.a, which `scripts/build archive`
- * makes; display/ has two programs over it, and display/check.sh shows the commands.
+ * River oxygen reports for C and C++. Link with target/staticlib/libreport.a, which `scripts/build archive`
+ * makes; display/ has two programs over it, and scripts/build the command that compiles them.
  *
- * The records and their fields are one table below, xylandreo_kinds; sizes are named once, above it.
+ * The two entries come first. Below them are the reasons of refusals, the table of all records of a river
+ * file (xylandreo_kinds), and a reader for the records of a report.
  */
 #ifndef XYLANDREO_H
 #define XYLANDREO_H
