@@ -104,7 +104,7 @@ says '; 0 of 2 reaches below 6.5 mg/L$'
 expect 0 "$display" --limit 6.500001 two.river
 says ' 6.500\* .*0.0$'
 says '; 1 of 2 reaches below 6.500001 mg/L, marked \*$'
-for limit in "" 5, 5. .5 -1 5e0 1234 5.1234567 " 5"; do
+for limit in "" "5,0" 5. .5 -1 5e0 1234 5.1234567 " 5"; do
     expect 2 "$display" --limit "$limit" two.river
 done
 expect 2 "$display"
