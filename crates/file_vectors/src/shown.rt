@@ -8,7 +8,7 @@ use river::refusal::Outcome;
 use river::refusal::Refusal;
 use river::rewrite::rewrite;
 use river::write::Written;
-use river::write::write_cards;
+use river::writer::write_cards;
 
 // A number and a space.
 fn number(n: u64) {
@@ -70,7 +70,7 @@ fn cards(river: Cards) {
     let at = river.at;
     let mut i: usize = 0;
     while i < 128 {
-        if i < river.count {
+        if i < river.count as usize {
             card(at[i]);
         }
         i = i + 1;
@@ -118,7 +118,7 @@ pub fn show(file: &[u8]) {
         Outcome::Refused(r) => refusal(r),
         Outcome::Accepted => {
             let river = reading.cards;
-            count(b"read ", river.count);
+            count(b"read ", river.count as usize);
             cards(river);
             let mut out = [7u8; 100];
             rewritten(file, &mut out);
@@ -151,12 +151,12 @@ fn link(i: usize, n: usize) -> Card {
 }
 
 // A chain of n reaches.
-fn chain(n: usize) -> Cards {
+fn chain(n: u8) -> Cards {
     let none = blank();
     let mut at = [none; 128];
     let mut i: usize = 0;
     while i < 128 {
-        at[i] = link(i + 1, n);
+        at[i] = link(i + 1, n as usize);
         i = i + 1;
     }
     Cards { at, count: n }
@@ -166,12 +166,12 @@ fn chain(n: usize) -> Cards {
 fn reread(out: &[u8], l: usize) {
     if l <= out.len() {
         let reading = read_file(&out[..l]);
-        count(b"read ", reading.cards.count);
+        count(b"read ", reading.cards.count as usize);
     }
 }
 
 // Writing of a chain of n reaches, and what the file is read as.
-pub fn many(n: usize) {
+pub fn many(n: u8) {
     let mut out = [0u8; 4356];
     match write_cards(chain(n), &mut out) {
         Written::Refused(r) => refusal(r),

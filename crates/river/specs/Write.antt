@@ -69,10 +69,6 @@ abbrev pub checkOf : Answer Unit → Check
 checkOf (accepted u) = Check.Passed
 checkOf (refused r) = Check.Refused r
 
-abbrev pub checkRefusal : Check → Refusal
-checkRefusal Check.Passed = refuse 0 0
-checkRefusal (Check.Refused r) = r
-
 abbrev pub writtenOf : Written → Answer ℕ
 writtenOf (Written.Length l) = accepted l
 writtenOf (Written.Refused r) = refused r

@@ -33,7 +33,7 @@ pub struct Card {
 // The cards of a river: the first `count` of them.
 pub struct Cards {
     pub at: [Card; 128],
-    pub count: usize,
+    pub count: u8,
 }
 
 // A card of zeros.

@@ -42,12 +42,11 @@ pub fn finish(p: Progress, file: &[u8]) -> Reading
                 return refused(refuse(6, 0));
             }
             let cards = p.at;
-            let n = p.count as usize;
             Reading {
                 outcome,
                 cards: Cards {
                     at: cards,
-                    count: n,
+                    count: p.count,
                 },
             }
         }

@@ -229,7 +229,11 @@ fn check_next(cards: Cards, flows: FlowTable, i: usize) -> Checked
 pub fn reach_count(cards: Cards) -> usize
     ensures { λ r. ⌜ r ≡ length (river cards) ⌝ }
 {
-    if 128 < cards.count { 128 } else { cards.count }
+    if 128 < cards.count {
+        128
+    } else {
+        cards.count as usize
+    }
 }
 
 // The tables of no reach.

@@ -4,7 +4,7 @@ ghost use lib.ListN.{length, take};
 ghost use Rattle.river.specs.Read.{readFile};
 ghost use Rattle.river.specs.Refusal.{after};
 ghost use Rattle.river.specs.File.{Yields};
-ghost use Rattle.river.specs.Write.{writtenOf, Writes};
+ghost use Rattle.river.specs.Write.{writtenOf};
 ghost use Rattle.river.specs.Rewrite.{WritesBack, Within, ReadsBack};
 use crate::card::Card;
 use crate::file::Reading;
@@ -13,14 +13,7 @@ use crate::file::refused;
 use crate::refusal::Outcome;
 use crate::write::Written;
 use crate::writer::write;
-
-// The file of the first n cards of an array, which are lent to the writer.
-fn write_first(at: [Card; 128], n: usize, out: &mut [u8]) -> Written
-    requires { ⌜ n ≤ 128 ⌝ }
-    ensures { λ r. ⌜ Writes (length (take n at)) (take n at) (now (out .entry)) r (now (out .exit)) ⌝ }
-{
-    write(&at[..n], out)
-}
+use crate::writer::write_first;
 
 // A file is read and written back: the same bytes, or the refusal of reading, or 12 where the buffer is shorter than the file.
 pub fn rewrite(file: &[u8], out: &mut [u8]) -> Outcome
@@ -33,7 +26,7 @@ pub fn rewrite(file: &[u8], out: &mut [u8]) -> Outcome
     };
     let cards = reading.cards;
     let at = cards.at;
-    match write_first(at, cards.count, out) {
+    match write_first(at, cards.count as usize, out) {
         Written::Length(_) => Outcome::Accepted,
         Written::Refused(r) => Outcome::Refused(r),
     }

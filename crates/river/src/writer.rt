@@ -1,11 +1,12 @@
 // The writer: it is lent the cards, one for each reach. Thin functions over those that take a card by value.
 ghost use mathlib.Core.Path.{_≡_};
 ghost use Prim.Native.Nat.{_+_, _*_, _≤_, _<_};
-ghost use lib.ListN.{length};
+ghost use lib.ListN.{length, take};
 ghost use Rattle.river.specs.Write.{checkCard, Writes};
 ghost use Rattle.river.specs.Writer.{stoppedAt, startChecking, nextChecking, ChecksAll, Heads, PutsNext};
-ghost use Rattle.river.specs.Card.{headerBytes, longestCard, sizeOf};
+ghost use Rattle.river.specs.Card.{headerBytes, longestCard, sizeOf, river};
 use crate::card::Card;
+use crate::card::Cards;
 use crate::card::HEADER_BYTES;
 use crate::card::size_of;
 use crate::put::put_card;
@@ -162,4 +163,24 @@ pub fn write(cards: &[Card], out: &mut [u8]) -> Written
         p = put_next(p, cards[i], out);
     }
     answer(p)
+}
+
+// The file of the first n cards of an array, which are lent to the writer.
+pub fn write_first(at: [Card; 128], n: usize, out: &mut [u8]) -> Written
+    requires { ⌜ n ≤ 128 ⌝ }
+    ensures { λ r. ⌜ Writes (length (take n at)) (take n at) (now (out .entry)) r (now (out .exit)) ⌝ }
+{
+    write(&at[..n], out)
+}
+
+// The file of a river, or the first refusal.
+pub fn write_cards(cards: Cards, out: &mut [u8]) -> Written
+    ensures { λ r. ⌜ Writes (cards .count) (river cards) (now (out .entry)) r (now (out .exit)) ⌝ }
+{
+    let n = cards.count as usize;
+    if !count_ok(n) {
+        return Written::Refused(refuse(3, 0));
+    }
+    let at = cards.at;
+    write_first(at, n, out)
 }

@@ -5,8 +5,8 @@ use mathlib.Core.Path.{_≡_, refl, ap, sym, subst, _∙_}
 use mathlib.Core.List.{List, [], _∷_, _++_, append-assoc, append-nil}
 use native.Mathlib.Numerals.{add-one}
 use native.Mathlib.Omega.{arith}
-use lib.ListN.{length, getD, take, drop, length-append, take-append-drop, drop-of-length-le}
-use lib.Seq.{drop-cons, take-add, take-all, getD-take, length-take-le}
+use lib.ListN.{length, take, drop, length-append, take-append-drop, drop-of-length-le}
+use lib.Seq.{take-add, take-all}
 use Rattle.river.specs.Bytes.{Put}
 use Rattle.river.specs.Refusal.{Answer, accepted, refused}
 use Rattle.river.specs.Write.{encode, encodeCard, encodeCards, encodeHeader, checkCard, checkFrom, checkOf}
@@ -19,12 +19,6 @@ use Rattle.river.proofs.read.Records.{length-encodeCard}
 use Rattle.river.proofs.read.Steps.{clash}
 use Rattle.river.proofs.read.Rows.{size-small}
 use Rattle.river.specs.Card.{headerBytes, longestCard, sizeOf}
-
--- the cards of a list from i on: the card at i, and the others
-pub from : (at : List Card) (n i : ℕ) (d : Card) → i < n → n ≤ length at → drop i (take n at) ≡ getD at i d ∷ drop (i + 1) (take n at)
-from at n i d h k =
-    drop-cons (take n at) i d (omega (arith, length-take-le n at k)) ∙
-    (λ j. getD-take n at i d h j ∷ drop (sym (add-one i) j) (take n at))
 
 -- Checking.
 

@@ -10,13 +10,13 @@ use borrow.Author.Tests.{le-leb, lt-leb}
 use Rattle.river.specs.Bytes.{Put}
 use Rattle.river.specs.Card.{countOk}
 use Rattle.river.specs.Refusal.{accepted, refused, refuse}
-use Rattle.river.specs.Write.{encode, checkFrom, checkOf, checkRefusal, writeAnswer, bufferWritten, Writes}
+use Rattle.river.specs.Write.{encode, checkFrom, checkOf, writeAnswer, bufferWritten, Writes}
 use Rattle.river.specs.declared.card.Card.{Card}
 use Rattle.river.specs.declared.refusal.Refusal.{Refusal}
 use Rattle.river.specs.declared.write.Check.{Check}
 use Rattle.river.specs.declared.write.Written.{Written}
 use Rattle.river.proofs.Answers.{need-true, need-false, after-accepted, after-refused}
-use Rattle.river.proofs.write.Passes.{passed-check, refused-check}
+use Rattle.river.proofs.write.Passes.{passed-check}
 use Rattle.river.proofs.bytes.Puts.{at-start}
 
 module _ (n : ℕ) (cs : List Card) (before : List ℕ) where
@@ -30,14 +30,6 @@ module _ (n : ℕ) (cs : List Card) (before : List ℕ) where
   refuses-count p = refuses (sym (need-false _ _ _ _ p))
 
   module _ {a : Check} (p : countOk n ≡ true) (e : a ≡ checkOf (checkFrom n 1 cs)) where
-    pub refuses-card : {r x : Refusal} → a ≡ Check.Refused r → x ≡ checkRefusal a → Writes n cs before (Written.Refused x) before
-    unfolding writeAnswer
-    refuses-card {r} {x} f g =
-        let same : x ≡ r = g ∙ ap checkRefusal f in
-        refuses
-        (ap refused same ∙
-        sym (need-true _ _ _ _ p ∙ after-refused _ _ (refused-check (checkFrom n 1 cs) (sym e ∙ f))))
-
     module _ {k : ℕ} (f : a ≡ Check.Passed) (size : k ≡ length (encode cs)) where
       pub refuses-room : length before < k → Writes n cs before (Written.Refused (refuse 12 0)) before
       unfolding writeAnswer

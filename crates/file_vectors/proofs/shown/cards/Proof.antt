@@ -14,6 +14,9 @@ abbrev μ-loop : tie.MeasureT-loop
 loop-holds : tie.Need-loop-holds Inv-loop μ-loop
 loop-holds c = search needs
 
+cast-if1 : tie.Need-cast-if1 Inv-loop μ-loop
+cast-if1 c = search needs
+
 mul-card : tie.Need-mul-card Inv-loop μ-loop
 mul-card c = search needs
 
@@ -42,6 +45,7 @@ cards-spec =
     Inv-loop
     μ-loop
     loop-holds
+    cast-if1
     mul-card
     array-copy-out-card
     card-requires

@@ -16,6 +16,9 @@ read-file-requires c κs = search needs
 slice-aggregate-count : tie.Need-slice-aggregate-count
 slice-aggregate-count c = search needs
 
+cast-count : tie.Need-cast-count
+cast-count c = search needs
+
 count-requires : tie.Need-count-requires
 count-requires c κs = search needs
 
@@ -32,6 +35,7 @@ reread-spec =
     slice-aggregate-read-file
     read-file-requires
     slice-aggregate-count
+    cast-count
     count-requires
     returns
     returns-2)

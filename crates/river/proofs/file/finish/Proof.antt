@@ -33,9 +33,6 @@ returns c =
     let start = told .before .before .before in
     rw (too-long (now (start .args .file)) (start .pre .goes) (start .pre .none-due) (told .enum-told .given .1) (long .if1 .taken), ← c .before .refuse .ensures) (c .refused2 .ensures)
 
-cast-n : tie.Need-cast-n
-cast-n c = search needs
-
 returns-2 : tie.Need-returns-2
 returns-2 c =
     let known = c .before .before in
@@ -44,7 +41,7 @@ returns-2 c =
 
 returns-3 : tie.Need-returns-3
 returns-3 c =
-    let end = c .before .before in
+    let end = c .before in
     let told = end .before .before in
     let start = told .before .before .before in
     let p = start .args .p in
@@ -57,4 +54,4 @@ returns-3 c =
     }
 
 pub finish-spec : {M : Type 1} → statement M
-finish-spec = tie.close (tie.spec enum-known-outcome refused-requires enum-told refuse-requires refused-requires-2 returns cast-n returns-2 returns-3)
+finish-spec = tie.close (tie.spec enum-known-outcome refused-requires enum-told refuse-requires refused-requires-2 returns returns-2 returns-3)

@@ -26,6 +26,9 @@ returns c =
     let a = c .before .before in
     refused-back (bytes (a .before .before)) (a .read-file .ensures) (c .enum-told2 .given .1)
 
+cast-write-first : tie.Need-cast-write-first
+cast-write-first c = search needs
+
 write-first-requires : tie.Need-write-first-requires
 write-first-requires c κs = search needs
 
@@ -39,10 +42,10 @@ same-length : tie.Need-same-length
 same-length c = search needs
 
 -- what was read is written
-written : (c : tie.After-write-first) {o : Outcome} → endOf (c .write-first .result) ≡ o → WritesBack (c .before .before .before .before .before .before .before .before .before .args .file .now) (c .before .before .before .before .before .before .before .before .before .args .out .now) o (c .write-first .last .1 .1 .0)
+written : (c : tie.After-write-first) {o : Outcome} → endOf (c .write-first .result) ≡ o → WritesBack (c .before .before .before .before .before .before .before .before .before .before .args .file .now) (c .before .before .before .before .before .before .before .before .before .before .args .out .now) o (c .write-first .last .1 .1 .0)
 written c e =
-    let a = c .before .before .before .before .before .before in
-    written-back (bytes (a .before .before)) (a .read-file .ensures) (c .before .before .before .before .enum-told .given .1) (c .write-first .ensures) e
+    let a = c .before .before .before .before .before .before .before in
+    written-back (bytes (a .before .before)) (a .read-file .ensures) (c .before .before .before .before .before .enum-told .given .1) (c .write-first .ensures) e
 
 returns-2 : tie.Need-returns-2
 returns-2 c = written (c .before .before .before .before) (ap endOf (c .enum-told3 .given .1))
@@ -61,6 +64,7 @@ rewrite-spec =
     enum-told
     enum-told-2
     returns
+    cast-write-first
     write-first-requires
     enum-told-3
     enum-known-r

@@ -1,4 +1,4 @@
--- `river::rewrite::write_first` meets its contract: a walk of its MIR, by hand. The first cards of the local array are lent to `writer::write` for a lifetime of that call, and the array is back once it is over (`First.antt`). The buffer is given up for good, at its own lifetime.
+-- `river::writer::write_first` meets its contract: a walk of its MIR, by hand. The first cards of the local array are lent to `writer::write` for a lifetime of that call, and the array is back once it is over (`First.antt`). The buffer is given up for good, at its own lifetime.
 -- All that the proof knows of `write` is that it meets its contract. Assumes nothing.
 use mathlib.Core.Path.{_≡_, refl}
 use Prim.Native.Nat.{ℕ, _≤_, _<_, _^_}
@@ -55,10 +55,10 @@ use Rattle.river.proofs.writer.write as write
 use Rattle.river.proofs.writer.write.Symbol as write-def
 use Rattle.river.proofs.writer.write.Symbol.{name as #river·write}
 use Rattle.river.proofs.writer.write.Met as write-thm
-use Rattle.river.proofs.rewrite.write_first.Key.{name as #river·write-first}
-use Rattle.river.proofs.rewrite.write_first as first
-use Rattle.river.proofs.rewrite.write_first.Statement as stated
-use Rattle.river.proofs.rewrite.write_first.Code as code
+use Rattle.river.proofs.writer.write_first.Key.{name as #river·write-first}
+use Rattle.river.proofs.writer.write_first as first
+use Rattle.river.proofs.writer.write_first.Statement as stated
+use Rattle.river.proofs.writer.write_first.Code as code
 
 abbrev stayed : Stays (first.ended .signature .params) (first.ended .kept)
 stayed = (stay-dropped (arrayOf (plain (λ _. Cd.the-row)) 128) yes, (stay-dropped (plain (λ _. usize)) yes, (gave-slice (0 ∷ []) tt (plain (λ _. u8)), tt)))
