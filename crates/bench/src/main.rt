@@ -4,6 +4,8 @@ ghost use Prim.Native.Nat.{_≤_};
 use report::record;
 use report::record::Line;
 use report::record::RP_SIZE;
+use river::card::HEADER_BYTES;
+use river::card::REACH_BYTES;
 use river::head::STORED_ZERO;
 
 // Prints stored oxygen.
@@ -96,7 +98,7 @@ fn put(file: &mut [u8], at: usize, b: u8) {
 
 // Puts the card of reach i + 1: 20 degrees, inflow 1 and zeros.
 fn put_reach(file: &mut [u8], i: u8, outlet: u8) {
-    let at = 4 + 26 * (i as usize);
+    let at = HEADER_BYTES + REACH_BYTES * (i as usize);
     put(file, at, b'R');
     put(file, at + 1, b'E');
     put(file, at + 2, outlet);
@@ -129,14 +131,14 @@ fn put_row(file: &mut [u8], count: u8) {
 fn rows() {
     let mut report = [0u8; 128 * RP_SIZE];
     let mut short = [0u8; 128 * RP_SIZE - 1];
-    let mut most = [0u8; 3332];
+    let mut most = [0u8; HEADER_BYTES + 128 * REACH_BYTES];
     put_row(&mut most, 128);
     print_result(b"128 reaches", report::xylandreo_report(&most, &mut report));
     print_result(
         b"128 reaches in 3,711 bytes",
         report::xylandreo_report(&most, &mut short),
     );
-    let mut more = [0u8; 3358];
+    let mut more = [0u8; HEADER_BYTES + 129 * REACH_BYTES];
     put_row(&mut more, 129);
     print_result(b"129 reaches", report::xylandreo_report(&more, &mut report));
 }

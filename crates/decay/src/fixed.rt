@@ -30,7 +30,7 @@ pub struct Division {
 
 // Eleven more bits of a long division by d.
 pub fn chunk(part: Division, d: u64) -> Division
-    requires { ⌜ (part .digits < 8589934592) × (part .rest < d) × (d ≤ large) ⌝ }
+    requires { ⌜ (part .digits < 8_589_934_592) × (part .rest < d) × (d ≤ large) ⌝ }
     ensures { λ r. ⌜ r ≡ chunked part d ⌝ }
 {
     let digits = part.digits;

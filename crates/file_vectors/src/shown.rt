@@ -2,6 +2,7 @@
 use river::card::Card;
 use river::card::Cards;
 use river::card::Dam;
+use river::card::LONGEST_FILE;
 use river::card::blank;
 use river::file::read_file;
 use river::refusal::Outcome;
@@ -172,7 +173,7 @@ fn reread(out: &[u8], l: usize) {
 
 // Writing of a chain of n reaches, and what the file is read as.
 pub fn many(n: u8) {
-    let mut out = [0u8; 4356];
+    let mut out = [0u8; LONGEST_FILE];
     match write_cards(chain(n), &mut out) {
         Written::Refused(r) => refusal(r),
         Written::Length(l) => {

@@ -1,11 +1,16 @@
 // Rivers of 128 reaches, made byte by byte: a chain, and a star of 127 feeders.
 ghost use Prim.Native.Nat.{_<_};
 use crate::shown::show;
+use river::card::HEADER_BYTES;
+use river::card::REACH_BYTES;
+
+// The length of a file of 128 reaches with no dam.
+const MANY: usize = HEADER_BYTES + 128 * REACH_BYTES;
 
 // The record of a reach. Its outlet, its temperature and the last byte of its inflow are put for each reach.
-const RECORD: [u8; 26] = [
-    82,
-    69,
+const RECORD: [u8; REACH_BYTES] = [
+    b'R',
+    b'E',
     0,
     0,
     0,
@@ -45,13 +50,13 @@ fn outlet(i: usize, star: bool) -> u8
 }
 
 // The file with the record of reach i + 1.
-fn with_reach(file: [u8; 3332], i: usize, outlet: u8) -> [u8; 3332]
+fn with_reach(file: [u8; MANY], i: usize, outlet: u8) -> [u8; MANY]
     requires { ⌜ i < 128 ⌝ }
 {
     let mut next = file;
-    let start = 4 + 26 * i;
+    let start = HEADER_BYTES + REACH_BYTES * i;
     let mut k: usize = 0;
-    while k < 26 {
+    while k < REACH_BYTES {
         next[start + k] = RECORD[k];
         k = k + 1;
     }
@@ -61,10 +66,10 @@ fn with_reach(file: [u8; 3332], i: usize, outlet: u8) -> [u8; 3332]
     next
 }
 
-fn river(star: bool) -> [u8; 3332] {
-    let mut file = [0u8; 3332];
-    file[0] = 82;
-    file[1] = 86;
+fn river(star: bool) -> [u8; MANY] {
+    let mut file = [0u8; MANY];
+    file[0] = b'R';
+    file[1] = b'V';
     file[3] = 128;
     let mut i: usize = 0;
     while i < 128 {
@@ -76,7 +81,7 @@ fn river(star: bool) -> [u8; 3332] {
 
 pub fn all() {
     let chain = river(false);
-    show(&chain, 2155483648, 1000);
+    show(&chain, 2_155_483_648, 1000);
     let star = river(true);
-    show(&star, 2147000000, 12345);
+    show(&star, 2_147_000_000, 12_345);
 }

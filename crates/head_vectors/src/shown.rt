@@ -68,7 +68,7 @@ fn reach(cards: Cards, flows: FlowTable, feet: FootTable, i: usize, foot: u32) -
 fn foot_oxygen(first: u32, step: u32, i: usize) -> u32
     requires { ⌜ i < 128 ⌝ }
 {
-    ((first as u64 + (step as u64) * (i as u64)) % 4294967296) as u32
+    ((first as u64 + (step as u64) * (i as u64)) % 4_294_967_296) as u32
 }
 
 // Prints every reach of an accepted river.

@@ -28,7 +28,7 @@ pub fn four_at(s: &[u8], k: usize) -> u32
     requires { ⌜ k < 62 ⌝ }
     ensures { λ r. ⌜ r ≡ fourAt (now (s .entry)) k ⌝ }
 {
-    two_at(s, k) as u32 * 65536 + two_at(s, k + 2) as u32
+    two_at(s, k) as u32 * 65_536 + two_at(s, k + 2) as u32
 }
 
 // The bytes from a place on, none past the end.
@@ -84,6 +84,6 @@ pub fn put_four(out: &mut [u8], at: usize, x: u32) -> usize
     requires { ⌜ at + 4 ≤ length (now out) ⌝ }
     ensures { λ r. ⌜ Put (now (out .entry)) at (fourBytes x) (now (out .exit)) r ⌝ }
 {
-    let next = put_two(out, at, (x / 65536) as u16);
-    put_two(out, next, (x % 65536) as u16)
+    let next = put_two(out, at, (x / 65_536) as u16);
+    put_two(out, next, (x % 65_536) as u16)
 }

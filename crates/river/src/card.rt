@@ -10,6 +10,14 @@ pub const REACH_BYTES: usize = 26;
 
 pub const DAM_BYTES: usize = 8;
 
+// The most reaches of a river.
+pub const REACHES: usize = 128;
+
+// The length of the longest card's records, and of the longest file.
+pub const LONGEST_CARD: usize = REACH_BYTES + DAM_BYTES;
+
+pub const LONGEST_FILE: usize = HEADER_BYTES + REACHES * LONGEST_CARD;
+
 // A dam is either none or an aeration share, in thousandths, with a generating flow, in litres a second.
 pub enum Dam {
     Absent,
@@ -32,7 +40,7 @@ pub struct Card {
 
 // The cards of a river: the first `count` of them.
 pub struct Cards {
-    pub at: [Card; 128],
+    pub at: [Card; REACHES],
     pub count: u8,
 }
 

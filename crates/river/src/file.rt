@@ -3,6 +3,7 @@ ghost use Rattle.river.specs.Refusal.{Answer};
 ghost use Rattle.river.specs.Reader.{ReadingIsOver};
 ghost use Rattle.river.specs.File.{Yields, Reads};
 use crate::card::Cards;
+use crate::card::REACHES;
 use crate::card::blank;
 use crate::reader::Progress;
 use crate::reader::begin;
@@ -22,7 +23,7 @@ pub fn refused(r: Refusal) -> Reading
     ensures { λ x. ⌜ Yields (Answer.refused r) x ⌝ }
 {
     let none = blank();
-    let at = [none; 128];
+    let at = [none; REACHES];
     Reading {
         outcome: Outcome::Refused(r),
         cards: Cards { at, count: 0 },

@@ -9,6 +9,7 @@ ghost use Rattle.river.specs.FlowTable.{Decides, tableSum, tableMax, Sum
 use crate::card::Card;
 use crate::card::Cards;
 use crate::card::Dam;
+use crate::card::REACHES;
 use crate::refusal::Outcome;
 use crate::refusal::refuse;
 use crate::source::bod_source;
@@ -25,10 +26,10 @@ const RATE_LIMIT: u64 = 345_600;
 
 // Tables of the reaches that passed: outlet, flow, undecayed BOD and depth.
 pub struct FlowTable {
-    pub outlet: [u8; 128],
-    pub flow: [u64; 128],
-    pub mass: [u64; 128],
-    pub depth: [u8; 128],
+    pub outlet: [u8; REACHES],
+    pub flow: [u64; REACHES],
+    pub mass: [u64; REACHES],
+    pub depth: [u8; REACHES],
 }
 
 // What the flow check yields: the flows of every reach if the river is accepted, or a refusal.
@@ -46,8 +47,8 @@ pub struct Upstream {
 
 // The sum of a table over the feeders of a reach among the first n reaches.
 pub(crate) fn feeder_sum<'a>(
-    outlet: &'a [u8; 128],
-    values: &'a [u64; 128],
+    outlet: &'a [u8; REACHES],
+    values: &'a [u64; REACHES],
     n: usize,
     reach: u8,
 ) -> u64
@@ -72,7 +73,7 @@ fn larger(a: u8, b: u8) -> u8
 }
 
 // The largest depth of the feeders of a reach among the first n reaches.
-fn feeder_depth<'a>(outlet: &'a [u8; 128], depth: &'a [u8; 128], n: usize, reach: u8) -> u8
+fn feeder_depth<'a>(outlet: &'a [u8; REACHES], depth: &'a [u8; REACHES], n: usize, reach: u8) -> u8
     requires { ⌜ n ≤ 128 ⌝ }
     ensures { λ r. ⌜ r ≡ tableMax (now (outlet .entry)) (now (depth .entry)) n reach ⌝ }
 {
@@ -241,10 +242,10 @@ pub(crate) fn no_flows() -> FlowTable
     ensures { λ r. ⌜ r ≡ noFlows ⌝ }
 {
     FlowTable {
-        outlet: [0u8; 128],
-        flow: [0u64; 128],
-        mass: [0u64; 128],
-        depth: [0u8; 128],
+        outlet: [0u8; REACHES],
+        flow: [0u64; REACHES],
+        mass: [0u64; REACHES],
+        depth: [0u8; REACHES],
     }
 }
 

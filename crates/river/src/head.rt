@@ -14,6 +14,7 @@ ghost use Rattle.river.specs.HeadTable.{PartOf, HeadReady, DemandReady, 
 use crate::card::Card;
 use crate::card::Cards;
 use crate::card::Dam;
+use crate::card::REACHES;
 use crate::flow::FlowTable;
 use crate::flow::feeder_sum;
 use crate::source::Source;
@@ -27,8 +28,8 @@ pub const STORED_ZERO_WIDE: u64 = STORED_ZERO as u64;
 
 // Tables of the reaches above: flow times foot BOD, and flow times stored foot oxygen.
 pub struct FootTable {
-    pub bod: [u64; 128],
-    pub oxygen: [u64; 128],
+    pub bod: [u64; REACHES],
+    pub oxygen: [u64; REACHES],
 }
 
 // BOD and stored oxygen at the head of a reach.
@@ -56,16 +57,21 @@ pub fn saturation_of(card: Card) -> u32
     saturation(card.temperature)
 }
 
+// A long division goes on by 16 bits.
+const CHUNK: u32 = 65_536;
+
+const CHUNK_WIDE: u64 = 65_536;
+
 // The floor of a * b / d by long division in two chunks of 16 bits of a.
 fn share_of(a: u32, b: u64, d: u64) -> u64
     requires { ⌜ PartOf b d ⌝ }
     ensures { λ r. ⌜ r ≡ a * b / d ⌝ }
 {
-    let high = (a / 65536) as u64;
-    let low = (a % 65536) as u64;
+    let high = (a / CHUNK) as u64;
+    let low = (a % CHUNK) as u64;
     let first = high * b;
-    let rest = first % d * 65536 + low * b;
-    first / d * 65536 + rest / d
+    let rest = first % d * CHUNK_WIDE + low * b;
+    first / d * CHUNK_WIDE + rest / d
 }
 
 // Stored oxygen after `weight` parts in `whole` of the water have come to saturation.
@@ -146,8 +152,8 @@ pub fn no_feet() -> FootTable
     ensures { λ r. ⌜ r ≡ noFeet ⌝ }
 {
     FootTable {
-        bod: [0u64; 128],
-        oxygen: [0u64; 128],
+        bod: [0u64; REACHES],
+        oxygen: [0u64; REACHES],
     }
 }
 

@@ -4,30 +4,46 @@ ghost use Rattle.river.specs.Card.{optional, optionalOf, inRange, damInR
 ghost use Rattle.river.specs.Optional.{optionalsInRange};
 use crate::card::Card;
 use crate::card::Dam;
+use crate::card::REACHES;
+
+// The largest values of the fields of `RE` and `DM` records.
+const TEMPERATURE_MOST: u8 = 35;
+
+const RATE_MOST: u16 = 20_000;
+
+const VOLUME_MOST: u32 = 1_000_000_000;
+
+const FLOW_MOST: u32 = 100_000_000;
+
+const BOD_MOST: u32 = 1_000_000;
+
+const OXYGEN_MOST: u16 = 20_000;
+
+const SHARE_MOST: u16 = 1_000;
 
 // Whether the fields of a card's `RE` record are in range.
 pub fn in_range(c: Card) -> bool
     ensures { λ r. ⌜ r ≡ inRange c ⌝ }
 {
-    if 35 < c.temperature {
+    if TEMPERATURE_MOST < c.temperature {
         return false;
     }
-    if 20000 < c.k1 {
+    if RATE_MOST < c.k1 {
         return false;
     }
-    if 20000 < c.k2 {
+    if RATE_MOST < c.k2 {
         return false;
     }
-    if 1000000000 < c.volume {
+    if VOLUME_MOST < c.volume {
         return false;
     }
-    if 100000000 < c.inflow {
+    if FLOW_MOST < c.inflow {
         return false;
     }
-    if 1000000 < c.inflow_bod {
+    if BOD_MOST < c.inflow_bod {
         return false;
     }
-    c.inflow_oxygen <= 20000
+    c.inflow_oxygen <= OXYGEN_MOST
 }
 
 // Whether the fields of a dam's `DM` record are in range.
@@ -37,10 +53,10 @@ pub fn dam_in_range(d: Dam) -> bool
     let Dam::Aerating { share, generating } = d else {
         return true;
     };
-    if 1000 < share {
+    if SHARE_MOST < share {
         return false;
     }
-    generating <= 100000000
+    generating <= FLOW_MOST
 }
 
 // Whether the fields of the records that follow a card's `RE` record are in range.
@@ -71,5 +87,5 @@ pub fn count_ok(n: usize) -> bool
     if n < 1 {
         return false;
     }
-    n <= 128
+    n <= REACHES
 }

@@ -1,6 +1,6 @@
 // Reading of a river file: the header, then card after card.
 ghost use mathlib.Core.Path.{_≡_};
-ghost use Prim.Native.Nat.{_<_};
+ghost use Prim.Native.Nat.{_<_, _^_};
 ghost use lib.ListN.{drop};
 ghost use Rattle.river.specs.Card.{reachBytes, damRecord, optional};
 ghost use Rattle.river.specs.Optional.{readOptional, readOptionals};
@@ -102,7 +102,7 @@ pub fn read_dam(s: &[u8], reach: u8) -> DamRead
 
 // The card at a position, whose `RE` record stands at the start, with the records that follow.
 fn read_card(s: &[u8], at: usize, reach: u8) -> Reach
-    requires { ⌜ at < 9223372036854775808 ⌝ }
+    requires { ⌜ at < 2 ^ 63 ⌝ }
     ensures { λ r. ⌜ r ≡ reachOf at (after (readOptionals optional reach (drop reachBytes (now (s .entry)))) (λ vs. accepted (cardAt (now (s .entry)) vs))) ⌝ }
 {
     match read_dam(behind(s, REACH_BYTES), reach) {
@@ -119,7 +119,7 @@ fn read_card(s: &[u8], at: usize, reach: u8) -> Reach
 
 // A reach at the start, at a position of the file: refusals 1, 2, 4 and 5, then the records that follow.
 fn read_here(s: &[u8], at: usize, count: u8, reach: u8) -> Reach
-    requires { ⌜ at < 9223372036854775808 ⌝ }
+    requires { ⌜ at < 2 ^ 63 ⌝ }
     ensures { λ r. ⌜ r ≡ reachOf at (readReach count reach (now (s .entry))) ⌝ }
 {
     if s.len() < REACH_BYTES {

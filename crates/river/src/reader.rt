@@ -5,6 +5,7 @@ ghost use lib.ListN.{drop};
 ghost use Rattle.river.specs.Read.{readReach, reachOf};
 ghost use Rattle.river.specs.Reader.{ReadingGoesOn, ReadingIsOver, Takes};
 use crate::card::Card;
+use crate::card::REACHES;
 use crate::card::blank;
 use crate::read::Header;
 use crate::read::Reach;
@@ -23,7 +24,7 @@ pub struct Reader<'a> {
 // What has been read of a file: a refusal, or the first cards of so many, and the position behind them.
 pub struct Progress {
     pub outcome: Outcome,
-    pub at: [Card; 128],
+    pub at: [Card; REACHES],
     pub count: u8,
     pub read: u8,
     pub next: usize,
@@ -61,7 +62,7 @@ pub fn begin(file: &[u8]) -> Progress
 {
     let header = read_header(file);
     let none = blank();
-    let at = [none; 128];
+    let at = [none; REACHES];
     let Header::Count { count, next } = header else {
         return Progress {
             outcome: Outcome::Refused(header_refusal(header)),

@@ -8,6 +8,7 @@ ghost use Rattle.river.specs.Card.{headerBytes, longestCard, sizeOf, riv
 use crate::card::Card;
 use crate::card::Cards;
 use crate::card::HEADER_BYTES;
+use crate::card::REACHES;
 use crate::card::size_of;
 use crate::put::put_card;
 use crate::put::put_header;
@@ -166,7 +167,7 @@ pub fn write(cards: &[Card], out: &mut [u8]) -> Written
 }
 
 // The file of the first n cards of an array, which are lent to the writer.
-pub fn write_first(at: [Card; 128], n: usize, out: &mut [u8]) -> Written
+pub fn write_first(at: [Card; REACHES], n: usize, out: &mut [u8]) -> Written
     requires { ⌜ n ≤ 128 ⌝ }
     ensures { λ r. ⌜ Writes (length (take n at)) (take n at) (now (out .entry)) r (now (out .exit)) ⌝ }
 {

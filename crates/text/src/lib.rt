@@ -9,6 +9,8 @@ use put::put_word;
 use report::record::RP_SIZE;
 use report::record::read_record;
 use river::bytes::two_at;
+use river::card::LONGEST_FILE;
+use river::card::REACHES;
 ghost use Prim.Native.Nat.{_*_, _≤_};
 ghost use lib.ListN.{length};
 ghost use Rattle.io.specs.Counts.{Counts};
@@ -16,13 +18,13 @@ ghost use Rattle.text.specs.Text.{linesOf, refusalLine, Renders};
 ghost use Rattle.text.specs.Held.{longestLine, recorded, PutWithin};
 
 // One byte past the longest lawful file, so that a longer one is seen to be too long.
-pub const FILE: usize = 4357;
+pub const FILE: usize = LONGEST_FILE + 1;
 
 // The longest report: 128 records.
-const REPORT: usize = 128 * RP_SIZE;
+const REPORT: usize = REACHES * RP_SIZE;
 
 // Room for the longest text: 128 lines of nine numbers, of 22 bytes at most with a sign and what stands after the number.
-pub const TEXT: usize = 128 * 9 * 22;
+pub const TEXT: usize = REACHES * 9 * 22;
 
 // Puts the lines of the first reaches of a report whose records have this size.
 fn put_lines(out: &mut [u8], report: &[u8], size: usize, count: usize) -> usize
