@@ -134,7 +134,7 @@ def compare(report):
     print("| largest distance from Table 4, mg/L | " + " | ".join(FIGURES) + " |")
     print("|---" * (len(FIGURES) + 1) + "|")
     for name, rows in (("the study's program, T² coefficient 0.00791 as in its listing", study(0.00791, False)),
-                       ("with 0.007991, as in its text and in document 01", study(0.007991, False)),
+                       ("with 0.007991, as in its text and in the river file paper", study(0.007991, False)),
                        ("and with the dams' constants in the shares", study(0.007991, True)),
                        ("our report", ours)):
         print(f"| {name} | " + " | ".join(f"{x:.3f}" for x in largest(rows)) + " |")

@@ -1,4 +1,4 @@
-// The bench values of document 01 that are not proved as rows, and a few more rivers: the result of reporting on each file and,
+// The bench values of the river file paper that are not proved as rows, and a few more rivers: the result of reporting on each file and,
 // for accepted ones, foot BOD, foot oxygen, critical instant and critical oxygen of each reach.
 ghost use Prim.Native.Nat.{_≤_};
 use report::record;
@@ -71,7 +71,7 @@ fn distance(a: u32, b: u32) -> u64
     }
 }
 
-// The bench value of document 01: both rates 1,000; foot BOD 3,678,794 and foot oxygen 10,973,206, errors together at most 100.
+// The bench value of the river file paper: both rates 1,000; foot BOD 3,678,794 and foot oxygen 10,973,206, errors together at most 100.
 fn equal_rates() {
     let mut report = [0u8; RP_SIZE];
     let file =

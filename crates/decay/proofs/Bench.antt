@@ -1,4 +1,4 @@
--- The promise at document 01's bench reach: both rates 1,000, volume 864,000 and flow 10,000. Of BOD 10 mg/L, 3.678794 are left at the foot.
+-- The promise at the river file paper's bench reach: both rates 1,000, volume 864,000 and flow 10,000. Of BOD 10 mg/L, 3.678794 are left at the foot.
 use mathlib.Core.Path.{_≡_, refl}
 use lib.Dec.{lit≤}
 use Rattle.decay.specs.Fixed.{product, quotient}

@@ -1,4 +1,4 @@
--- The exact fractions of document 01, "Along a reach": x1 and x2 at instant m, S(x) with N terms, and F in its two cases.
+-- The exact fractions of the river file paper, "Along a reach": x1 and x2 at instant m, S(x) with N terms, and F in its two cases.
 use mathlib.Core.Bool.{cond}
 use Prim.Native.Nat.{ℕ, zero, suc, _*_}
 use lib.Dec.{eqb}

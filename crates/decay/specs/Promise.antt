@@ -1,4 +1,4 @@
--- The promise of the arithmetic layer: how far the factors of instant m lie from document 01's S and F.
+-- The promise of the arithmetic layer: how far the factors of instant m lie from the river file paper's S and F.
 use Prim.Native.Nat.{ℕ}
 use Rattle.decay.specs.Fraction.{Fraction, ofℕ, _+ᶠ_, _÷_, _≼_, ∣_∣ᶠ, distance}
 use Rattle.decay.specs.Exact.{exponent, S, F}

@@ -1,4 +1,4 @@
--- The bench values of document 01 that are to be proved, gathered as rows of one theorem: those of flows and heads, the two lines of
+-- The bench values of the river file paper that are to be proved, gathered as rows of one theorem: those of flows and heads, the two lines of
 -- the printing program's example, and the second of them below a dam.
 use mathlib.Core.Path.{_≡_, refl, _∙_, ap}
 use mathlib.Core.Bool.{true}

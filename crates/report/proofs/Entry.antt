@@ -99,7 +99,7 @@ unfolding resultOf bufferReported
 left-alone (accepted cards) before h = absurd (h refl)
 left-alone (refused r) before h = refl
 
--- THEOREM: what the entry returns and leaves behind is all that document 01 says of reporting, demand 3 included
+-- THEOREM: what the entry returns and leaves behind is all that the river file paper says of reporting, demand 3 included
 pub reports-of :
     (file before after : List ℕ) (result : ℕ) →
     AreBytes file →

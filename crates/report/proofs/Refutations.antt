@@ -1,4 +1,4 @@
--- Reports that document 01 calls wrong stray by more than demand 3's distance, whatever else they say: proved for a river of two reaches,
+-- Reports that the river file paper calls wrong stray by more than demand 3's distance, whatever else they say: proved for a river of two reaches,
 -- at N = 40, by computing its exact figures.
 use mathlib.Core.Path.{_≡_, refl}
 use mathlib.Core.List.{List, [], _∷_}
@@ -20,7 +20,7 @@ use Rattle.report.specs.Record.{Figures}
 use Rattle.report.specs.Recurrence.{exactSaturation, exactMean, exactBelowDam, exactMixedDemand, exactMixedOxygen, exactHeadDemand, exactHeadOxygen, exactBodAlong, exactOxygenAlong, exactBodSum, exactBodAtHead, exactOxygenAtHead, exactBodAt, exactOxygenAt}
 use Rattle.report.specs.Distance.{stepUnits, allowanceAt, WithinAllowance}
 
--- the reach of document 01's bench values, by outlet and inflow
+-- the reach of the river file paper's bench values, by outlet and inflow
 abbrev reach : (outlet inflow : ℕ) → Card
 reach outlet inflow =
     record {

@@ -1,4 +1,4 @@
--- The exact recurrence of document 01 at the series length N: the steps of a head and the formulas along a reach, with
+-- The exact recurrence of the river file paper at the series length N: the steps of a head and the formulas along a reach, with
 -- nothing rounded, saturation included. A feeder's foot is the feeder's exact foot. Concentrations are in units.
 use mathlib.Core.Bool.{Bool, true, false}
 use Prim.Native.Nat.{ℕ, _+_, _*_, _-_}

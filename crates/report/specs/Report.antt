@@ -1,4 +1,4 @@
--- "Reporting" of document 01: what a call of the entry returns and leaves in the report buffer.
+-- "Reporting" of the river file paper: what a call of the entry returns and leaves in the report buffer.
 use mathlib.Core.Path.{_≡_}
 use mathlib.Core.Logic.{_↔_}
 use mathlib.Core.List.{List, [], _++_}

@@ -1,4 +1,4 @@
--- The bench values of document 01 for flows and heads, and the empty file, proved from the definitions by computation.
+-- The bench values of the river file paper for flows and heads, and the empty file, proved from the definitions by computation.
 use mathlib.Core.Path.{_≡_, refl}
 use mathlib.Core.List.{List, [], _∷_}
 use Prim.Native.Nat.{ℕ, _*_}

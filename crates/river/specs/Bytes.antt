@@ -17,7 +17,7 @@ twoBytes x = x / 256 ∷ x % 256 ∷ []
 
 -- a number as four bytes
 abbrev pub fourBytes : ℕ → List ℕ
-fourBytes x = twoBytes (x / 65536) ++ twoBytes (x % 65536)
+fourBytes x = twoBytes (x / 65_536) ++ twoBytes (x % 65_536)
 
 -- the byte at a place
 abbrev pub byteAt : List ℕ → ℕ → ℕ
@@ -29,7 +29,7 @@ twoAt s k = byteAt s k * 256 + byteAt s (k + 1)
 
 -- the number in the four bytes from a place on
 abbrev pub fourAt : List ℕ → ℕ → ℕ
-fourAt s k = twoAt s k * 65536 + twoAt s (k + 2)
+fourAt s k = twoAt s k * 65_536 + twoAt s (k + 2)
 
 -- a two-byte mark
 pub record Mark : Type 0 where

@@ -36,17 +36,17 @@ blank =
 -- the ranges of an `RE` record's fields
 pub record FieldsInRange (c : Card) : Type 0 where
   pub temperature : c .temperature ≤ 35
-  pub k1 : c .k1 ≤ 20000
-  pub k2 : c .k2 ≤ 20000
-  pub volume : c .volume ≤ 1000000000
-  pub inflow : c .inflow ≤ 100000000
-  pub inflow-bod : c .«inflow_bod» ≤ 1000000
-  pub inflow-oxygen : c .«inflow_oxygen» ≤ 20000
+  pub k1 : c .k1 ≤ 20_000
+  pub k2 : c .k2 ≤ 20_000
+  pub volume : c .volume ≤ 1_000_000_000
+  pub inflow : c .inflow ≤ 100_000_000
+  pub inflow-bod : c .«inflow_bod» ≤ 1_000_000
+  pub inflow-oxygen : c .«inflow_oxygen» ≤ 20_000
 
 -- the ranges of a `DM` record's fields
 pub record DamInRange (s g : ℕ) : Type 0 where
   pub share : s ≤ 1000
-  pub generating : g ≤ 100000000
+  pub generating : g ≤ 100_000_000
 
 -- a dam is none, or has its numbers in range
 abbrev pub LawfulDam : Dam → Type 0
@@ -60,7 +60,7 @@ outletOk n i o = cond (eqb i n) (eqb o 0) (ltb i o && leb o n)
 -- a lawful card of reach i of n; any load that four bytes hold will do
 pub record LawfulCard (n i : ℕ) (c : Card) : Type 0 where
   pub in-range : FieldsInRange c
-  pub load : c .load < 4294967296
+  pub load : c .load < 4_294_967_296
   pub outlet : outletOk n i (c .outlet) ≡ true
   pub dam : LawfulDam (c .dam)
 
@@ -79,14 +79,14 @@ pub record Lawful (cs : List Card) : Type 0 where
 unfoldable pub inRange : Card → Bool
 inRange c =
     leb (c .temperature) 35 &&
-    (leb (c .k1) 20000 &&
-    (leb (c .k2) 20000 &&
-    (leb (c .volume) 1000000000 &&
-    (leb (c .inflow) 100000000 && (leb (c .«inflow_bod») 1000000 && leb (c .«inflow_oxygen») 20000)))))
+    (leb (c .k1) 20_000 &&
+    (leb (c .k2) 20_000 &&
+    (leb (c .volume) 1_000_000_000 &&
+    (leb (c .inflow) 100_000_000 && (leb (c .«inflow_bod») 1_000_000 && leb (c .«inflow_oxygen») 20_000)))))
 
 unfoldable pub damInRange : Dam → Bool
 damInRange Absent = true
-damInRange (Aerating s g) = leb s 1000 && leb g 100000000
+damInRange (Aerating s g) = leb s 1000 && leb g 100_000_000
 
 -- the test of a reach count
 unfoldable pub countOk : ℕ → Bool

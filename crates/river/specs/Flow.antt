@@ -1,4 +1,4 @@
--- "Flows and depth" of document 01: what flows into a reach, its flow, undecayed BOD and depth, and the flow check.
+-- "Flows and depth" of the river file paper: what flows into a reach, its flow, undecayed BOD and depth, and the flow check.
 use mathlib.Core.Path.{_≡_}
 use mathlib.Core.Bool.{Bool, true, false, _&&_}
 use mathlib.Core.List.{List}

@@ -1,4 +1,4 @@
--- "Head of a reach" of document 01: upstream means, the dam and mixing, as equations over the feeders' foot values.
+-- "Head of a reach" of the river file paper: upstream means, the dam and mixing, as equations over the feeders' foot values.
 -- Concentrations are in units; oxygen is signed; every quotient is rounded down, also below zero.
 use mathlib.Core.Bool.{Bool, true, false}
 use Prim.Native.Nat.{ℕ, _+_, _*_, _-_, _/_}

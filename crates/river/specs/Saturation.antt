@@ -1,10 +1,10 @@
--- Saturation of oxygen: at a temperature in degrees C, by the polynomial of document 01, and of a reach, by its card.
+-- Saturation of oxygen: at a temperature in degrees C, by the polynomial of the river file paper, and of a reach, by its card.
 use Prim.Native.Nat.{ℕ, _+_, _*_, _-_, _/_, _≤_}
 use Rattle.river.specs.declared.card.Card.{Card}
 
 -- exact saturation, in thousandths of a unit: 14.652 − 0.41022 T + 0.007991 T² − 0.000077774 T³ mg/L, which is above zero from 0 to 35 degrees
 unfoldable pub saturationThousandths : ℕ → ℕ
-saturationThousandths T = 14652000000 + 7991000 * (T * T) - (410220000 * T + 77774 * (T * T * T))
+saturationThousandths T = 14_652_000_000 + 7_991_000 * (T * T) - (410_220_000 * T + 77_774 * (T * T * T))
 
 -- saturation rounded to a unit
 unfoldable pub saturation : ℕ → ℕ

@@ -87,4 +87,4 @@ pub record HasRoom (cs : List Card) (room l : ℕ) : Type 0 where
 -- each load is a number of four bytes, as the field's type has it
 abbrev pub LoadsFit : List Card → Type 0
 LoadsFit [] = Unit
-LoadsFit (c ∷ cs) = (c .load < 4294967296) × LoadsFit cs
+LoadsFit (c ∷ cs) = (c .load < 4_294_967_296) × LoadsFit cs

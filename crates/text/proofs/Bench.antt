@@ -1,4 +1,4 @@
--- Texts of document 01, computed from the definitions: both lines of the printing program's example and its refusal; and a few numbers.
+-- Texts of the river file paper, computed from the definitions: both lines of the printing program's example and its refusal; and a few numbers.
 use mathlib.Core.Path.{_≡_, refl}
 use lib.IntN.{pos, negsuc}
 use Rattle.river.specs.declared.card.Dam.the-variants.{Absent}

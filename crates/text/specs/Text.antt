@@ -1,4 +1,4 @@
--- "The printing program" of document 01: the text of a river's report, or of its refusal, as ASCII codes.
+-- "The printing program" of the river file paper: the text of a river's report, or of its refusal, as ASCII codes.
 use mathlib.Core.Bool.{Bool, true, false}
 use mathlib.Core.List.{List, [], _∷_, _++_, map}
 use mathlib.Core.Path.{_≡_}

@@ -1,4 +1,4 @@
--- The shares of a step of a reach against document 01's S and F at one step: within 3 units for BOD lost and deficit filled, 5 for BOD used.
+-- The shares of a step of a reach against the river file paper's S and F at one step: within 3 units for BOD lost and deficit filled, 5 for BOD used.
 use mathlib.Core.List.{[], _∷_}
 use Prim.Native.Nat.{ℕ, _*_, _^_, _≤_, _<_, zero-le}
 use native.Mathlib.Nat.{mul-one, le-trans}

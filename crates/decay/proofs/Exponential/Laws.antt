@@ -1,5 +1,5 @@
--- The laws of S and F, stated over the definitions of specs/ alone, with distances as document 01 compares errors.
--- The premises k × volume <= 345,600 × Q are check 11 of document 01: they keep the exponents at most 4.
+-- The laws of S and F, stated over the definitions of specs/ alone, with distances as the river file paper compares errors.
+-- The premises k × volume <= 345,600 × Q are check 11 of the river file paper: they keep the exponents at most 4.
 use Prim.Native.Nat.{ℕ, suc, _*_, _^_, _≤_}
 use Rattle.decay.specs.Fraction.{Fraction, ofℕ, _+ᶠ_, _*ᶠ_, _÷_, _≼_, distance}
 use Rattle.decay.specs.Exact.{exponent, S, F}
