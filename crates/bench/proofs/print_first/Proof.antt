@@ -13,15 +13,6 @@ abbrev μ-loop : tie.MeasureT-loop
 loop-holds : tie.Need-loop-holds Inv-loop μ-loop
 loop-holds c = tt
 
-cast-place : tie.Need-cast-place Inv-loop μ-loop
-cast-place c = omega arith
-
-mul-if1 : tie.Need-mul-if1 Inv-loop μ-loop
-mul-if1 c = omega arith
-
-add-if1 : tie.Need-add-if1 Inv-loop μ-loop
-add-if1 c = omega arith
-
 returns : tie.Need-returns Inv-loop μ-loop
 returns c = tt
 
@@ -30,12 +21,6 @@ read-record-requires c κs = omega arith
 
 print-reach-requires : tie.Need-print-reach-requires Inv-loop μ-loop
 print-reach-requires c κs = tt
-
-add-i : tie.Need-add-i Inv-loop μ-loop
-add-i c = omega arith
-
-loop-less : tie.Need-loop-less Inv-loop μ-loop
-loop-less c = omega arith
 
 loop-again : tie.Need-loop-again Inv-loop μ-loop
 loop-again c = tt
@@ -50,13 +35,13 @@ print-first-spec =
     Inv-loop
     μ-loop
     loop-holds
-    cast-place
-    mul-if1
-    add-if1
+    (λ cast-place. omega arith)
+    (λ mul-if1. omega arith)
+    (λ add-if1. omega arith)
     returns
     read-record-requires
     print-reach-requires
-    add-i
-    loop-less
+    (λ add-i. omega arith)
+    (λ loop-less. omega arith)
     loop-again
     returns-2)

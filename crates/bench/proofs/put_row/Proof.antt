@@ -31,12 +31,6 @@ outlet-of-requires c κs = tt
 put-reach-requires : tie.Need-put-reach-requires Inv-loop μ-loop
 put-reach-requires c κs = tt
 
-add-i : tie.Need-add-i Inv-loop μ-loop
-add-i c = omega arith
-
-loop-less : tie.Need-loop-less Inv-loop μ-loop
-loop-less c = omega arith
-
 loop-again : tie.Need-loop-again Inv-loop μ-loop
 loop-again c = omega arith
 
@@ -58,8 +52,8 @@ put-row-spec =
     loop-holds
     outlet-of-requires
     put-reach-requires
-    add-i
-    loop-less
+    (λ add-i. omega arith)
+    (λ loop-less. omega arith)
     loop-again
     same-length
     returns)

@@ -18,12 +18,6 @@ loop-holds c = (c .pre .1, omega arith)
 next-requires : tie.Need-next-requires Inv-loop μ-loop
 next-requires c κs = (c .before .before .pre .0, c .before .loop .inv .0)
 
-add-i : tie.Need-add-i Inv-loop μ-loop
-add-i c = omega arith
-
-loop-less : tie.Need-loop-less Inv-loop μ-loop
-loop-less c = omega arith
-
 loop-again : tie.Need-loop-again Inv-loop μ-loop
 loop-again c =
     (rw (c .next .ensures) (next-range (c .before .before .before .pre .0) (c .before .before .loop .inv .0)), omega arith)
@@ -34,4 +28,4 @@ returns c = c .before .loop .inv .0
 pub after-spec : {M : Type 1} → statement M
 after-spec =
     tie.close
-    (tie.spec Inv-loop μ-loop loop-holds next-requires add-i loop-less loop-again returns)
+    (tie.spec Inv-loop μ-loop loop-holds next-requires (λ add-i. omega arith) (λ loop-less. omega arith) loop-again returns)

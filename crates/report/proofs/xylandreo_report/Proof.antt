@@ -8,18 +8,6 @@ use borrow.Author.Needs.{needs}
 use Rattle.report.proofs.xylandreo_report.Statement.{statement}
 use Rattle.report.proofs.xylandreo_report.Tie as tie
 
-accept-requires : tie.Need-accept-requires
-accept-requires c κs = search needs
-
-enum-known-outcome : tie.Need-enum-known-outcome
-enum-known-outcome c = search needs
-
-code-requires : tie.Need-code-requires
-code-requires c κs = search needs
-
-enum-told : tie.Need-enum-told
-enum-told c = search needs
-
 report-size-requires : tie.Need-report-size-requires
 report-size-requires c κs =
     c .before .before .before .accept .ensures .lawful (c .before .enum-told .given .1) .few
@@ -47,9 +35,6 @@ returns-2 c =
     let a = c .before .before .before .before in
     reports-refusal (are-bytes (a .before .before)) (file-refused (a .accept .ensures) _ (c .before .before .outcome .given .1)) (c .code .ensures)
 
-same-length : tie.Need-same-length
-same-length c = search needs
-
 returns-3 : tie.Need-returns-3
 returns-3 c =
     let a = c .before .before .before .before .before .before .before .before .before .before in
@@ -62,13 +47,13 @@ pub xylandreo-report-spec : {M : Type 1} → statement M
 xylandreo-report-spec =
     tie.close
     (tie.spec
-    accept-requires
-    enum-known-outcome
-    code-requires
-    enum-told
+    (λ accept-requires. search needs)
+    (λ enum-known-outcome. search needs)
+    (λ code-requires. search needs)
+    (λ enum-told. search needs)
     report-size-requires
     returns
     report-all-requires
     returns-2
-    same-length
+    (λ same-length. search needs)
     returns-3)

@@ -7,29 +7,11 @@ use Rattle.report.proofs.Rewrite.{rewrites}
 use Rattle.report.proofs.xylandreo_rewrite.Statement.{statement}
 use Rattle.report.proofs.xylandreo_rewrite.Tie as tie
 
-rewrite-requires : tie.Need-rewrite-requires
-rewrite-requires c κs = search needs
-
-enum-known-r : tie.Need-enum-known-r
-enum-known-r c = search needs
-
-code-requires : tie.Need-code-requires
-code-requires c κs = search needs
-
-enum-told : tie.Need-enum-told
-enum-told c = search needs
-
-same-length : tie.Need-same-length
-same-length c = search needs
-
 returns : tie.Need-returns
 unfolding resultOf
 returns c =
     let a = c .before .before .before .before .before .before in
     rewrites _ (a .rewrite .ensures) (c .before .before .r .given .1) (c .code .ensures)
-
-same-length-2 : tie.Need-same-length-2
-same-length-2 c = search needs
 
 returns-2 : tie.Need-returns-2
 unfolding resultOf
@@ -41,11 +23,11 @@ pub xylandreo-rewrite-spec : {M : Type 1} → statement M
 xylandreo-rewrite-spec =
     tie.close
     (tie.spec
-    rewrite-requires
-    enum-known-r
-    code-requires
-    enum-told
-    same-length
+    (λ rewrite-requires. search needs)
+    (λ enum-known-r. search needs)
+    (λ code-requires. search needs)
+    (λ enum-told. search needs)
+    (λ same-length. search needs)
     returns
-    same-length-2
+    (λ same-length-2. search needs)
     returns-2)

@@ -44,12 +44,6 @@ read-record-requires c κs =
     let l = c .before .loop in
     le-trans (mul-le-mul-left (c .before .before .before .before .args .size) (l .inv .within)) (l .inv .fits .1)
 
-add-i : tie.Need-add-i Inv-loop μ-loop
-add-i c = omega arith
-
-cast-numbers-of : tie.Need-cast-numbers-of Inv-loop μ-loop
-cast-numbers-of c = omega arith
-
 numbers-of-requires : tie.Need-numbers-of-requires Inv-loop μ-loop
 numbers-of-requires c κs = tt
 
@@ -63,9 +57,6 @@ slice-aggregate-put-line c = let n = c .before .before .numbers-of in sym (nine 
 
 put-line-requires : tie.Need-put-line-requires Inv-loop μ-loop
 put-line-requires c κs = let n = c .before .before .numbers-of in omega (arith, nine (n .result) _ _ (n .ensures))
-
-loop-less : tie.Need-loop-less Inv-loop μ-loop
-loop-less c = omega arith
 
 loop-again : tie.Need-loop-again Inv-loop μ-loop
 unfolding linesOf
@@ -104,12 +95,12 @@ put-lines-spec =
     μ-loop
     loop-holds
     read-record-requires
-    add-i
-    cast-numbers-of
+    (λ add-i. omega arith)
+    (λ cast-numbers-of. omega arith)
     numbers-of-requires
     slice-aggregate-put-line
     put-line-requires
-    loop-less
+    (λ loop-less. omega arith)
     loop-again
     same-length
     returns)

@@ -8,33 +8,6 @@ use Rattle.text.proofs.put.Puts.{both, reworded}
 use Rattle.text.proofs.put_refusal.Statement.{statement}
 use Rattle.text.proofs.put_refusal.Tie as tie
 
-slice-aggregate-put-word : tie.Need-slice-aggregate-put-word
-slice-aggregate-put-word c = search needs
-
-put-word-requires : tie.Need-put-word-requires
-put-word-requires c κs = search needs
-
-put-number-requires : tie.Need-put-number-requires
-put-number-requires c κs = search needs
-
-slice-aggregate-put-word-2 : tie.Need-slice-aggregate-put-word-2
-slice-aggregate-put-word-2 c = search needs
-
-put-word-requires-2 : tie.Need-put-word-requires-2
-put-word-requires-2 c κs = search needs
-
-put-number-requires-2 : tie.Need-put-number-requires-2
-put-number-requires-2 c κs = search needs
-
-slice-aggregate-put-word-3 : tie.Need-slice-aggregate-put-word-3
-slice-aggregate-put-word-3 c = search needs
-
-put-word-requires-3 : tie.Need-put-word-requires-3
-put-word-requires-3 c κs = search needs
-
-same-length : tie.Need-same-length
-same-length c = search needs
-
 -- the line of a refusal, word by word
 refusal-is : (n reach : ℕ) → ascii "refused " ++ number n ++ ascii " reach " ++ number reach ++ ascii "\n" ≡ refusalLine n reach
 unfolding refusalLine line afterWord
@@ -54,13 +27,13 @@ pub put-refusal-spec : {M : Type 1} → statement M
 put-refusal-spec =
     tie.close
     (tie.spec
-    slice-aggregate-put-word
-    put-word-requires
-    put-number-requires
-    slice-aggregate-put-word-2
-    put-word-requires-2
-    put-number-requires-2
-    slice-aggregate-put-word-3
-    put-word-requires-3
-    same-length
+    (λ slice-aggregate-put-word. search needs)
+    (λ put-word-requires. search needs)
+    (λ put-number-requires. search needs)
+    (λ slice-aggregate-put-word-2. search needs)
+    (λ put-word-requires-2. search needs)
+    (λ put-number-requires-2. search needs)
+    (λ slice-aggregate-put-word-3. search needs)
+    (λ put-word-requires-3. search needs)
+    (λ same-length. search needs)
     returns)

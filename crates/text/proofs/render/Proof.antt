@@ -9,21 +9,6 @@ use Rattle.text.proofs.put.Puts.{reworded}
 use Rattle.text.proofs.render.Statement.{statement}
 use Rattle.text.proofs.render.Tie as tie
 
-slice-aggregate-xylandreo-report : tie.Need-slice-aggregate-xylandreo-report
-slice-aggregate-xylandreo-report c = search needs
-
-xylandreo-report-requires : tie.Need-xylandreo-report-requires
-xylandreo-report-requires c κs = search needs
-
-slice-aggregate-put-lines : tie.Need-slice-aggregate-put-lines
-slice-aggregate-put-lines c = search needs
-
-two-at-requires : tie.Need-two-at-requires
-two-at-requires c κs = search needs
-
-cast-put-lines : tie.Need-cast-put-lines
-cast-put-lines c = search needs
-
 -- the elements of the file are bytes
 are-bytes : (c : tie.After-shared-slice-known) → AreBytes (c .before .args .file .now)
 are-bytes c = record { below = λ k. c .shared-slice-known .given k .fits }
@@ -35,9 +20,6 @@ put-lines-requires c κs =
     let river = x .xylandreo-report .ensures .accepts (t .if1 .taken) in
     let n = counted (are-bytes (x .before .before)) (river .passes) in
     omega (arith, c .two-at .ensures, n .0, n .1, river .holds, x .xylandreo-report .kept .1 .0, x .before .before .before .good)
-
-put-refusal-requires : tie.Need-put-refusal-requires
-put-refusal-requires c κs = search needs
 
 returns : tie.Need-returns
 returns c =
@@ -60,12 +42,12 @@ pub render-spec : {M : Type 1} → statement M
 render-spec =
     tie.close
     (tie.spec
-    slice-aggregate-xylandreo-report
-    xylandreo-report-requires
-    slice-aggregate-put-lines
-    two-at-requires
-    cast-put-lines
+    (λ slice-aggregate-xylandreo-report. search needs)
+    (λ xylandreo-report-requires. search needs)
+    (λ slice-aggregate-put-lines. search needs)
+    (λ two-at-requires. search needs)
+    (λ cast-put-lines. search needs)
     put-lines-requires
-    put-refusal-requires
+    (λ put-refusal-requires. search needs)
     returns
     returns-2)

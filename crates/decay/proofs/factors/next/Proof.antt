@@ -6,26 +6,14 @@ use Rattle.decay.proofs.factors.Instants.{moved}
 use Rattle.decay.proofs.factors.next.Statement.{statement}
 use Rattle.decay.proofs.factors.next.Tie as tie
 
-product-requires : tie.Need-product-requires
-product-requires c κs = search needs
-
 sub-t7 : tie.Need-sub-t7
 sub-t7 c = let s = c .before in let m = moved (s .args .f) (s .pre .0) in omega arith
-
-product-requires-2 : tie.Need-product-requires-2
-product-requires-2 c κs = search needs
 
 sub-t9 : tie.Need-sub-t9
 sub-t9 c = let s = c .before .before in let m = moved (s .args .f) (s .pre .0) in omega arith
 
-product-requires-3 : tie.Need-product-requires-3
-product-requires-3 c κs = search needs
-
 add-t11 : tie.Need-add-t11
 add-t11 c = let s = c .before .before .before in let m = moved (s .args .f) (s .pre .0) in omega arith
-
-product-requires-4 : tie.Need-product-requires-4
-product-requires-4 c κs = search needs
 
 sub-t13 : tie.Need-sub-t13
 sub-t13 c = let s = c .before .before .before .before in let m = moved (s .args .f) (s .pre .0) in omega arith
@@ -38,12 +26,12 @@ pub next-spec : {M : Type 1} → statement M
 next-spec =
     tie.close
     (tie.spec
-    product-requires
+    (λ product-requires. search needs)
     sub-t7
-    product-requires-2
+    (λ product-requires-2. search needs)
     sub-t9
-    product-requires-3
+    (λ product-requires-3. search needs)
     add-t11
-    product-requires-4
+    (λ product-requires-4. search needs)
     sub-t13
     returns)

@@ -30,9 +30,6 @@ after4 :
 after4 c =
     rw (c .chunk4 .ensures) (divided-next (positive (c .before .before .before .before .pre .0)) (after3 (c .before)))
 
-chunk-requires : tie.Need-chunk-requires
-chunk-requires c κs = search needs
-
 chunk-requires-2 : tie.Need-chunk-requires-2
 chunk-requires-2 c κs =
     let s = c .before in
@@ -54,4 +51,4 @@ returns c = after4 c .digits-is
 
 pub quotient-spec : {M : Type 1} → statement M
 quotient-spec =
-    tie.close (tie.spec chunk-requires chunk-requires-2 chunk-requires-3 chunk-requires-4 returns)
+    tie.close (tie.spec (λ chunk-requires. search needs) chunk-requires-2 chunk-requires-3 chunk-requires-4 returns)

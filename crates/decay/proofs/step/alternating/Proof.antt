@@ -5,18 +5,9 @@ use Rattle.decay.specs.Step.{alternatingSum}
 use Rattle.decay.proofs.step.alternating.Statement.{statement}
 use Rattle.decay.proofs.step.alternating.Tie as tie
 
-sub-result : tie.Need-sub-result
-sub-result c = search needs
-
-add-result : tie.Need-add-result
-add-result c = search needs
-
-sub-result-2 : tie.Need-sub-result-2
-sub-result-2 c = search needs
-
 returns : tie.Need-returns
 unfolding alternatingSum
 returns c = refl
 
 pub alternating-spec : {M : Type 1} → statement M
-alternating-spec = tie.close (tie.spec sub-result add-result sub-result-2 returns)
+alternating-spec = tie.close (tie.spec (λ sub-result. search needs) (λ add-result. search needs) (λ sub-result-2. search needs) returns)

@@ -4,18 +4,9 @@ use Rattle.decay.specs.Step.{nextTerms}
 use Rattle.decay.proofs.step.next_terms.Statement.{statement}
 use Rattle.decay.proofs.step.next_terms.Tie as tie
 
-add-both : tie.Need-add-both
-add-both c = search needs
-
-term-requires : tie.Need-term-requires
-term-requires c κs = search needs
-
-term-requires-2 : tie.Need-term-requires-2
-term-requires-2 c κs = search needs
-
 returns : tie.Need-returns
 unfolding nextTerms
 returns c = cc
 
 pub next-terms-spec : {M : Type 1} → statement M
-next-terms-spec = tie.close (tie.spec add-both term-requires term-requires-2 returns)
+next-terms-spec = tie.close (tie.spec (λ add-both. search needs) (λ term-requires. search needs) (λ term-requires-2 κs. search needs) returns)

@@ -26,9 +26,6 @@ fourth c =
     let a = c .before .before .before .args in
     c .next-terms3 .ensures ∙ ap (λ (t : Terms). nextTerms t (a .y) (a .z) 4) (third (c .before))
 
-next-terms-requires : tie.Need-next-terms-requires
-next-terms-requires c κs = search needs
-
 next-terms-requires-2 : tie.Need-next-terms-requires-2
 next-terms-requires-2 c κs =
     let s = c .before in
@@ -60,7 +57,7 @@ pub series-spec : {M : Type 1} → statement M
 series-spec =
     tie.close
     (tie.spec
-    next-terms-requires
+    (λ next-terms-requires. search needs)
     next-terms-requires-2
     next-terms-requires-3
     alternating-requires

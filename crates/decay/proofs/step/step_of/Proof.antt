@@ -17,12 +17,6 @@ small2 c =
     let s = c .before .before in
     rw (c .exponent2 .ensures) (exponent-small (s .args .k2) (s .args .volume) (s .args .flow) (s .pre .k2-short))
 
-exponent-requires : tie.Need-exponent-requires
-exponent-requires c κs = search needs
-
-exponent-requires-2 : tie.Need-exponent-requires-2
-exponent-requires-2 c κs = search needs
-
 series-requires : tie.Need-series-requires
 series-requires c κs = (small1 (c .before), small2 c)
 
@@ -42,8 +36,8 @@ pub step-of-spec : {M : Type 1} → statement M
 step-of-spec =
     tie.close
     (tie.spec
-    exponent-requires
-    exponent-requires-2
+    (λ exponent-requires. search needs)
+    (λ exponent-requires-2. search needs)
     series-requires
     series-requires-2
     sub-t9

@@ -12,30 +12,6 @@ Inv-loop out i₀ i = i ≤ length out
 abbrev μ-loop : tie.MeasureT-loop
 μ-loop out i₀ i = length out - i
 
-loop-holds : tie.Need-loop-holds Inv-loop μ-loop
-loop-holds c = search needs
-
-shared-slice-read-wide : tie.Need-shared-slice-read-wide Inv-loop μ-loop
-shared-slice-read-wide c = search needs
-
-wide-requires : tie.Need-wide-requires Inv-loop μ-loop
-wide-requires c κs = search needs
-
-print-hex-requires : tie.Need-print-hex-requires Inv-loop μ-loop
-print-hex-requires c κs = search needs
-
-add-i : tie.Need-add-i Inv-loop μ-loop
-add-i c = search needs
-
-loop-less : tie.Need-loop-less Inv-loop μ-loop
-loop-less c = search needs
-
-loop-again : tie.Need-loop-again Inv-loop μ-loop
-loop-again c = search needs
-
-end-requires : tie.Need-end-requires Inv-loop μ-loop
-end-requires c κs = search needs
-
 returns : tie.Need-returns Inv-loop μ-loop
 returns c = search needs
 
@@ -45,12 +21,12 @@ buffer-spec =
     (tie.spec
     Inv-loop
     μ-loop
-    loop-holds
-    shared-slice-read-wide
-    wide-requires
-    print-hex-requires
-    add-i
-    loop-less
-    loop-again
-    end-requires
+    (λ loop-holds. search needs)
+    (λ shared-slice-read-wide. search needs)
+    (λ wide-requires. search needs)
+    (λ print-hex-requires. search needs)
+    (λ add-i. search needs)
+    (λ loop-less. search needs)
+    (λ loop-again. search needs)
+    (λ end-requires. search needs)
     returns)

@@ -11,30 +11,6 @@ Inv-loop river at i₀ i = i ≤ 128
 abbrev μ-loop : tie.MeasureT-loop
 μ-loop river at i₀ i = 128 - i
 
-loop-holds : tie.Need-loop-holds Inv-loop μ-loop
-loop-holds c = search needs
-
-cast-if1 : tie.Need-cast-if1 Inv-loop μ-loop
-cast-if1 c = search needs
-
-mul-card : tie.Need-mul-card Inv-loop μ-loop
-mul-card c = search needs
-
-array-copy-out-card : tie.Need-array-copy-out-card Inv-loop μ-loop
-array-copy-out-card c = search needs
-
-card-requires : tie.Need-card-requires Inv-loop μ-loop
-card-requires c κs = search needs
-
-add-i : tie.Need-add-i Inv-loop μ-loop
-add-i c = search needs
-
-loop-less : tie.Need-loop-less Inv-loop μ-loop
-loop-less c = search needs
-
-loop-again : tie.Need-loop-again Inv-loop μ-loop
-loop-again c = search needs
-
 returns : tie.Need-returns Inv-loop μ-loop
 returns c = search needs
 
@@ -44,12 +20,12 @@ cards-spec =
     (tie.spec
     Inv-loop
     μ-loop
-    loop-holds
-    cast-if1
-    mul-card
-    array-copy-out-card
-    card-requires
-    add-i
-    loop-less
-    loop-again
+    (λ loop-holds. search needs)
+    (λ cast-if1. search needs)
+    (λ mul-card. search needs)
+    (λ array-copy-out-card. search needs)
+    (λ card-requires. search needs)
+    (λ add-i. search needs)
+    (λ loop-less. search needs)
+    (λ loop-again. search needs)
     returns)

@@ -11,33 +11,6 @@ Inv-loop n at₀ i₀ at i = i ≤ 128
 abbrev μ-loop : tie.MeasureT-loop
 μ-loop n at₀ i₀ at i = 128 - i
 
-blank-requires : tie.Need-blank-requires Inv-loop μ-loop
-blank-requires c κs = search needs
-
-loop-holds : tie.Need-loop-holds Inv-loop μ-loop
-loop-holds c = search needs
-
-add-link : tie.Need-add-link Inv-loop μ-loop
-add-link c = search needs
-
-link-requires : tie.Need-link-requires Inv-loop μ-loop
-link-requires c κs = search needs
-
-mul-at : tie.Need-mul-at Inv-loop μ-loop
-mul-at c = search needs
-
-array-set-from-at : tie.Need-array-set-from-at Inv-loop μ-loop
-array-set-from-at c = search needs
-
-add-i : tie.Need-add-i Inv-loop μ-loop
-add-i c = search needs
-
-loop-less : tie.Need-loop-less Inv-loop μ-loop
-loop-less c = search needs
-
-loop-again : tie.Need-loop-again Inv-loop μ-loop
-loop-again c = search needs
-
 returns : tie.Need-returns Inv-loop μ-loop
 returns c = search needs
 
@@ -47,13 +20,13 @@ chain-spec =
     (tie.spec
     Inv-loop
     μ-loop
-    blank-requires
-    loop-holds
-    add-link
-    link-requires
-    mul-at
-    array-set-from-at
-    add-i
-    loop-less
-    loop-again
+    (λ blank-requires. search needs)
+    (λ loop-holds. search needs)
+    (λ add-link. search needs)
+    (λ link-requires. search needs)
+    (λ mul-at. search needs)
+    (λ array-set-from-at. search needs)
+    (λ add-i. search needs)
+    (λ loop-less. search needs)
+    (λ loop-again. search needs)
     returns)

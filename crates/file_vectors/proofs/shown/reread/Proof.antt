@@ -10,18 +10,6 @@ use Rattle.file_vectors.proofs.shown.reread.Tie as tie
 slice-aggregate-read-file : tie.Need-slice-aggregate-read-file
 slice-aggregate-read-file c = sym (length-take-le _ (now (c .before .before .before .args .out)) (c .before .if1 .taken))
 
-read-file-requires : tie.Need-read-file-requires
-read-file-requires c κs = search needs
-
-slice-aggregate-count : tie.Need-slice-aggregate-count
-slice-aggregate-count c = search needs
-
-cast-count : tie.Need-cast-count
-cast-count c = search needs
-
-count-requires : tie.Need-count-requires
-count-requires c κs = search needs
-
 returns : tie.Need-returns
 returns c = search needs
 
@@ -33,9 +21,9 @@ reread-spec =
     tie.close
     (tie.spec
     slice-aggregate-read-file
-    read-file-requires
-    slice-aggregate-count
-    cast-count
-    count-requires
+    (λ read-file-requires. search needs)
+    (λ slice-aggregate-count. search needs)
+    (λ cast-count. search needs)
+    (λ count-requires. search needs)
     returns
     returns-2)

@@ -18,11 +18,8 @@ add-result c =
     let i : c .args .i ≤ 127 = omega arith in
     omega (arith, mul-le-mul s i)
 
-cast-result : tie.Need-cast-result
-cast-result c = search needs
-
 returns : tie.Need-returns
 returns c = search needs
 
 pub foot-oxygen-spec : {M : Type 1} → statement M
-foot-oxygen-spec = tie.close (tie.spec mul-result add-result cast-result returns)
+foot-oxygen-spec = tie.close (tie.spec mul-result add-result (λ cast-result. search needs) returns)

@@ -8,33 +8,6 @@ use Rattle.river.proofs.head.Feet.{flow-bounded, foot-carried}
 use Rattle.head_vectors.proofs.shown.reach.Statement.{statement}
 use Rattle.head_vectors.proofs.shown.reach.Tie as tie
 
-head-of-requires : tie.Need-head-of-requires
-head-of-requires c κs = search needs
-
-mul-flow : tie.Need-mul-flow
-mul-flow c = search needs
-
-element-copy-out-flow : tie.Need-element-copy-out-flow
-element-copy-out-flow c = search needs
-
-add-line : tie.Need-add-line
-add-line c = search needs
-
-element-copy-out-line : tie.Need-element-copy-out-line
-element-copy-out-line c = search needs
-
-mul-line : tie.Need-mul-line
-mul-line c = search needs
-
-element-copy-out-line-2 : tie.Need-element-copy-out-line-2
-element-copy-out-line-2 c = search needs
-
-line-requires : tie.Need-line-requires
-line-requires c κs = search needs
-
-sub-put-foot : tie.Need-sub-put-foot
-sub-put-foot c = search needs
-
 put-foot-requires : tie.Need-put-foot-requires
 put-foot-requires c κs = (reach-few (c .before .before .before .before .before .before .before .pre), flow-bounded (c .before .before .before .before .before .before .before .pre))
 
@@ -51,14 +24,14 @@ pub reach-spec : {M : Type 1} → statement M
 reach-spec =
     tie.close
     (tie.spec
-    head-of-requires
-    mul-flow
-    element-copy-out-flow
-    add-line
-    element-copy-out-line
-    mul-line
-    element-copy-out-line-2
-    line-requires
-    sub-put-foot
+    (λ head-of-requires. search needs)
+    (λ mul-flow. search needs)
+    (λ element-copy-out-flow. search needs)
+    (λ add-line. search needs)
+    (λ element-copy-out-line. search needs)
+    (λ mul-line. search needs)
+    (λ element-copy-out-line-2. search needs)
+    (λ line-requires. search needs)
+    (λ sub-put-foot. search needs)
     put-foot-requires
     returns)

@@ -18,12 +18,6 @@ Inv-loop cards flows first step count feet₀ i₀ feet i =
 abbrev μ-loop : tie.MeasureT-loop
 μ-loop cards flows first step count feet₀ i₀ feet i = count - i
 
-reach-count-requires : tie.Need-reach-count-requires Inv-loop μ-loop
-reach-count-requires c κs = search needs
-
-no-feet-requires : tie.Need-no-feet-requires Inv-loop μ-loop
-no-feet-requires c κs = search needs
-
 loop-holds : tie.Need-loop-holds Inv-loop μ-loop
 loop-holds c = (c .before .reach-count .ensures, zero-le, carried-none _ _)
 
@@ -41,12 +35,6 @@ reach-requires c κs =
       carried = c .before .before .loop .inv .2;
     }
 
-add-i : tie.Need-add-i Inv-loop μ-loop
-add-i c = omega arith
-
-loop-less : tie.Need-loop-less Inv-loop μ-loop
-loop-less c = omega arith
-
 loop-again : tie.Need-loop-again Inv-loop μ-loop
 loop-again c =
     (c .before .before .before .loop .inv .0, omega arith, rw add-one (c .reach .ensures))
@@ -60,12 +48,12 @@ reaches-spec =
     (tie.spec
     Inv-loop
     μ-loop
-    reach-count-requires
-    no-feet-requires
+    (λ reach-count-requires. search needs)
+    (λ no-feet-requires. search needs)
     loop-holds
     foot-oxygen-requires
     reach-requires
-    add-i
-    loop-less
+    (λ add-i. omega arith)
+    (λ loop-less. omega arith)
     loop-again
     returns)

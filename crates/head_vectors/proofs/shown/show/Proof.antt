@@ -3,18 +3,6 @@ use borrow.Author.Needs.{needs}
 use Rattle.head_vectors.proofs.shown.show.Statement.{statement}
 use Rattle.head_vectors.proofs.shown.show.Tie as tie
 
-accept-requires : tie.Need-accept-requires
-accept-requires c κs = search needs
-
-enum-known-outcome : tie.Need-enum-known-outcome
-enum-known-outcome c = search needs
-
-refusal-requires : tie.Need-refusal-requires
-refusal-requires c κs = search needs
-
-enum-told : tie.Need-enum-told
-enum-told c = search needs
-
 reaches-requires : tie.Need-reaches-requires
 reaches-requires c κs =
     let a = c .before .before .before .before .accept .ensures in
@@ -31,10 +19,10 @@ pub show-spec : {M : Type 1} → statement M
 show-spec =
     tie.close
     (tie.spec
-    accept-requires
-    enum-known-outcome
-    refusal-requires
-    enum-told
+    (λ accept-requires. search needs)
+    (λ enum-known-outcome. search needs)
+    (λ refusal-requires. search needs)
+    (λ enum-told. search needs)
     reaches-requires
     returns
     returns-2)

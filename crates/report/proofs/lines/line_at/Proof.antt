@@ -17,26 +17,11 @@ use Rattle.report.proofs.lines.line_at.Tie as tie
 head-of-requires : tie.Need-head-of-requires
 head-of-requires c κs = head-input (c .pre .0) (c .pre .1) (c .pre .2)
 
-mul-card : tie.Need-mul-card
-mul-card c = search needs
-
-element-copy-out-card : tie.Need-element-copy-out-card
-element-copy-out-card c = search needs
-
-mul-flow : tie.Need-mul-flow
-mul-flow c = search needs
-
-element-copy-out-flow : tie.Need-element-copy-out-flow
-element-copy-out-flow c = search needs
-
 cast-flow : tie.Need-cast-flow
 cast-flow c =
     let s = c .before .before .before in
     let p = s .pre in
     omega (arith, reach-flow-small (p .0) (p .1) (p .2), p .0 .tabled .flow (s .args .i) (p .2))
-
-element-copy-out-depth : tie.Need-element-copy-out-depth
-element-copy-out-depth c = search needs
 
 line-of-requires : tie.Need-line-of-requires
 line-of-requires c κs =
@@ -64,11 +49,11 @@ line-at-spec =
     tie.close
     (tie.spec
     head-of-requires
-    mul-card
-    element-copy-out-card
-    mul-flow
-    element-copy-out-flow
+    (λ mul-card. search needs)
+    (λ element-copy-out-card. search needs)
+    (λ mul-flow. search needs)
+    (λ element-copy-out-flow. search needs)
     cast-flow
-    element-copy-out-depth
+    (λ element-copy-out-depth. search needs)
     line-of-requires
     returns)

@@ -5,21 +5,6 @@ use Rattle.report.proofs.lines.Lines.{start-range, start-sound, foot-be
 use Rattle.report.proofs.lines.line_of.Statement.{statement}
 use Rattle.report.proofs.lines.line_of.Tie as tie
 
-step-of-requires : tie.Need-step-of-requires
-step-of-requires c κs = search needs
-
-saturation-of-requires : tie.Need-saturation-of-requires
-saturation-of-requires c κs = search needs
-
-cast-t9 : tie.Need-cast-t9
-cast-t9 c = search needs
-
-cast-t10 : tie.Need-cast-t10
-cast-t10 c = search needs
-
-cast-t11 : tie.Need-cast-t11
-cast-t11 c = search needs
-
 -- the shares of the step, and the ranges of the start
 profile-of-requires : tie.Need-profile-of-requires
 profile-of-requires c κs =
@@ -41,12 +26,6 @@ cast-t12 c =
 cast-t13 : tie.Need-cast-t13
 cast-t13 c = omega (arith, critical-within (c .before .before .profile-of .ensures))
 
-cast-t14 : tie.Need-cast-t14
-cast-t14 c = search needs
-
-cast-t15 : tie.Need-cast-t15
-cast-t15 c = search needs
-
 returns : tie.Need-returns
 returns c =
     let s = c .before .before .before .before .before .before .before .before .before in
@@ -59,14 +38,14 @@ pub line-of-spec : {M : Type 1} → statement M
 line-of-spec =
     tie.close
     (tie.spec
-    step-of-requires
-    saturation-of-requires
-    cast-t9
-    cast-t10
-    cast-t11
+    (λ step-of-requires. search needs)
+    (λ saturation-of-requires. search needs)
+    (λ cast-t9. search needs)
+    (λ cast-t10. search needs)
+    (λ cast-t11. search needs)
     profile-of-requires
     cast-t12
     cast-t13
-    cast-t14
-    cast-t15
+    (λ cast-t14. search needs)
+    (λ cast-t15. search needs)
     returns)

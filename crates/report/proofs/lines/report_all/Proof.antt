@@ -83,12 +83,6 @@ report-reach-requires c κs =
     let l = c .before .loop-test .taken in
     ((s .pre .0, v .feet-are, omega (arith, l, v .counted)), room-for v l)
 
-add-i : tie.Need-add-i Inv-loop μ-loop
-add-i c = omega arith
-
-loop-less : tie.Need-loop-less Inv-loop μ-loop
-loop-less c = omega arith
-
 loop-again : tie.Need-loop-again Inv-loop μ-loop
 loop-again c =
     one-more (c .before .before .before .before .before .loop .inv) (c .before .before .before .before .loop-test .taken)
@@ -116,8 +110,8 @@ report-all-spec =
     loop-holds
     mul-report-reach
     report-reach-requires
-    add-i
-    loop-less
+    (λ add-i. omega arith)
+    (λ loop-less. omega arith)
     loop-again
     same-length
     returns)

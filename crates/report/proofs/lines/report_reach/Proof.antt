@@ -11,16 +11,10 @@ use Rattle.report.proofs.lines.Feet.{reach-flow-small, line-flow, feet-
 use Rattle.report.proofs.lines.report_reach.Statement.{statement}
 use Rattle.report.proofs.lines.report_reach.Tie as tie
 
-line-at-requires : tie.Need-line-at-requires
-line-at-requires c κs = search needs
-
 put-record-requires : tie.Need-put-record-requires
 put-record-requires c κs =
     let s = c .before .before .before in
     omega (arith, s .pre .1, record-length (river (s .args .cards)) (figuresIn (c .before .line-at .result)))
-
-cast-put-foot : tie.Need-cast-put-foot
-cast-put-foot c = search needs
 
 put-foot-requires : tie.Need-put-foot-requires
 put-foot-requires c κs =
@@ -29,9 +23,6 @@ put-foot-requires c κs =
       omega (arith, p .0 .lawful .few, p .2),
       omega (arith, reach-flow-small (p .0) (p .1) (p .2), line-flow (c .before .before .before .before .before .line-at .ensures)),
     )
-
-same-length : tie.Need-same-length
-same-length c = search needs
 
 -- the tables of feet have 128 places
 bod-long : (s : tie.Start) → length (s .args .feet .bod) ≡ 128
@@ -57,9 +48,9 @@ pub report-reach-spec : {M : Type 1} → statement M
 report-reach-spec =
     tie.close
     (tie.spec
-    line-at-requires
+    (λ line-at-requires. search needs)
     put-record-requires
-    cast-put-foot
+    (λ cast-put-foot. search needs)
     put-foot-requires
-    same-length
+    (λ same-length. search needs)
     returns)

@@ -6,9 +6,6 @@ use Rattle.report.proofs.profile.Steps.{walk-begins}
 use Rattle.report.proofs.profile.begin.Statement.{statement}
 use Rattle.report.proofs.profile.begin.Tie as tie
 
-start-requires : tie.Need-start-requires
-start-requires c κs = search needs
-
 oxygen-with-requires : tie.Need-oxygen-with-requires
 oxygen-with-requires c κs = (rw (c .start .ensures) start-range, c .before .pre)
 
@@ -18,4 +15,4 @@ returns c =
     (c .oxygen-with .ensures)
 
 pub begin-spec : {M : Type 1} → statement M
-begin-spec = tie.close (tie.spec start-requires oxygen-with-requires returns)
+begin-spec = tie.close (tie.spec (λ start-requires. search needs) oxygen-with-requires returns)

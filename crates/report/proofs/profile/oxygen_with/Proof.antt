@@ -10,19 +10,10 @@ use Rattle.report.proofs.profile.Oxygen.{turned-below, holds-under, hol
 use Rattle.report.proofs.profile.oxygen_with.Statement.{statement}
 use Rattle.report.proofs.profile.oxygen_with.Tie as tie
 
-add-saturated : tie.Need-add-saturated
-add-saturated c = search needs
-
-product-requires : tie.Need-product-requires
-product-requires c κs = search needs
-
 sub-after-decay : tie.Need-sub-after-decay
 sub-after-decay c =
     let a = c .before .before .args in
     omega (arith, turned-below (a .f) (a .start) (c .before .before .pre .0) (c .before .before .pre .1))
-
-product-requires-2 : tie.Need-product-requires-2
-product-requires-2 c κs = search needs
 
 sub-result : tie.Need-sub-result
 sub-result c =
@@ -33,18 +24,6 @@ sub-result c =
       turned-below (a .f) (a .start) (s .pre .0) (s .pre .1),
       share-below (a .f .kept) (a .start .saturation + storedZero - a .start .oxygen) (s .pre .0 .deficit),
     )
-
-sub-over : tie.Need-sub-over
-sub-over c = search needs
-
-add-result : tie.Need-add-result
-add-result c = search needs
-
-sub-product : tie.Need-sub-product
-sub-product c = search needs
-
-product-requires-3 : tie.Need-product-requires-3
-product-requires-3 c κs = search needs
 
 sub-result-2 : tie.Need-sub-result-2
 sub-result-2 c =
@@ -72,15 +51,15 @@ pub oxygen-with-spec : {M : Type 1} → statement M
 oxygen-with-spec =
     tie.close
     (tie.spec
-    add-saturated
-    product-requires
+    (λ add-saturated. search needs)
+    (λ product-requires. search needs)
     sub-after-decay
-    product-requires-2
+    (λ product-requires-2. search needs)
     sub-result
-    sub-over
-    add-result
-    sub-product
-    product-requires-3
+    (λ sub-over. search needs)
+    (λ add-result. search needs)
+    (λ sub-product. search needs)
+    (λ product-requires-3. search needs)
     sub-result-2
     returns
     returns-2)

@@ -5,9 +5,6 @@ use Rattle.report.proofs.profile.Steps.{walk-shares, walk-ends}
 use Rattle.report.proofs.profile.profile_of.Statement.{statement}
 use Rattle.report.proofs.profile.profile_of.Tie as tie
 
-walk-down-requires : tie.Need-walk-down-requires
-walk-down-requires c κs = search needs
-
 product-requires : tie.Need-product-requires
 product-requires c κs =
     let s = c .before .before in
@@ -27,4 +24,4 @@ returns c =
 
 pub profile-of-spec : {M : Type 1} → statement M
 profile-of-spec =
-    tie.close (tie.spec walk-down-requires product-requires oxygen-with-requires returns)
+    tie.close (tie.spec (λ walk-down-requires. search needs) product-requires oxygen-with-requires returns)

@@ -16,9 +16,6 @@ oxygen-with-requires c κs =
     let s = c .before .before in
     (rw (c .next .ensures) (next-range (s .pre .0) (rw (s .pre .3 .factors) (range (s .pre .0) (s .args .m)))), s .pre .1)
 
-add-t10 : tie.Need-add-t10
-add-t10 c = search needs
-
 returns : tie.Need-returns
 returns c =
     let s = c .before .before .before .before .before in
@@ -38,4 +35,4 @@ returns-2 c =
     (c .if1 .left)
 
 pub turn-spec : {M : Type 1} → statement M
-turn-spec = tie.close (tie.spec next-requires oxygen-with-requires add-t10 returns returns-2)
+turn-spec = tie.close (tie.spec next-requires oxygen-with-requires (λ add-t10. search needs) returns returns-2)

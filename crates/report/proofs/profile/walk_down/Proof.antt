@@ -25,12 +25,6 @@ turn-requires c κs =
     let s = c .before .before .before in
     (s .pre .0, s .pre .1, c .loop-test .taken, c .before .loop .inv .1)
 
-add-m : tie.Need-add-m Inv-loop μ-loop
-add-m c = omega arith
-
-loop-less : tie.Need-loop-less Inv-loop μ-loop
-loop-less c = omega arith
-
 loop-again : tie.Need-loop-again Inv-loop μ-loop
 loop-again c = (omega arith, c .turn .ensures)
 
@@ -48,7 +42,7 @@ walk-down-spec =
     begin-requires
     loop-holds
     turn-requires
-    add-m
-    loop-less
+    (λ add-m. omega arith)
+    (λ loop-less. omega arith)
     loop-again
     returns)

@@ -5,9 +5,6 @@ use Rattle.report.proofs.record.Encoding.{complement-below, complement-
 use Rattle.report.proofs.record.complement.Statement.{statement}
 use Rattle.report.proofs.record.complement.Tie as tie
 
-add-result : tie.Need-add-result
-add-result c = search needs
-
 returns : tie.Need-returns
 returns c = complement-below (c .before .args .oxygen) (c .if1 .taken)
 
@@ -15,4 +12,4 @@ returns-2 : tie.Need-returns-2
 returns-2 c = complement-above (c .before .args .oxygen) (c .if1 .left) (omega arith)
 
 pub complement-spec : {M : Type 1} → statement M
-complement-spec = tie.close (tie.spec add-result returns returns-2)
+complement-spec = tie.close (tie.spec (λ add-result. search needs) returns returns-2)

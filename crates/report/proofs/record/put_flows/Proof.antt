@@ -4,24 +4,6 @@ use Rattle.river.proofs.bytes.Puts.{chain}
 use Rattle.report.proofs.record.put_flows.Statement.{statement}
 use Rattle.report.proofs.record.put_flows.Tie as tie
 
-put-pair-requires : tie.Need-put-pair-requires
-put-pair-requires c κs = search needs
-
-put-byte-requires : tie.Need-put-byte-requires
-put-byte-requires c κs = search needs
-
-put-four-requires : tie.Need-put-four-requires
-put-four-requires c κs = search needs
-
-put-four-requires-2 : tie.Need-put-four-requires-2
-put-four-requires-2 c κs = search needs
-
-put-four-requires-3 : tie.Need-put-four-requires-3
-put-four-requires-3 c κs = search needs
-
-same-length : tie.Need-same-length
-same-length c = search needs
-
 returns : tie.Need-returns
 returns c =
     let f = c .before .before in
@@ -35,10 +17,10 @@ pub put-flows-spec : {M : Type 1} → statement M
 put-flows-spec =
     tie.close
     (tie.spec
-    put-pair-requires
-    put-byte-requires
-    put-four-requires
-    put-four-requires-2
-    put-four-requires-3
-    same-length
+    (λ put-pair-requires. search needs)
+    (λ put-byte-requires. search needs)
+    (λ put-four-requires. search needs)
+    (λ put-four-requires-2. search needs)
+    (λ put-four-requires-3. search needs)
+    (λ same-length. search needs)
     returns)

@@ -4,21 +4,6 @@ use Rattle.river.proofs.bytes.Puts.{chain}
 use Rattle.report.proofs.record.put_oxygen.Statement.{statement}
 use Rattle.report.proofs.record.put_oxygen.Tie as tie
 
-put-complement-requires : tie.Need-put-complement-requires
-put-complement-requires c κs = search needs
-
-put-two-requires : tie.Need-put-two-requires
-put-two-requires c κs = search needs
-
-put-complement-requires-2 : tie.Need-put-complement-requires-2
-put-complement-requires-2 c κs = search needs
-
-put-complement-requires-3 : tie.Need-put-complement-requires-3
-put-complement-requires-3 c κs = search needs
-
-same-length : tie.Need-same-length
-same-length c = search needs
-
 returns : tie.Need-returns
 returns c =
     let e = c .before .before in
@@ -31,9 +16,9 @@ pub put-oxygen-spec : {M : Type 1} → statement M
 put-oxygen-spec =
     tie.close
     (tie.spec
-    put-complement-requires
-    put-two-requires
-    put-complement-requires-2
-    put-complement-requires-3
-    same-length
+    (λ put-complement-requires. search needs)
+    (λ put-two-requires. search needs)
+    (λ put-complement-requires-2. search needs)
+    (λ put-complement-requires-3. search needs)
+    (λ same-length. search needs)
     returns)

@@ -13,9 +13,6 @@ put-oxygen-requires : tie.Need-put-oxygen-requires
 unfolding encodeRecord
 put-oxygen-requires c κs = search needs
 
-same-length : tie.Need-same-length
-same-length c = search needs
-
 returns : tie.Need-returns
 unfolding encodeRecord
 returns c =
@@ -23,4 +20,4 @@ returns c =
     chain (b .before .before .before .before .put-flows .ensures) (b .put-oxygen .ensures)
 
 pub put-record-spec : {M : Type 1} → statement M
-put-record-spec = tie.close (tie.spec put-flows-requires put-oxygen-requires same-length returns)
+put-record-spec = tie.close (tie.spec put-flows-requires put-oxygen-requires (λ same-length. search needs) returns)

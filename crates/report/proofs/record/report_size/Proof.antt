@@ -7,12 +7,6 @@ use Rattle.report.specs.Record.{recordSize}
 use Rattle.report.proofs.record.report_size.Statement.{statement}
 use Rattle.report.proofs.record.report_size.Tie as tie
 
-record-size-requires : tie.Need-record-size-requires
-record-size-requires c κs = search needs
-
-reach-count-requires : tie.Need-reach-count-requires
-reach-count-requires c κs = search needs
-
 mul-result : tie.Need-mul-result
 unfolding recordSize
 mul-result c = rw (c .before .record-size .ensures) (omega arith)
@@ -22,4 +16,4 @@ returns c = ap₂ _*_ (c .before .record-size .ensures) (c .reach-count .ensures
 
 pub report-size-spec : {M : Type 1} → statement M
 report-size-spec =
-    tie.close (tie.spec record-size-requires reach-count-requires mul-result returns)
+    tie.close (tie.spec (λ record-size-requires. search needs) (λ reach-count-requires κs. search needs) mul-result returns)

@@ -4,18 +4,6 @@ use Rattle.river.proofs.Acceptance.{reading-lawful, reading-refused, re
 use Rattle.river.proofs.accept.accept.Statement.{statement}
 use Rattle.river.proofs.accept.accept.Tie as tie
 
-read-file-requires : tie.Need-read-file-requires
-read-file-requires c κs = search needs
-
-enum-told : tie.Need-enum-told
-enum-told c = search needs
-
-enum-told-2 : tie.Need-enum-told-2
-enum-told-2 c = search needs
-
-no-flows-requires : tie.Need-no-flows-requires
-no-flows-requires c κs = search needs
-
 returns : tie.Need-returns
 returns c = reading-refused _ (c .before .before .before .before .read-file .ensures) (c .before .enum-told2 .given .1)
 
@@ -31,10 +19,10 @@ pub accept-spec : {M : Type 1} → statement M
 accept-spec =
     tie.close
     (tie.spec
-    read-file-requires
-    enum-told
-    enum-told-2
-    no-flows-requires
+    (λ read-file-requires. search needs)
+    (λ enum-told. search needs)
+    (λ enum-told-2. search needs)
+    (λ no-flows-requires. search needs)
     returns
     flow-check-requires
     returns-2)

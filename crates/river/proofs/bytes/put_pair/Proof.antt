@@ -7,24 +7,12 @@ use Rattle.river.proofs.bytes.Puts.{put-pair}
 use Rattle.river.proofs.bytes.put_pair.Statement.{statement}
 use Rattle.river.proofs.bytes.put_pair.Tie as tie
 
-slice-write-out : tie.Need-slice-write-out
-slice-write-out c = search needs
-
-add-out : tie.Need-add-out
-add-out c = search needs
-
 slice-write-out-2 : tie.Need-slice-write-out-2
 slice-write-out-2 c = simp length-set (omega arith)
-
-add-result : tie.Need-add-result
-add-result c = search needs
-
-same-length : tie.Need-same-length
-same-length c = search needs
 
 returns : tie.Need-returns
 returns c = put-pair _ _ _ _
 
 pub put-pair-spec : {M : Type 1} → statement M
 put-pair-spec =
-    tie.close (tie.spec slice-write-out add-out slice-write-out-2 add-result same-length returns)
+    tie.close (tie.spec (λ slice-write-out. search needs) (λ add-out. search needs) slice-write-out-2 (λ add-result. search needs) (λ same-length. search needs) returns)

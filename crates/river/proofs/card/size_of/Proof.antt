@@ -14,9 +14,6 @@ use Rattle.river.proofs.card.size_of.Tie as tie
 added : (c : tie.After-dam-size) → reachBytes + c .dam-size .result ≡ sizeOf (c .before .args .c)
 added c = simp length-append (omega (arith, c .dam-size .ensures))
 
-dam-size-requires : tie.Need-dam-size-requires
-dam-size-requires c κs = search needs
-
 add-result : tie.Need-add-result
 add-result c = omega (arith, added c, size-small (c .before .args .c))
 
@@ -24,4 +21,4 @@ returns : tie.Need-returns
 returns c = added c
 
 pub size-of-spec : {M : Type 1} → statement M
-size-of-spec = tie.close (tie.spec dam-size-requires add-result returns)
+size-of-spec = tie.close (tie.spec (λ dam-size-requires. search needs) add-result returns)

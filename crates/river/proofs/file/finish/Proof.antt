@@ -11,21 +11,6 @@ use Rattle.river.proofs.file.finish.Statement.{statement}
 use Rattle.river.specs.Refusal.{outcomeOf}
 use Rattle.river.proofs.file.finish.Tie as tie
 
-enum-known-outcome : tie.Need-enum-known-outcome
-enum-known-outcome c = search needs
-
-refused-requires : tie.Need-refused-requires
-refused-requires c κs = search needs
-
-enum-told : tie.Need-enum-told
-enum-told c = search needs
-
-refuse-requires : tie.Need-refuse-requires
-refuse-requires c κs = search needs
-
-refused-requires-2 : tie.Need-refused-requires-2
-refused-requires-2 c κs = search needs
-
 returns : tie.Need-returns
 returns c =
     let long = c .before .before in
@@ -54,4 +39,4 @@ returns-3 c =
     }
 
 pub finish-spec : {M : Type 1} → statement M
-finish-spec = tie.close (tie.spec enum-known-outcome refused-requires enum-told refuse-requires refused-requires-2 returns returns-2 returns-3)
+finish-spec = tie.close (tie.spec (λ enum-known-outcome. search needs) (λ refused-requires. search needs) (λ enum-told. search needs) (λ refuse-requires κs. search needs) (λ refused-requires-2 κs. search needs) returns returns-2 returns-3)

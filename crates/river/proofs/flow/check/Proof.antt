@@ -5,15 +5,6 @@ use Rattle.river.proofs.flow.Groups.{flow-rules-ask, decided, stops, le
 use Rattle.river.proofs.flow.check.Statement.{statement}
 use Rattle.river.proofs.flow.check.Tie as tie
 
-flow-rules-requires : tie.Need-flow-rules-requires
-flow-rules-requires c κs = search needs
-
-enum-told : tie.Need-enum-told
-enum-told c = search needs
-
-enum-told-2 : tie.Need-enum-told-2
-enum-told-2 c = search needs
-
 returns : tie.Need-returns
 unfolding checksOf
 returns c = stops (c .before .before .flow-rules .ensures) _ (c .enum-told2 .given .1)
@@ -21,12 +12,6 @@ returns c = stops (c .before .before .flow-rules .ensures) _ (c .enum-told2 .giv
 load-rule-requires : tie.Need-load-rule-requires
 load-rule-requires c κs =
     decided (c .before .before .flow-rules .ensures) (flow-rules-ask _ _ _ _ _) (c .enum-told .given .1) .1 .0
-
-enum-told-3 : tie.Need-enum-told-3
-enum-told-3 c = search needs
-
-enum-told-4 : tie.Need-enum-told-4
-enum-told-4 c = search needs
 
 returns-2 : tie.Need-returns-2
 unfolding checksOf
@@ -53,13 +38,13 @@ pub check-spec : {M : Type 1} → statement M
 check-spec =
     tie.close
     (tie.spec
-    flow-rules-requires
-    enum-told
-    enum-told-2
+    (λ flow-rules-requires. search needs)
+    (λ enum-told. search needs)
+    (λ enum-told-2. search needs)
     returns
     load-rule-requires
-    enum-told-3
-    enum-told-4
+    (λ enum-told-3. search needs)
+    (λ enum-told-4. search needs)
     returns-2
     rate-rules-requires
     returns-3)

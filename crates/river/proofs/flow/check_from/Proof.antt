@@ -16,32 +16,17 @@ Inv-loop cards from count flows₀ i₀ flows i = (count ≡ length (river cards
 abbrev μ-loop : tie.MeasureT-loop
 μ-loop cards from count flows₀ i₀ flows i = count - i
 
-reach-count-requires : tie.Need-reach-count-requires Inv-loop μ-loop
-reach-count-requires c κs = search needs
-
 loop-holds : tie.Need-loop-holds Inv-loop μ-loop
 loop-holds c = (c .reach-count .ensures, c .before .pre)
 
 check-next-requires : tie.Need-check-next-requires Inv-loop μ-loop
 check-next-requires c κs = (c .before .loop .inv .1, omega (arith, c .before .loop .inv .0))
 
-enum-told : tie.Need-enum-told Inv-loop μ-loop
-enum-told c = search needs
-
-enum-told-2 : tie.Need-enum-told-2 Inv-loop μ-loop
-enum-told-2 c = search needs
-
 returns : tie.Need-returns Inv-loop μ-loop
 returns c =
     let next = c .before .before in
     let inv = next .before .before .loop .inv in
     at-refusal (inv .1) (omega (arith, inv .0)) (next .check-next .ensures) (c .enum-told2 .given .1)
-
-add-i : tie.Need-add-i Inv-loop μ-loop
-add-i c = omega arith
-
-loop-less : tie.Need-loop-less Inv-loop μ-loop
-loop-less c = omega arith
 
 loop-again : tie.Need-loop-again Inv-loop μ-loop
 loop-again c =
@@ -58,13 +43,13 @@ check-from-spec =
     (tie.spec
     Inv-loop
     μ-loop
-    reach-count-requires
+    (λ reach-count-requires. search needs)
     loop-holds
     check-next-requires
-    enum-told
-    enum-told-2
+    (λ enum-told. search needs)
+    (λ enum-told-2. search needs)
     returns
-    add-i
-    loop-less
+    (λ add-i. omega arith)
+    (λ loop-less. omega arith)
     loop-again
     returns-2)

@@ -17,9 +17,6 @@ element-copy-out-card c = index-few (c .pre)
 upstream-of-requires : tie.Need-upstream-of-requires
 upstream-of-requires c κs = sums-fit (c .before .pre)
 
-cast-flow : tie.Need-cast-flow
-cast-flow c = search needs
-
 add-flow : tie.Need-add-flow
 add-flow c =
     let up = c .before .before in
@@ -37,21 +34,6 @@ add-mass c =
     let s = up .before .before in
     omega (arith, gathered-small (s .pre) (up .upstream-of .ensures), own-mass-few (s .args .t1) (s .args .i) (s .pre .0 .lawful) (s .pre .1) (c .before .own-mass .ensures))
 
-add-check : tie.Need-add-check
-add-check c = search needs
-
-cast-check : tie.Need-cast-check
-cast-check c = search needs
-
-check-requires : tie.Need-check-requires
-check-requires c κs = search needs
-
-enum-told : tie.Need-enum-told
-enum-told c = search needs
-
-enum-told-2 : tie.Need-enum-told-2
-enum-told-2 c = search needs
-
 returns : tie.Need-returns
 returns c =
     let check = c .before .before in
@@ -65,9 +47,6 @@ add-entered c =
     let up = c .before .before .before .before .before .before .before .before in
     let s = up .before .before in
     omega (arith, gathered-small (s .pre) (up .upstream-of .ensures))
-
-entered-requires : tie.Need-entered-requires
-entered-requires c κs = search needs
 
 returns-2 : tie.Need-returns-2
 returns-2 c =
@@ -86,16 +65,16 @@ check-next-spec =
     mul-card
     element-copy-out-card
     upstream-of-requires
-    cast-flow
+    (λ cast-flow. search needs)
     add-flow
     own-mass-requires
     add-mass
-    add-check
-    cast-check
-    check-requires
-    enum-told
-    enum-told-2
+    (λ add-check. search needs)
+    (λ cast-check. search needs)
+    (λ check-requires. search needs)
+    (λ enum-told. search needs)
+    (λ enum-told-2. search needs)
     returns
     add-entered
-    entered-requires
+    (λ entered-requires. search needs)
     returns-2)

@@ -5,15 +5,6 @@ use Rattle.river.specs.Flow.{damFits}
 use Rattle.river.proofs.flow.dam_fits.Statement.{statement}
 use Rattle.river.proofs.flow.dam_fits.Tie as tie
 
-enum-told : tie.Need-enum-told
-enum-told c = search needs
-
-enum-known-dam : tie.Need-enum-known-dam
-enum-known-dam c = search needs
-
-cast-result : tie.Need-cast-result
-cast-result c = search needs
-
 returns : tie.Need-returns
 unfolding damFits
 returns c = rw (c .enum-told .given .1)
@@ -29,4 +20,4 @@ returns-3 c = rw (c .before .before .before .dam .given .1, le-ltb _ _ (c .if1 .
 
 pub dam-fits-spec : {M : Type 1} → statement M
 dam-fits-spec =
-    tie.close (tie.spec enum-told enum-known-dam cast-result returns returns-2 returns-3)
+    tie.close (tie.spec (λ enum-told. search needs) (λ enum-known-dam. search needs) (λ cast-result. search needs) returns returns-2 returns-3)

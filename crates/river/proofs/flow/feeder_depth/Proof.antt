@@ -25,15 +25,6 @@ element-copy-out-if1 c = omega arith
 element-copy-out-larger : tie.Need-element-copy-out-larger Inv-loop μ-loop
 element-copy-out-larger c = omega arith
 
-larger-requires : tie.Need-larger-requires Inv-loop μ-loop
-larger-requires c κs = search needs
-
-add-j : tie.Need-add-j Inv-loop μ-loop
-add-j c = omega arith
-
-loop-less : tie.Need-loop-less Inv-loop μ-loop
-loop-less c = omega arith
-
 loop-again : tie.Need-loop-again Inv-loop μ-loop
 loop-again c =
     let o = c .before .before .before .before .args .outlet .now in
@@ -61,8 +52,8 @@ feeder-depth-spec =
     loop-holds
     element-copy-out-if1
     element-copy-out-larger
-    larger-requires
-    add-j
-    loop-less
+    (λ larger-requires. search needs)
+    (λ add-j. omega arith)
+    (λ loop-less. omega arith)
     loop-again
     returns)

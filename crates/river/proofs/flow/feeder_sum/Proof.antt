@@ -21,9 +21,6 @@ loop-holds c = (omega arith, refl)
 element-copy-out-if1 : tie.Need-element-copy-out-if1 Inv-loop μ-loop
 element-copy-out-if1 c = omega arith
 
-mul-sum : tie.Need-mul-sum Inv-loop μ-loop
-mul-sum c = omega arith
-
 element-copy-out-sum : tie.Need-element-copy-out-sum Inv-loop μ-loop
 element-copy-out-sum c = omega arith
 
@@ -38,12 +35,6 @@ add-sum c =
       sum-feeder o v j r (c .before .if1 .taken),
       sum-grows o v r (j + 1) (c .before .before .before .before .before .args .n) (omega arith),
     )
-
-add-j : tie.Need-add-j Inv-loop μ-loop
-add-j c = omega arith
-
-loop-less : tie.Need-loop-less Inv-loop μ-loop
-loop-less c = omega arith
 
 loop-again : tie.Need-loop-again Inv-loop μ-loop
 loop-again c =
@@ -71,10 +62,10 @@ feeder-sum-spec =
     μ-loop
     loop-holds
     element-copy-out-if1
-    mul-sum
+    (λ mul-sum. omega arith)
     element-copy-out-sum
     add-sum
-    add-j
-    loop-less
+    (λ add-j. omega arith)
+    (λ loop-less. omega arith)
     loop-again
     returns)

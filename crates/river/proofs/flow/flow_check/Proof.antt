@@ -4,9 +4,6 @@ use Rattle.river.proofs.flow.FlowCheck.{at-start}
 use Rattle.river.proofs.flow.flow_check.Statement.{statement}
 use Rattle.river.proofs.flow.flow_check.Tie as tie
 
-no-flows-requires : tie.Need-no-flows-requires
-no-flows-requires c κs = search needs
-
 check-from-requires : tie.Need-check-from-requires
 check-from-requires c κs = at-start _ (c .before .pre)
 
@@ -14,4 +11,4 @@ returns : tie.Need-returns
 returns c = search needs
 
 pub flow-check-spec : {M : Type 1} → statement M
-flow-check-spec = tie.close (tie.spec no-flows-requires check-from-requires returns)
+flow-check-spec = tie.close (tie.spec (λ no-flows-requires. search needs) check-from-requires returns)

@@ -8,26 +8,14 @@ use Rattle.river.specs.Flow.{_then_, flowRules}
 use Rattle.river.proofs.flow.flow_rules.Statement.{statement}
 use Rattle.river.proofs.flow.flow_rules.Tie as tie
 
-refuse-requires : tie.Need-refuse-requires
-refuse-requires c κs = search needs
-
 returns : tie.Need-returns
 unfolding flowRules _then_ need goOn
 returns c = record { answer = λ later. rw (c .refuse .ensures, le-ltb 0 (c .before .before .args .flow) (omega arith)) }
-
-refuse-requires-2 : tie.Need-refuse-requires-2
-refuse-requires-2 c κs = search needs
 
 returns-2 : tie.Need-returns-2
 unfolding flowRules _then_ need goOn
 returns-2 c =
     record { answer = λ later. rw (c .refuse2 .ensures, lt-ltb 0 (c .before .before .before .args .flow) (omega arith), lt-leb _ _ (c .before .if2 .taken)) }
-
-dam-fits-requires : tie.Need-dam-fits-requires
-dam-fits-requires c κs = search needs
-
-refuse-requires-3 : tie.Need-refuse-requires-3
-refuse-requires-3 c κs = search needs
 
 returns-3 : tie.Need-returns-3
 unfolding flowRules _then_ need goOn
@@ -43,4 +31,4 @@ returns-4 c =
     record { answer = λ later. rw (lt-ltb 0 q (omega arith), le-leb _ _ (c .before .before .if2 .left), sym (c .before .dam-fits .ensures) ∙ not-false _ (c .if3 .left)) }
 
 pub flow-rules-spec : {M : Type 1} → statement M
-flow-rules-spec = tie.close (tie.spec refuse-requires returns refuse-requires-2 returns-2 dam-fits-requires refuse-requires-3 returns-3 returns-4)
+flow-rules-spec = tie.close (tie.spec (λ refuse-requires. search needs) returns (λ refuse-requires-2 κs. search needs) returns-2 (λ dam-fits-requires κs. search needs) (λ refuse-requires-3 κs. search needs) returns-3 returns-4)

@@ -6,12 +6,6 @@ use Rattle.river.specs.Flow.{loadRule}
 use Rattle.river.proofs.flow.load_rule.Statement.{statement}
 use Rattle.river.proofs.flow.load_rule.Tie as tie
 
-mul-if1 : tie.Need-mul-if1
-mul-if1 c = search needs
-
-refuse-requires : tie.Need-refuse-requires
-refuse-requires c κs = search needs
-
 returns : tie.Need-returns
 unfolding loadRule need goOn
 returns c = record { answer = λ later. rw (c .refuse .ensures, lt-leb _ _ (c .before .if1 .taken)) }
@@ -21,4 +15,4 @@ unfolding loadRule need goOn
 returns-2 c = record { answer = λ later. rw (le-leb _ _ (c .if1 .left)) }
 
 pub load-rule-spec : {M : Type 1} → statement M
-load-rule-spec = tie.close (tie.spec mul-if1 refuse-requires returns returns-2)
+load-rule-spec = tie.close (tie.spec (λ mul-if1. search needs) (λ refuse-requires. search needs) returns returns-2)

@@ -3,9 +3,6 @@ use borrow.Author.Needs.{needs}
 use Rattle.river.proofs.flow.own_mass.Statement.{statement}
 use Rattle.river.proofs.flow.own_mass.Tie as tie
 
-bod-source-requires : tie.Need-bod-source-requires
-bod-source-requires c κs = search needs
-
 source-mass-requires : tie.Need-source-mass-requires
 source-mass-requires c κs =
     rw (c .bod-source .ensures) record { inflow = c .before .pre .inflow; concentration = c .before .pre .inflow-bod }
@@ -14,4 +11,4 @@ returns : tie.Need-returns
 returns c = rw (c .before .bod-source .ensures) at (c .source-mass .ensures)
 
 pub own-mass-spec : {M : Type 1} → statement M
-own-mass-spec = tie.close (tie.spec bod-source-requires source-mass-requires returns)
+own-mass-spec = tie.close (tie.spec (λ bod-source-requires. search needs) source-mass-requires returns)

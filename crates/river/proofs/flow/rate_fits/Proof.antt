@@ -12,11 +12,8 @@ mul-result c =
     let v : c .args .volume ≤ 4294967295 = omega arith in
     omega (arith, mul-le-mul r v)
 
-mul-result-2 : tie.Need-mul-result-2
-mul-result-2 c = search needs
-
 returns : tie.Need-returns
 returns c = search needs
 
 pub rate-fits-spec : {M : Type 1} → statement M
-rate-fits-spec = tie.close (tie.spec mul-result mul-result-2 returns)
+rate-fits-spec = tie.close (tie.spec mul-result (λ mul-result-2. search needs) returns)

@@ -7,23 +7,11 @@ use Rattle.river.specs.Flow.{_then_, rateRules}
 use Rattle.river.proofs.flow.rate_rules.Statement.{statement}
 use Rattle.river.proofs.flow.rate_rules.Tie as tie
 
-rate-fits-requires : tie.Need-rate-fits-requires
-rate-fits-requires c κs = search needs
-
-refuse-requires : tie.Need-refuse-requires
-refuse-requires c κs = search needs
-
 returns : tie.Need-returns
 unfolding rateRules _then_ need goOn
 returns c =
     let first = c .before in
     record { answer = λ later. rw (c .refuse .ensures, sym (first .before .rate-fits .ensures) ∙ not-true _ (first .if1 .taken)) }
-
-rate-fits-requires-2 : tie.Need-rate-fits-requires-2
-rate-fits-requires-2 c κs = search needs
-
-refuse-requires-2 : tie.Need-refuse-requires-2
-refuse-requires-2 c κs = search needs
 
 returns-2 : tie.Need-returns-2
 unfolding rateRules _then_ need goOn
@@ -40,4 +28,4 @@ returns-3 c =
 
 pub rate-rules-spec : {M : Type 1} → statement M
 rate-rules-spec =
-    tie.close (tie.spec rate-fits-requires refuse-requires returns rate-fits-requires-2 refuse-requires-2 returns-2 returns-3)
+    tie.close (tie.spec (λ rate-fits-requires. search needs) (λ refuse-requires κs. search needs) returns (λ rate-fits-requires-2 κs. search needs) (λ refuse-requires-2 κs. search needs) returns-2 returns-3)

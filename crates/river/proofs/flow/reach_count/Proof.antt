@@ -5,9 +5,6 @@ use Rattle.river.proofs.flow.Count.{all-reaches, count-reaches}
 use Rattle.river.proofs.flow.reach_count.Statement.{statement}
 use Rattle.river.proofs.flow.reach_count.Tie as tie
 
-cast-result : tie.Need-cast-result
-cast-result c = search needs
-
 returns : tie.Need-returns
 returns c = all-reaches (c .before .before .args .cards) (simp length-map at (c .before .before .good .0 .1 .1 .0 .1 .0 .1)) (c .if1 .taken)
 
@@ -17,4 +14,4 @@ returns-2 c =
     count-reaches (start .args .cards) (simp length-map at (start .good .0 .1 .1 .0 .1 .0 .1)) (c .before .if1 .left)
 
 pub reach-count-spec : {M : Type 1} → statement M
-reach-count-spec = tie.close (tie.spec cast-result returns returns-2)
+reach-count-spec = tie.close (tie.spec (λ cast-result. search needs) returns returns-2)

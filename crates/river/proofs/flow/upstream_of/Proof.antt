@@ -4,21 +4,12 @@ use native.Mathlib.Numerals.{add-one}
 use Rattle.river.proofs.flow.upstream_of.Statement.{statement}
 use Rattle.river.proofs.flow.upstream_of.Tie as tie
 
-add-reach : tie.Need-add-reach
-add-reach c = search needs
-
-cast-reach : tie.Need-cast-reach
-cast-reach c = search needs
-
 feeder-sum-requires : tie.Need-feeder-sum-requires
 feeder-sum-requires c κs = (search needs, rw add-one (c .before .before .before .pre .flow))
 
 feeder-sum-requires-2 : tie.Need-feeder-sum-requires-2
 feeder-sum-requires-2 c κs =
     (search needs, rw add-one (c .before .before .before .before .before .before .before .pre .mass))
-
-feeder-depth-requires : tie.Need-feeder-depth-requires
-feeder-depth-requires c κs = search needs
 
 returns : tie.Need-returns
 returns c =
@@ -32,9 +23,9 @@ pub upstream-of-spec : {M : Type 1} → statement M
 upstream-of-spec =
     tie.close
     (tie.spec
-    add-reach
-    cast-reach
+    (λ add-reach. search needs)
+    (λ cast-reach. search needs)
     feeder-sum-requires
     feeder-sum-requires-2
-    feeder-depth-requires
+    (λ feeder-depth-requires. search needs)
     returns)

@@ -7,9 +7,6 @@ use Rattle.river.proofs.head.Stored.{rise-stored, fall-stored}
 use Rattle.river.proofs.head.aerate.Statement.{statement}
 use Rattle.river.proofs.head.aerate.Tie as tie
 
-share-of-requires : tie.Need-share-of-requires
-share-of-requires c κs = search needs
-
 cast-result : tie.Need-cast-result
 cast-result c =
     let o = c .before .before .args .oxygen in
@@ -25,15 +22,6 @@ add-result c =
     let w = c .before .before .args .weight in
     let d = c .before .before .args .whole in
     omega (arith, share-small (s - o) w d (c .before .before .pre .within))
-
-sub-share-of : tie.Need-sub-share-of
-sub-share-of c = search needs
-
-sub-share-of-2 : tie.Need-sub-share-of-2
-sub-share-of-2 c = search needs
-
-share-of-requires-2 : tie.Need-share-of-requires-2
-share-of-requires-2 c κs = search needs
 
 cast-result-2 : tie.Need-cast-result-2
 cast-result-2 c =
@@ -71,12 +59,12 @@ pub aerate-spec : {M : Type 1} → statement M
 aerate-spec =
     tie.close
     (tie.spec
-    share-of-requires
+    (λ share-of-requires. search needs)
     cast-result
     add-result
-    sub-share-of
-    sub-share-of-2
-    share-of-requires-2
+    (λ sub-share-of. search needs)
+    (λ sub-share-of-2. search needs)
+    (λ share-of-requires-2. search needs)
     cast-result-2
     add-result-2
     returns

@@ -9,25 +9,10 @@ use Rattle.river.proofs.head.Stored.{saturated-stored}
 use Rattle.river.proofs.head.below_dam.Statement.{statement}
 use Rattle.river.proofs.head.below_dam.Tie as tie
 
-enum-told : tie.Need-enum-told
-enum-told c = search needs
-
-enum-known-dam : tie.Need-enum-known-dam
-enum-known-dam c = search needs
-
-saturation-of-requires : tie.Need-saturation-of-requires
-saturation-of-requires c κs = search needs
-
 add-aerate : tie.Need-add-aerate
 add-aerate c =
     let start = c .before .before .before .before in
     omega (arith, saturation-of-small (start .args .card) (start .pre .fields .temperature))
-
-cast-aerate : tie.Need-cast-aerate
-cast-aerate c = search needs
-
-cast-aerate-2 : tie.Need-cast-aerate-2
-cast-aerate-2 c = search needs
 
 sub-aerate : tie.Need-sub-aerate
 sub-aerate c =
@@ -39,9 +24,6 @@ mul-aerate c =
     let start = c .before .before .before .before in
     let w = dam-numbers (c .before .before .dam .given .1) (start .pre .dam) in
     record { fits = weight-fits (w .0) (omega (arith, start .pre .flows .bounded)) }
-
-mul-aerate-2 : tie.Need-mul-aerate-2
-mul-aerate-2 c = search needs
 
 aerate-requires : tie.Need-aerate-requires
 aerate-requires c κs =
@@ -66,15 +48,15 @@ pub below-dam-spec : {M : Type 1} → statement M
 below-dam-spec =
     tie.close
     (tie.spec
-    enum-told
-    enum-known-dam
-    saturation-of-requires
+    (λ enum-told. search needs)
+    (λ enum-known-dam. search needs)
+    (λ saturation-of-requires. search needs)
     add-aerate
-    cast-aerate
-    cast-aerate-2
+    (λ cast-aerate. search needs)
+    (λ cast-aerate-2. search needs)
     sub-aerate
     mul-aerate
-    mul-aerate-2
+    (λ mul-aerate-2. search needs)
     aerate-requires
     returns
     returns-2)

@@ -6,43 +6,16 @@ use Rattle.river.proofs.head.Bounds.{demand-total, demand-small}
 use Rattle.river.proofs.head.head_demand.Statement.{statement}
 use Rattle.river.proofs.head.head_demand.Tie as tie
 
-upstream-demand-requires : tie.Need-upstream-demand-requires
-upstream-demand-requires c κs = search needs
-
-cast-inflow : tie.Need-cast-inflow
-cast-inflow c = search needs
-
 mul-result : tie.Need-mul-result
 mul-result c = omega (arith, demand-total (c .before .before .pre) (c .before .upstream-demand .ensures))
 
-mul-result-2 : tie.Need-mul-result-2
-mul-result-2 c = search needs
-
-cast-result : tie.Need-cast-result
-cast-result c = search needs
-
-mul-result-3 : tie.Need-mul-result-3
-mul-result-3 c = search needs
-
 add-result : tie.Need-add-result
 add-result c = omega (arith, demand-total (c .before .before .before .pre) (c .before .before .upstream-demand .ensures))
-
-cast-result-2 : tie.Need-cast-result-2
-cast-result-2 c = search needs
-
-mul-result-4 : tie.Need-mul-result-4
-mul-result-4 c = search needs
 
 add-result-2 : tie.Need-add-result-2
 add-result-2 c =
     let up = c .before .before .before in
     omega (arith, demand-total (up .before .pre) (up .upstream-demand .ensures))
-
-add-result-3 : tie.Need-add-result-3
-add-result-3 c = search needs
-
-div-result : tie.Need-div-result
-div-result c = search needs
 
 cast-result-3 : tie.Need-cast-result-3
 cast-result-3 c =
@@ -57,17 +30,17 @@ pub head-demand-spec : {M : Type 1} → statement M
 head-demand-spec =
     tie.close
     (tie.spec
-    upstream-demand-requires
-    cast-inflow
+    (λ upstream-demand-requires. search needs)
+    (λ cast-inflow. search needs)
     mul-result
-    mul-result-2
-    cast-result
-    mul-result-3
+    (λ mul-result-2. search needs)
+    (λ cast-result. search needs)
+    (λ mul-result-3. search needs)
     add-result
-    cast-result-2
-    mul-result-4
+    (λ cast-result-2. search needs)
+    (λ mul-result-4. search needs)
     add-result-2
-    add-result-3
-    div-result
+    (λ add-result-3. search needs)
+    (λ div-result. search needs)
     cast-result-3
     returns)

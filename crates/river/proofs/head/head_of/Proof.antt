@@ -7,18 +7,6 @@ use Rattle.river.proofs.head.Heads.{reach-few, sum-bod-fits, sum-oxygen
 use Rattle.river.proofs.head.head_of.Statement.{statement}
 use Rattle.river.proofs.head.head_of.Tie as tie
 
-mul-card : tie.Need-mul-card
-mul-card c = search needs
-
-element-copy-out-card : tie.Need-element-copy-out-card
-element-copy-out-card c = search needs
-
-add-reach : tie.Need-add-reach
-add-reach c = search needs
-
-cast-reach : tie.Need-cast-reach
-cast-reach c = search needs
-
 feeder-sum-requires : tie.Need-feeder-sum-requires
 feeder-sum-requires c κs =
     let s = c .before .before .before .before .before in
@@ -29,25 +17,10 @@ feeder-sum-requires-2 c κs =
     let s = c .before .before .before .before .before .before .before .before .before .before in
     (le-of-lt (reach-few (s .pre)), rw add-one (sum-oxygen-fits (s .pre)))
 
-element-copy-out-fed : tie.Need-element-copy-out-fed
-element-copy-out-fed c = search needs
-
-mul-qu : tie.Need-mul-qu
-mul-qu c = search needs
-
-element-copy-out-qu : tie.Need-element-copy-out-qu
-element-copy-out-qu c = search needs
-
-cast-qu : tie.Need-cast-qu
-cast-qu c = search needs
-
 sub-qu : tie.Need-sub-qu
 sub-qu c =
     let s = c .before .before .before .before .before .before .before .before .before .before .before .before .before .before in
     inflow-within (s .pre) (card-of-river (s .args .t1) (s .args .i) (s .pre .within))
-
-bod-source-requires : tie.Need-bod-source-requires
-bod-source-requires c κs = search needs
 
 head-demand-requires : tie.Need-head-demand-requires
 head-demand-requires c κs =
@@ -73,18 +46,18 @@ pub head-of-spec : {M : Type 1} → statement M
 head-of-spec =
     tie.close
     (tie.spec
-    mul-card
-    element-copy-out-card
-    add-reach
-    cast-reach
+    (λ mul-card. search needs)
+    (λ element-copy-out-card. search needs)
+    (λ add-reach. search needs)
+    (λ cast-reach. search needs)
     feeder-sum-requires
     feeder-sum-requires-2
-    element-copy-out-fed
-    mul-qu
-    element-copy-out-qu
-    cast-qu
+    (λ element-copy-out-fed. search needs)
+    (λ mul-qu. search needs)
+    (λ element-copy-out-qu. search needs)
+    (λ cast-qu. search needs)
     sub-qu
-    bod-source-requires
+    (λ bod-source-requires. search needs)
     head-demand-requires
     head-oxygen-requires
     returns)

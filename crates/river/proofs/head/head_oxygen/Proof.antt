@@ -9,29 +9,11 @@ use Rattle.river.proofs.head.Stored.{mixed-stored}
 use Rattle.river.proofs.head.head_oxygen.Statement.{statement}
 use Rattle.river.proofs.head.head_oxygen.Tie as tie
 
-upstream-oxygen-requires : tie.Need-upstream-oxygen-requires
-upstream-oxygen-requires c κs = search needs
-
-cast-upstream : tie.Need-cast-upstream
-cast-upstream c = search needs
-
-cast-inflow : tie.Need-cast-inflow
-cast-inflow c = search needs
-
 mul-result : tie.Need-mul-result
 mul-result c =
     let s = c .before .before in
     let u : c .before .upstream-oxygen .result ≤ storedLimit = omega arith in
     omega (arith, oxygen-total (s .args .qu) (s .args .card .inflow) u (s .pre .ready .fields .inflow-oxygen), s .pre .ready .flows .bounded)
-
-cast-result : tie.Need-cast-result
-cast-result c = search needs
-
-mul-result-2 : tie.Need-mul-result-2
-mul-result-2 c = search needs
-
-add-result : tie.Need-add-result
-add-result c = search needs
 
 mul-result-3 : tie.Need-mul-result-3
 mul-result-3 c =
@@ -44,12 +26,6 @@ add-result-2 c =
     let s = c .before .before .before in
     let u : c .before .before .upstream-oxygen .result ≤ storedLimit = omega arith in
     omega (arith, oxygen-total (s .args .qu) (s .args .card .inflow) u (s .pre .ready .fields .inflow-oxygen), s .pre .ready .flows .bounded)
-
-add-result-3 : tie.Need-add-result-3
-add-result-3 c = search needs
-
-div-result : tie.Need-div-result
-div-result c = search needs
 
 cast-result-2 : tie.Need-cast-result-2
 cast-result-2 c =
@@ -68,16 +44,16 @@ pub head-oxygen-spec : {M : Type 1} → statement M
 head-oxygen-spec =
     tie.close
     (tie.spec
-    upstream-oxygen-requires
-    cast-upstream
-    cast-inflow
+    (λ upstream-oxygen-requires. search needs)
+    (λ cast-upstream. search needs)
+    (λ cast-inflow. search needs)
     mul-result
-    cast-result
-    mul-result-2
-    add-result
+    (λ cast-result. search needs)
+    (λ mul-result-2. search needs)
+    (λ add-result. search needs)
     mul-result-3
     add-result-2
-    add-result-3
-    div-result
+    (λ add-result-3. search needs)
+    (λ div-result. search needs)
     cast-result-2
     returns)

@@ -10,20 +10,8 @@ use Rattle.river.proofs.head.put_foot.Tie as tie
 mul-next : tie.Need-mul-next
 mul-next c = let b : c .args .bod ≤ storedLimit = omega arith in omega (arith, mul-le-mul (c .pre .1) b)
 
-mul-next-2 : tie.Need-mul-next-2
-mul-next-2 c = search needs
-
-element-write-next : tie.Need-element-write-next
-element-write-next c = search needs
-
 mul-next-3 : tie.Need-mul-next-3
 mul-next-3 c = let b : c .args .oxygen ≤ storedLimit = omega arith in omega (arith, mul-le-mul (c .pre .1) b)
-
-mul-next-4 : tie.Need-mul-next-4
-mul-next-4 c = search needs
-
-element-write-next-2 : tie.Need-element-write-next-2
-element-write-next-2 c = search needs
 
 returns : tie.Need-returns
 returns c = search needs
@@ -33,9 +21,9 @@ put-foot-spec =
     tie.close
     (tie.spec
     mul-next
-    mul-next-2
-    element-write-next
+    (λ mul-next-2. search needs)
+    (λ element-write-next. search needs)
     mul-next-3
-    mul-next-4
-    element-write-next-2
+    (λ mul-next-4. search needs)
+    (λ element-write-next-2. search needs)
     returns)

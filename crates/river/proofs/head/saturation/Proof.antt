@@ -17,9 +17,6 @@ mul-result c = omega (arith, mul-le-mul (c .pre) (c .pre))
 add-result : tie.Need-add-result
 add-result c = omega (arith, mul-le-mul (c .pre) (c .pre))
 
-mul-result-2 : tie.Need-mul-result-2
-mul-result-2 c = search needs
-
 mul-result-3 : tie.Need-mul-result-3
 mul-result-3 c = omega (arith, mul-le-mul (mul-le-mul (c .pre) (c .pre)) (c .pre))
 
@@ -47,7 +44,7 @@ saturation-spec =
     mul-square
     mul-result
     add-result
-    mul-result-2
+    (λ mul-result-2. search needs)
     mul-result-3
     mul-result-4
     add-result-2

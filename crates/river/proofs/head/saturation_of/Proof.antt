@@ -4,12 +4,9 @@ use Rattle.river.specs.Saturation.{saturationOf}
 use Rattle.river.proofs.head.saturation_of.Statement.{statement}
 use Rattle.river.proofs.head.saturation_of.Tie as tie
 
-saturation-requires : tie.Need-saturation-requires
-saturation-requires c κs = search needs
-
 returns : tie.Need-returns
 unfolding saturationOf
 returns c = search needs
 
 pub saturation-of-spec : {M : Type 1} → statement M
-saturation-of-spec = tie.close (tie.spec saturation-requires returns)
+saturation-of-spec = tie.close (tie.spec (λ saturation-requires. search needs) returns)

@@ -8,12 +8,6 @@ use Rattle.river.proofs.head.Bounds.{share-small, long-division}
 use Rattle.river.proofs.head.share_of.Statement.{statement}
 use Rattle.river.proofs.head.share_of.Tie as tie
 
-cast-high : tie.Need-cast-high
-cast-high c = search needs
-
-cast-low : tie.Need-cast-low
-cast-low c = search needs
-
 mul-first : tie.Need-mul-first
 mul-first c =
     let a = c .args .a in
@@ -21,9 +15,6 @@ mul-first c =
     let h : a / 65536 ≤ 65535 = omega arith in
     let k : b ≤ 1000 * flowLimit = omega arith in
     omega (arith, mul-le-mul h k)
-
-rem-rest : tie.Need-rem-rest
-rem-rest c = search needs
 
 mul-rest : tie.Need-mul-rest
 mul-rest c =
@@ -47,18 +38,12 @@ add-rest c =
     let k : b ≤ 1000 * flowLimit = omega arith in
     omega (arith, mod-lt (a / 65536 * b) (c .pre .some), mul-le-mul h k)
 
-div-result : tie.Need-div-result
-div-result c = search needs
-
 mul-result : tie.Need-mul-result
 mul-result c =
     let a = c .args .a in
     let b = c .args .b in
     let d = c .args .d in
     omega (arith, share-small (a / 65536) b d (c .pre .within))
-
-div-result-2 : tie.Need-div-result-2
-div-result-2 c = search needs
 
 add-result : tie.Need-add-result
 add-result c =
@@ -78,15 +63,15 @@ pub share-of-spec : {M : Type 1} → statement M
 share-of-spec =
     tie.close
     (tie.spec
-    cast-high
-    cast-low
+    (λ cast-high. search needs)
+    (λ cast-low. search needs)
     mul-first
-    rem-rest
+    (λ rem-rest. search needs)
     mul-rest
     mul-rest-2
     add-rest
-    div-result
+    (λ div-result. search needs)
     mul-result
-    div-result-2
+    (λ div-result-2. search needs)
     add-result
     returns)

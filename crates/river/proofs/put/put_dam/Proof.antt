@@ -6,12 +6,6 @@ use Rattle.river.proofs.bytes.Puts.{chain, put-none}
 use Rattle.river.proofs.put.put_dam.Statement.{statement}
 use Rattle.river.proofs.put.put_dam.Tie as tie
 
-enum-known-dam : tie.Need-enum-known-dam
-enum-known-dam c = search needs
-
-enum-told : tie.Need-enum-told
-enum-told c = search needs
-
 returns : tie.Need-returns
 returns c = rw (c .enum-told .given .1) (put-none _ _)
 
@@ -24,9 +18,6 @@ put-two-requires c κs = let a = c .before .before .before .before .before in le
 put-four-requires : tie.Need-put-four-requires
 put-four-requires c κs = let a = c .before .before .before .before .before .before .before .before .before in let h = rw (a .before .dam .given .1) at (a .before .before .before .before .pre) in omega (arith, h)
 
-same-length : tie.Need-same-length
-same-length c = search needs
-
 returns-2 : tie.Need-returns-2
 returns-2 c =
     let d = c .before .before in
@@ -38,11 +29,11 @@ pub put-dam-spec : {M : Type 1} → statement M
 put-dam-spec =
     tie.close
     (tie.spec
-    enum-known-dam
-    enum-told
+    (λ enum-known-dam. search needs)
+    (λ enum-told. search needs)
     returns
     put-pair-requires
     put-two-requires
     put-four-requires
-    same-length
+    (λ same-length. search needs)
     returns-2)

@@ -5,19 +5,10 @@ use Rattle.river.proofs.bytes.Puts.{chain}
 use Rattle.river.proofs.put.put_header.Statement.{statement}
 use Rattle.river.proofs.put.put_header.Tie as tie
 
-put-pair-requires : tie.Need-put-pair-requires
-put-pair-requires c κs = search needs
-
-put-two-requires : tie.Need-put-two-requires
-put-two-requires c κs = search needs
-
-same-length : tie.Need-same-length
-same-length c = search needs
-
 returns : tie.Need-returns
 returns c =
     let b = c .before .before in
     chain (b .before .before .before .before .put-pair .ensures) (b .put-two .ensures)
 
 pub put-header-spec : {M : Type 1} → statement M
-put-header-spec = tie.close (tie.spec put-pair-requires put-two-requires same-length returns)
+put-header-spec = tie.close (tie.spec (λ put-pair-requires. search needs) (λ put-two-requires κs. search needs) (λ same-length. search needs) returns)

@@ -10,11 +10,8 @@ use Rattle.river.proofs.put.put_optionals.Tie as tie
 put-dam-requires : tie.Need-put-dam-requires
 put-dam-requires c κs = omega (arith, simp length-append at (c .before .before .pre))
 
-same-length : tie.Need-same-length
-same-length c = search needs
-
 returns : tie.Need-returns
 returns c = chain (c .before .before .put-dam .ensures) (put-none _ _)
 
 pub put-optionals-spec : {M : Type 1} → statement M
-put-optionals-spec = tie.close (tie.spec put-dam-requires same-length returns)
+put-optionals-spec = tie.close (tie.spec put-dam-requires (λ same-length. search needs) returns)

@@ -5,21 +5,6 @@ use Rattle.river.proofs.bytes.Puts.{chain}
 use Rattle.river.proofs.put.put_rates.Statement.{statement}
 use Rattle.river.proofs.put.put_rates.Tie as tie
 
-put-pair-requires : tie.Need-put-pair-requires
-put-pair-requires c κs = search needs
-
-put-pair-requires-2 : tie.Need-put-pair-requires-2
-put-pair-requires-2 c κs = search needs
-
-put-two-requires : tie.Need-put-two-requires
-put-two-requires c κs = search needs
-
-put-two-requires-2 : tie.Need-put-two-requires-2
-put-two-requires-2 c κs = search needs
-
-same-length : tie.Need-same-length
-same-length c = search needs
-
 returns : tie.Need-returns
 returns c =
     let e = c .before .before in
@@ -32,9 +17,9 @@ pub put-rates-spec : {M : Type 1} → statement M
 put-rates-spec =
     tie.close
     (tie.spec
-    put-pair-requires
-    put-pair-requires-2
-    put-two-requires
-    put-two-requires-2
-    same-length
+    (λ put-pair-requires. search needs)
+    (λ put-pair-requires-2. search needs)
+    (λ put-two-requires. search needs)
+    (λ put-two-requires-2. search needs)
+    (λ same-length. search needs)
     returns)

@@ -5,18 +5,6 @@ use Rattle.river.proofs.bytes.Puts.{chain}
 use Rattle.river.proofs.put.put_reach.Statement.{statement}
 use Rattle.river.proofs.put.put_reach.Tie as tie
 
-put-rates-requires : tie.Need-put-rates-requires
-put-rates-requires c κs = search needs
-
-put-inflow-requires : tie.Need-put-inflow-requires
-put-inflow-requires c κs = search needs
-
-put-load-requires : tie.Need-put-load-requires
-put-load-requires c κs = search needs
-
-same-length : tie.Need-same-length
-same-length c = search needs
-
 returns : tie.Need-returns
 returns c =
     let d = c .before .before in
@@ -27,4 +15,4 @@ returns c =
 pub put-reach-spec : {M : Type 1} → statement M
 put-reach-spec =
     tie.close
-    (tie.spec put-rates-requires put-inflow-requires put-load-requires same-length returns)
+    (tie.spec (λ put-rates-requires. search needs) (λ put-inflow-requires κs. search needs) (λ put-load-requires κs. search needs) (λ same-length. search needs) returns)

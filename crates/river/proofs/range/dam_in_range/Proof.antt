@@ -7,12 +7,6 @@ use Rattle.river.proofs.Tests.{tests}
 use Rattle.river.proofs.range.dam_in_range.Statement.{statement}
 use Rattle.river.proofs.range.dam_in_range.Tie as tie
 
-enum-known-d : tie.Need-enum-known-d
-enum-known-d c = search needs
-
-enum-told : tie.Need-enum-told
-enum-told c = search needs
-
 returns : tie.Need-returns
 unfolding damInRange
 returns c = sym (ap damInRange (c .enum-told .given .1))
@@ -26,4 +20,4 @@ unfolding damInRange
 returns-3 c = rw (c .before .before .d .given .1) (search tests)
 
 pub dam-in-range-spec : {M : Type 1} → statement M
-dam-in-range-spec = tie.close (tie.spec enum-known-d enum-told returns returns-2 returns-3)
+dam-in-range-spec = tie.close (tie.spec (λ enum-known-d. search needs) (λ enum-told. search needs) returns returns-2 returns-3)

@@ -7,12 +7,9 @@ use Rattle.river.specs.Optional.{optionalsInRange}
 use Rattle.river.proofs.range.optionals_in_range.Statement.{statement}
 use Rattle.river.proofs.range.optionals_in_range.Tie as tie
 
-dam-in-range-requires : tie.Need-dam-in-range-requires
-dam-in-range-requires c κs = search needs
-
 returns : tie.Need-returns
 unfolding optionalsInRange
 returns c = c .dam-in-range .ensures ∙ sym (and-true _)
 
 pub optionals-in-range-spec : {M : Type 1} → statement M
-optionals-in-range-spec = tie.close (tie.spec dam-in-range-requires returns)
+optionals-in-range-spec = tie.close (tie.spec (λ dam-in-range-requires. search needs) returns)

@@ -4,15 +4,6 @@ use borrow.Author.Needs.{needs}
 use Rattle.river.proofs.read.reach_refusal.Statement.{statement}
 use Rattle.river.proofs.read.reach_refusal.Tie as tie
 
-enum-known-answer : tie.Need-enum-known-answer
-enum-known-answer c = search needs
-
-enum-told : tie.Need-enum-told
-enum-told c = search needs
-
-refuse-requires : tie.Need-refuse-requires
-refuse-requires c κs = search needs
-
 returns : tie.Need-returns
 returns c = search needs
 
@@ -21,4 +12,4 @@ returns-2 c = rw (c .before .enum-told .given .1) (c .refuse .ensures)
 
 pub reach-refusal-spec : {M : Type 1} → statement M
 reach-refusal-spec =
-    tie.close (tie.spec enum-known-answer enum-told refuse-requires returns returns-2)
+    tie.close (tie.spec (λ enum-known-answer. search needs) (λ enum-told. search needs) (λ refuse-requires. search needs) returns returns-2)

@@ -25,24 +25,6 @@ made s vs = accepted (cardAt s vs)
 answer : (c : tie.After-read-dam) → c .read-dam .result ≡ damOf (readOptional damRecord (c .before .before .before .args .reach) (drop reachBytes (now (c .before .before .before .args .s))))
 answer c = rw (← c .before .behind .ensures) (c .read-dam .ensures)
 
-behind-requires : tie.Need-behind-requires
-behind-requires c κs = search needs
-
-read-dam-requires : tie.Need-read-dam-requires
-read-dam-requires c κs = search needs
-
-enum-known-r : tie.Need-enum-known-r
-enum-known-r c = search needs
-
-enum-known-dam : tie.Need-enum-known-dam
-enum-known-dam c = search needs
-
-card-at-requires : tie.Need-card-at-requires
-card-at-requires c κs = search needs
-
-size-of-requires : tie.Need-size-of-requires
-size-of-requires c κs = search needs
-
 add-t11 : tie.Need-add-t11
 add-t11 c = omega (arith, c .before .before .before .before .before .before .before .before .pre, c .size-of .ensures, size-small (c .before .card-at .result))
 
@@ -63,12 +45,12 @@ pub read-card-spec : {M : Type 1} → statement M
 read-card-spec =
     tie.close
     (tie.spec
-    behind-requires
-    read-dam-requires
-    enum-known-r
-    enum-known-dam
-    card-at-requires
-    size-of-requires
+    (λ behind-requires. search needs)
+    (λ read-dam-requires. search needs)
+    (λ enum-known-r. search needs)
+    (λ enum-known-dam. search needs)
+    (λ card-at-requires. search needs)
+    (λ size-of-requires. search needs)
     add-t11
     returns
     returns-2)

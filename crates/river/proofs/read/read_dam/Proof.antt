@@ -7,33 +7,15 @@ use Rattle.river.specs.Refusal.{need, choose}
 use Rattle.river.proofs.read.read_dam.Statement.{statement}
 use Rattle.river.proofs.read.read_dam.Tie as tie
 
-marked-requires : tie.Need-marked-requires
-marked-requires c κs = search needs
-
 returns : tie.Need-returns
 unfolding readOptional choose
 returns c = rw (← c .before .marked .ensures, not-true (c .before .marked .result) (c .if1 .taken))
-
-refuse-requires : tie.Need-refuse-requires
-refuse-requires c κs = search needs
 
 returns-2 : tie.Need-returns-2
 unfolding readOptional need choose
 returns-2 c =
     let e1 = c .before .before in
     rw (c .refuse .ensures, ← e1 .before .marked .ensures, not-false (e1 .before .marked .result) (e1 .if1 .left), lt-leb _ _ (c .before .if2 .taken))
-
-two-at-requires : tie.Need-two-at-requires
-two-at-requires c κs = search needs
-
-four-at-requires : tie.Need-four-at-requires
-four-at-requires c κs = search needs
-
-dam-in-range-requires : tie.Need-dam-in-range-requires
-dam-in-range-requires c κs = search needs
-
-refuse-requires-2 : tie.Need-refuse-requires-2
-refuse-requires-2 c κs = search needs
 
 returns-3 : tie.Need-returns-3
 unfolding readOptional need choose
@@ -55,13 +37,13 @@ pub read-dam-spec : {M : Type 1} → statement M
 read-dam-spec =
     tie.close
     (tie.spec
-    marked-requires
+    (λ marked-requires. search needs)
     returns
-    refuse-requires
+    (λ refuse-requires. search needs)
     returns-2
-    two-at-requires
-    four-at-requires
-    dam-in-range-requires
-    refuse-requires-2
+    (λ two-at-requires. search needs)
+    (λ four-at-requires. search needs)
+    (λ dam-in-range-requires. search needs)
+    (λ refuse-requires-2. search needs)
     returns-3
     returns-4)

@@ -10,36 +10,15 @@ use Rattle.river.specs.Refusal.{need}
 use Rattle.river.proofs.read.read_header.Statement.{statement}
 use Rattle.river.proofs.read.read_header.Tie as tie
 
-refuse-requires : tie.Need-refuse-requires
-refuse-requires c κs = search needs
-
 returns : tie.Need-returns
 unfolding readHeader need
 returns c = rw (c .refuse .ensures, lt-leb _ _ (c .before .if1 .taken))
-
-marked-requires : tie.Need-marked-requires
-marked-requires c κs = search needs
-
-refuse-requires-2 : tie.Need-refuse-requires-2
-refuse-requires-2 c κs = search needs
 
 returns-2 : tie.Need-returns-2
 unfolding readHeader need
 returns-2 c =
     let m = c .before .before in
     rw (c .refuse2 .ensures, le-leb _ _ (m .before .if1 .left), ← m .marked .ensures, not-true (m .marked .result) (c .before .if2 .taken))
-
-two-at-requires : tie.Need-two-at-requires
-two-at-requires c κs = search needs
-
-cast-count-ok : tie.Need-cast-count-ok
-cast-count-ok c = search needs
-
-count-ok-requires : tie.Need-count-ok-requires
-count-ok-requires c κs = search needs
-
-refuse-requires-3 : tie.Need-refuse-requires-3
-refuse-requires-3 c κs = search needs
 
 returns-3 : tie.Need-returns-3
 unfolding readHeader need
@@ -62,15 +41,15 @@ pub read-header-spec : {M : Type 1} → statement M
 read-header-spec =
     tie.close
     (tie.spec
-    refuse-requires
+    (λ refuse-requires. search needs)
     returns
-    marked-requires
-    refuse-requires-2
+    (λ marked-requires. search needs)
+    (λ refuse-requires-2. search needs)
     returns-2
-    two-at-requires
-    cast-count-ok
-    count-ok-requires
-    refuse-requires-3
+    (λ two-at-requires. search needs)
+    (λ cast-count-ok. search needs)
+    (λ count-ok-requires. search needs)
+    (λ refuse-requires-3. search needs)
     returns-3
     cast-t9
     returns-4)

@@ -7,33 +7,15 @@ use Rattle.river.specs.Refusal.{need}
 use Rattle.river.proofs.read.read_here.Statement.{statement}
 use Rattle.river.proofs.read.read_here.Tie as tie
 
-refuse-requires : tie.Need-refuse-requires
-refuse-requires c κs = search needs
-
 returns : tie.Need-returns
 unfolding readReach need
 returns c = rw (c .refuse .ensures, lt-leb _ _ (c .before .if1 .taken))
-
-marked-requires : tie.Need-marked-requires
-marked-requires c κs = search needs
-
-refuse-requires-2 : tie.Need-refuse-requires-2
-refuse-requires-2 c κs = search needs
 
 returns-2 : tie.Need-returns-2
 unfolding readReach need
 returns-2 c =
     let m = c .before .before in
     rw (c .refuse2 .ensures, le-leb _ _ (m .before .if1 .left), ← m .marked .ensures, not-true (m .marked .result) (c .before .if2 .taken))
-
-card-at-requires : tie.Need-card-at-requires
-card-at-requires c κs = search needs
-
-in-range-requires : tie.Need-in-range-requires
-in-range-requires c κs = search needs
-
-refuse-requires-3 : tie.Need-refuse-requires-3
-refuse-requires-3 c κs = search needs
 
 returns-3 : tie.Need-returns-3
 unfolding readReach need
@@ -42,12 +24,6 @@ returns-3 c =
     let e2 = r .before .before in
     rw (c .refuse3 .ensures, le-leb _ _ (e2 .before .before .if1 .left), ← e2 .before .marked .ensures, not-false (e2 .before .marked .result) (e2 .if2 .left), ← r .before .card-at .ensures, ← r .in-range .ensures, not-true (r .in-range .result) (c .before .if3 .taken))
 
-outlet-ok-requires : tie.Need-outlet-ok-requires
-outlet-ok-requires c κs = search needs
-
-refuse-requires-4 : tie.Need-refuse-requires-4
-refuse-requires-4 c κs = search needs
-
 returns-4 : tie.Need-returns-4
 unfolding readReach need
 returns-4 c =
@@ -55,9 +31,6 @@ returns-4 c =
     let r = o .before .before in
     let e2 = r .before .before in
     rw (c .refuse4 .ensures, le-leb _ _ (e2 .before .before .if1 .left), ← e2 .before .marked .ensures, not-false (e2 .before .marked .result) (e2 .if2 .left), ← r .before .card-at .ensures, ← r .in-range .ensures, not-false (r .in-range .result) (o .before .if3 .left), ← o .outlet-ok .ensures, not-true (o .outlet-ok .result) (c .before .if4 .taken))
-
-read-card-requires : tie.Need-read-card-requires
-read-card-requires c κs = search needs
 
 returns-5 : tie.Need-returns-5
 unfolding readReach need
@@ -71,17 +44,17 @@ pub read-here-spec : {M : Type 1} → statement M
 read-here-spec =
     tie.close
     (tie.spec
-    refuse-requires
+    (λ refuse-requires. search needs)
     returns
-    marked-requires
-    refuse-requires-2
+    (λ marked-requires. search needs)
+    (λ refuse-requires-2. search needs)
     returns-2
-    card-at-requires
-    in-range-requires
-    refuse-requires-3
+    (λ card-at-requires. search needs)
+    (λ in-range-requires. search needs)
+    (λ refuse-requires-3. search needs)
     returns-3
-    outlet-ok-requires
-    refuse-requires-4
+    (λ outlet-ok-requires. search needs)
+    (λ refuse-requires-4. search needs)
     returns-4
-    read-card-requires
+    (λ read-card-requires. search needs)
     returns-5)

@@ -10,24 +10,15 @@ use Rattle.river.specs.Refusal.{need}
 use Rattle.river.proofs.read.read_reach.Statement.{statement}
 use Rattle.river.proofs.read.read_reach.Tie as tie
 
-refuse-requires : tie.Need-refuse-requires
-refuse-requires c κs = search needs
-
 returns : tie.Need-returns
 unfolding readReach need
 returns c =
     let a = c .before .before .before .args in
     rw (c .refuse .ensures, lt-leb 26 (length (drop (a .at) (now (a .file)))) (omega (arith, length-drop (a .at) (now (a .file)))))
 
-behind-requires : tie.Need-behind-requires
-behind-requires c κs = search needs
-
-read-here-requires : tie.Need-read-here-requires
-read-here-requires c κs = search needs
-
 returns-2 : tie.Need-returns-2
 returns-2 c = rw (← c .before .behind .ensures) (c .read-here .ensures)
 
 pub read-reach-spec : {M : Type 1} → statement M
 read-reach-spec =
-    tie.close (tie.spec refuse-requires returns behind-requires read-here-requires returns-2)
+    tie.close (tie.spec (λ refuse-requires. search needs) returns (λ behind-requires κs. search needs) (λ read-here-requires κs. search needs) returns-2)

@@ -10,21 +10,6 @@ use Rattle.river.proofs.read.Steps.{not-counted, file-refused}
 use Rattle.river.proofs.reader.begin.Statement.{statement}
 use Rattle.river.proofs.reader.begin.Tie as tie
 
-read-header-requires : tie.Need-read-header-requires
-read-header-requires c κs = search needs
-
-blank-requires : tie.Need-blank-requires
-blank-requires c κs = search needs
-
-enum-known-header : tie.Need-enum-known-header
-enum-known-header c = search needs
-
-enum-told : tie.Need-enum-told
-enum-told c = search needs
-
-header-refusal-requires : tie.Need-header-refusal-requires
-header-refusal-requires c κs = search needs
-
 returns : tie.Need-returns
 returns c =
     let told = c .before in
@@ -44,10 +29,10 @@ pub begin-spec : {M : Type 1} → statement M
 begin-spec =
     tie.close
     (tie.spec
-    read-header-requires
-    blank-requires
-    enum-known-header
-    enum-told
-    header-refusal-requires
+    (λ read-header-requires. search needs)
+    (λ blank-requires. search needs)
+    (λ enum-known-header. search needs)
+    (λ enum-told. search needs)
+    (λ header-refusal-requires. search needs)
     returns
     returns-2)

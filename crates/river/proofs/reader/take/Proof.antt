@@ -11,15 +11,6 @@ use Rattle.river.proofs.Tests.{mapped-length}
 use Rattle.river.proofs.reader.take.Statement.{statement}
 use Rattle.river.proofs.reader.take.Tie as tie
 
-enum-known-reach : tie.Need-enum-known-reach
-enum-known-reach c = search needs
-
-enum-told : tie.Need-enum-told
-enum-told c = search needs
-
-reach-refusal-requires : tie.Need-reach-refusal-requires
-reach-refusal-requires c κs = search needs
-
 returns : tie.Need-returns
 returns c =
     let told = c .before in
@@ -32,18 +23,6 @@ returns c =
           ap refused (sym (c .reach-refusal .ensures)));
       fewer = omega (arith, start .pre);
     }
-
-cast-k : tie.Need-cast-k
-cast-k c = search needs
-
-mul-at : tie.Need-mul-at
-mul-at c = search needs
-
-array-set-from-at : tie.Need-array-set-from-at
-array-set-from-at c = search needs
-
-add-t17 : tie.Need-add-t17
-add-t17 c = search needs
 
 room : (c : tie.Start) → length (c .args .p .at) ≡ 128
 room c = search mapped-length
@@ -64,12 +43,12 @@ pub take-spec : {M : Type 1} → statement M
 take-spec =
     tie.close
     (tie.spec
-    enum-known-reach
-    enum-told
-    reach-refusal-requires
+    (λ enum-known-reach. search needs)
+    (λ enum-told. search needs)
+    (λ reach-refusal-requires. search needs)
     returns
-    cast-k
-    mul-at
-    array-set-from-at
-    add-t17
+    (λ cast-k. search needs)
+    (λ mul-at. search needs)
+    (λ array-set-from-at. search needs)
+    (λ add-t17. search needs)
     returns-2)

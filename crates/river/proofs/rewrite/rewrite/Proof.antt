@@ -12,34 +12,10 @@ use Rattle.river.proofs.rewrite.rewrite.Tie as tie
 bytes : (c : tie.After-shared-slice-known) → AreBytes (c .before .args .file .now)
 bytes c = record { below = λ k. c .shared-slice-known .given k .fits }
 
-read-file-requires : tie.Need-read-file-requires
-read-file-requires c κs = search needs
-
-enum-told : tie.Need-enum-told
-enum-told c = search needs
-
-enum-told-2 : tie.Need-enum-told-2
-enum-told-2 c = search needs
-
 returns : tie.Need-returns
 returns c =
     let a = c .before .before in
     refused-back (bytes (a .before .before)) (a .read-file .ensures) (c .enum-told2 .given .1)
-
-cast-write-first : tie.Need-cast-write-first
-cast-write-first c = search needs
-
-write-first-requires : tie.Need-write-first-requires
-write-first-requires c κs = search needs
-
-enum-told-3 : tie.Need-enum-told-3
-enum-told-3 c = search needs
-
-enum-known-r : tie.Need-enum-known-r
-enum-known-r c = search needs
-
-same-length : tie.Need-same-length
-same-length c = search needs
 
 -- what was read is written
 written : (c : tie.After-write-first) {o : Outcome} → endOf (c .write-first .result) ≡ o → WritesBack (c .before .before .before .before .before .before .before .before .before .before .args .file .now) (c .before .before .before .before .before .before .before .before .before .before .args .out .now) o (c .write-first .last .1 .1 .0)
@@ -50,9 +26,6 @@ written c e =
 returns-2 : tie.Need-returns-2
 returns-2 c = written (c .before .before .before .before) (ap endOf (c .enum-told3 .given .1))
 
-same-length-2 : tie.Need-same-length-2
-same-length-2 c = search needs
-
 returns-3 : tie.Need-returns-3
 returns-3 c = written (c .before .before .before .before .before) (ap endOf (c .before .r .given .1))
 
@@ -60,15 +33,15 @@ pub rewrite-spec : {M : Type 1} → statement M
 rewrite-spec =
     tie.close
     (tie.spec
-    read-file-requires
-    enum-told
-    enum-told-2
+    (λ read-file-requires. search needs)
+    (λ enum-told. search needs)
+    (λ enum-told-2. search needs)
     returns
-    cast-write-first
-    write-first-requires
-    enum-told-3
-    enum-known-r
-    same-length
+    (λ cast-write-first. search needs)
+    (λ write-first-requires. search needs)
+    (λ enum-told-3. search needs)
+    (λ enum-known-r. search needs)
+    (λ same-length. search needs)
     returns-2
-    same-length-2
+    (λ same-length-2. search needs)
     returns-3)

@@ -17,33 +17,6 @@ use Rattle.river.proofs.writer.check_next.Tie as tie
 abbrev made : Checking → ℕ → Checking
 made s k = record { check = Check.Passed; due = s .due; passed = s .passed + 1; length = s .length + k }
 
-cast-check-card : tie.Need-cast-check-card
-cast-check-card c = search needs
-
-add-check-card : tie.Need-add-check-card
-add-check-card c = search needs
-
-cast-check-card-2 : tie.Need-cast-check-card-2
-cast-check-card-2 c = search needs
-
-check-card-requires : tie.Need-check-card-requires
-check-card-requires c κs = search needs
-
-enum-known-r : tie.Need-enum-known-r
-enum-known-r c = search needs
-
-stopped-requires : tie.Need-stopped-requires
-stopped-requires c κs = search needs
-
-enum-told : tie.Need-enum-told
-enum-told c = search needs
-
-add-t12 : tie.Need-add-t12
-add-t12 c = search needs
-
-size-of-requires : tie.Need-size-of-requires
-size-of-requires c κs = search needs
-
 add-t14 : tie.Need-add-t14
 add-t14 c =
     let start = c .before .before .before .before .before in
@@ -71,15 +44,15 @@ pub check-next-spec : {M : Type 1} → statement M
 check-next-spec =
     tie.close
     (tie.spec
-    cast-check-card
-    add-check-card
-    cast-check-card-2
-    check-card-requires
-    enum-known-r
-    stopped-requires
-    enum-told
-    add-t12
-    size-of-requires
+    (λ cast-check-card. search needs)
+    (λ add-check-card. search needs)
+    (λ cast-check-card-2. search needs)
+    (λ check-card-requires. search needs)
+    (λ enum-known-r. search needs)
+    (λ stopped-requires. search needs)
+    (λ enum-told. search needs)
+    (λ add-t12. search needs)
+    (λ size-of-requires. search needs)
     add-t14
     returns
     returns-2)

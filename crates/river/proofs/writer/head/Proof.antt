@@ -16,15 +16,6 @@ not-both e f = clash (cc)
 same-refusal : {r x : Refusal} → Check.Refused r ≡ Check.Refused x → r ≡ x
 same-refusal e = cc
 
-enum-known-check : tie.Need-enum-known-check
-enum-known-check c = search needs
-
-enum-told : tie.Need-enum-told
-enum-told c = search needs
-
-refuse-requires : tie.Need-refuse-requires
-refuse-requires c κs = search needs
-
 returns : tie.Need-returns
 returns c =
     record {
@@ -33,12 +24,6 @@ returns c =
       short = λ e l. record { answer = ap Written.Refused (c .refuse .ensures); due = refl; buffer = refl };
       begins = λ e l. absurd (let z : ⊥ = omega (arith, c .before .if1 .taken) in z);
     }
-
-cast-put-header : tie.Need-cast-put-header
-cast-put-header c = search needs
-
-put-header-requires : tie.Need-put-header-requires
-put-header-requires c κs = search needs
 
 returns-2 : tie.Need-returns-2
 returns-2 c =
@@ -49,9 +34,6 @@ returns-2 c =
       short = λ e l. not-both e is;
       begins = λ e l. not-both e is;
     }
-
-same-length : tie.Need-same-length
-same-length c = search needs
 
 returns-3 : tie.Need-returns-3
 returns-3 c =
@@ -67,12 +49,12 @@ pub head-spec : {M : Type 1} → statement M
 head-spec =
     tie.close
     (tie.spec
-    enum-known-check
-    enum-told
-    refuse-requires
+    (λ enum-known-check. search needs)
+    (λ enum-told. search needs)
+    (λ refuse-requires. search needs)
     returns
-    cast-put-header
-    put-header-requires
+    (λ cast-put-header. search needs)
+    (λ put-header-requires. search needs)
     returns-2
-    same-length
+    (λ same-length. search needs)
     returns-3)

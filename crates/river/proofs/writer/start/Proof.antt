@@ -9,15 +9,6 @@ use borrow.Author.Needs.{needs}
 use Rattle.river.proofs.writer.start.Statement.{statement}
 use Rattle.river.proofs.writer.start.Tie as tie
 
-count-ok-requires : tie.Need-count-ok-requires
-count-ok-requires c κs = search needs
-
-refuse-requires : tie.Need-refuse-requires
-refuse-requires c κs = search needs
-
-stopped-requires : tie.Need-stopped-requires
-stopped-requires c κs = search needs
-
 returns : tie.Need-returns
 returns c =
     let no = c .before .before in
@@ -32,4 +23,4 @@ returns-2 c =
     ap (λ (x : Answer Unit). startFrom x n) (sym (need-true _ _ _ _ (sym (c .before .count-ok .ensures) ∙ not-false (c .before .count-ok .result) (c .if1 .left))))
 
 pub start-spec : {M : Type 1} → statement M
-start-spec = tie.close (tie.spec count-ok-requires refuse-requires stopped-requires returns returns-2)
+start-spec = tie.close (tie.spec (λ count-ok-requires. search needs) (λ refuse-requires κs. search needs) (λ stopped-requires κs. search needs) returns returns-2)

@@ -14,15 +14,6 @@ use Rattle.river.proofs.write.Writing.{refuses-count}
 use Rattle.river.proofs.writer.write_cards.Statement.{statement}
 use Rattle.river.proofs.writer.write_cards.Tie as tie
 
-cast-n : tie.Need-cast-n
-cast-n c = search needs
-
-count-ok-requires : tie.Need-count-ok-requires
-count-ok-requires c κs = search needs
-
-refuse-requires : tie.Need-refuse-requires
-refuse-requires c κs = search needs
-
 returns : tie.Need-returns
 returns c =
     let count = c .before .before in
@@ -40,9 +31,6 @@ few c =
 write-first-requires : tie.Need-write-first-requires
 write-first-requires c κs = few (c .before .before)
 
-same-length : tie.Need-same-length
-same-length c = search needs
-
 returns-2 : tie.Need-returns-2
 returns-2 c =
     let call = c .before .before in
@@ -52,4 +40,4 @@ returns-2 c =
     rw (length-take-le (a .cards .count) (a .cards .at) (omega (arith, few left))) at (call .write-first .ensures)
 
 pub write-cards-spec : {M : Type 1} → statement M
-write-cards-spec = tie.close (tie.spec cast-n count-ok-requires refuse-requires returns write-first-requires same-length returns-2)
+write-cards-spec = tie.close (tie.spec (λ cast-n. search needs) (λ count-ok-requires. search needs) (λ refuse-requires κs. search needs) returns write-first-requires (λ same-length. search needs) returns-2)

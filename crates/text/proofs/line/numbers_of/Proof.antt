@@ -4,39 +4,6 @@ use Rattle.text.specs.Text.{numbersOf}
 use Rattle.text.proofs.line.numbers_of.Statement.{statement}
 use Rattle.text.proofs.line.numbers_of.Tie as tie
 
-plain-requires : tie.Need-plain-requires
-plain-requires c κs = search needs
-
-cast-plain : tie.Need-cast-plain
-cast-plain c = search needs
-
-plain-requires-2 : tie.Need-plain-requires-2
-plain-requires-2 c κs = search needs
-
-plain-requires-3 : tie.Need-plain-requires-3
-plain-requires-3 c κs = search needs
-
-plain-requires-4 : tie.Need-plain-requires-4
-plain-requires-4 c κs = search needs
-
-plain-requires-5 : tie.Need-plain-requires-5
-plain-requires-5 c κs = search needs
-
-cast-t9 : tie.Need-cast-t9
-cast-t9 c = search needs
-
-cast-plain-2 : tie.Need-cast-plain-2
-cast-plain-2 c = search needs
-
-plain-requires-6 : tie.Need-plain-requires-6
-plain-requires-6 c κs = search needs
-
-cast-t12 : tie.Need-cast-t12
-cast-t12 c = search needs
-
-cast-t13 : tie.Need-cast-t13
-cast-t13 c = search needs
-
 returns : tie.Need-returns
 unfolding numbersOf
 returns c =
@@ -58,15 +25,15 @@ pub numbers-of-spec : {M : Type 1} → statement M
 numbers-of-spec =
     tie.close
     (tie.spec
-    plain-requires
-    cast-plain
-    plain-requires-2
-    plain-requires-3
-    plain-requires-4
-    plain-requires-5
-    cast-t9
-    cast-plain-2
-    plain-requires-6
-    cast-t12
-    cast-t13
+    (λ plain-requires. search needs)
+    (λ cast-plain. search needs)
+    (λ plain-requires-2. search needs)
+    (λ plain-requires-3. search needs)
+    (λ plain-requires-4. search needs)
+    (λ plain-requires-5. search needs)
+    (λ cast-t9. search needs)
+    (λ cast-plain-2. search needs)
+    (λ plain-requires-6. search needs)
+    (λ cast-t12. search needs)
+    (λ cast-t13. search needs)
     returns)

@@ -4,11 +4,8 @@ use Rattle.river.proofs.head.Stored.{saturated-stored}
 use Rattle.text.proofs.line.plain.Statement.{statement}
 use Rattle.text.proofs.line.plain.Tie as tie
 
-add-result : tie.Need-add-result
-add-result c = search needs
-
 returns : tie.Need-returns
 returns c = saturated-stored (c .args .n)
 
 pub plain-spec : {M : Type 1} → statement M
-plain-spec = tie.close (tie.spec add-result returns)
+plain-spec = tie.close (tie.spec (λ add-result. search needs) returns)

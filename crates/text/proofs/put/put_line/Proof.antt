@@ -31,12 +31,6 @@ loop-holds c = record { within = omega arith; room = omega arith; same = refl; r
 put-next-requires : tie.Need-put-next-requires Inv-loop μ-loop
 put-next-requires c κs = omega arith
 
-add-i : tie.Need-add-i Inv-loop μ-loop
-add-i c = omega arith
-
-loop-less : tie.Need-loop-less Inv-loop μ-loop
-loop-less c = omega arith
-
 loop-again : tie.Need-loop-again Inv-loop μ-loop
 loop-again c =
     let p = c .before .before in
@@ -65,8 +59,8 @@ put-line-spec =
     μ-loop
     loop-holds
     put-next-requires
-    add-i
-    loop-less
+    (λ add-i. omega arith)
+    (λ loop-less. omega arith)
     loop-again
     same-length
     returns)

@@ -7,22 +7,10 @@ use Rattle.text.proofs.put.Puts.{reworded}
 use Rattle.text.proofs.put.put_number.Statement.{statement}
 use Rattle.text.proofs.put.put_number.Tie as tie
 
-decimal-requires : tie.Need-decimal-requires
-decimal-requires c κs = search needs
-
-array-share-prefix-digits : tie.Need-array-share-prefix-digits
-array-share-prefix-digits c = search needs
-
-slice-aggregate-put-word : tie.Need-slice-aggregate-put-word
-slice-aggregate-put-word c = search needs
-
 put-word-requires : tie.Need-put-word-requires
 put-word-requires c κs =
     let d = c .before .before in
     omega (arith, few _ _ (d .before .before .before .fits .n .fits) (d .decimal .ensures .1 .0), d .decimal .ensures .0 .1)
-
-same-length : tie.Need-same-length
-same-length c = search needs
 
 returns : tie.Need-returns
 returns c =
@@ -38,9 +26,9 @@ pub put-number-spec : {M : Type 1} → statement M
 put-number-spec =
     tie.close
     (tie.spec
-    decimal-requires
-    array-share-prefix-digits
-    slice-aggregate-put-word
+    (λ decimal-requires. search needs)
+    (λ array-share-prefix-digits. search needs)
+    (λ slice-aggregate-put-word. search needs)
     put-word-requires
-    same-length
+    (λ same-length. search needs)
     returns)
