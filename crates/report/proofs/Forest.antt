@@ -8,7 +8,7 @@ use lib.Dec.{eqb}
 use Rattle.decay.specs.Step.{RatesPass}
 use Rattle.river.specs.declared.card.Card.{Card}
 use Rattle.river.specs.Card.{FieldsInRange, LawfulDam, Lawful, blank}
-use Rattle.river.proofs.flow.Checks.{lawful-at}
+use Rattle.river.proofs.range.Ranges.{lawful-at}
 use Rattle.river.proofs.flow.Table.{deepest-few}
 use Rattle.river.specs.Flow.{Feeders, none, more, joinedIf, feedersAmong, reachFlow, reachDepth, ReachPasses, Flows}
 

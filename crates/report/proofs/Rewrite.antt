@@ -8,7 +8,7 @@ use lib.ListN.{length}
 use Rattle.river.specs.declared.refusal.Outcome.{Outcome}
 use Rattle.river.specs.Refusal.{Answer, outcomeOf}
 use Rattle.river.specs.Rewrite.{bufferRewritten, WritesBack}
-use Rattle.river.proofs.read.Steps.{no-refusal}
+use Rattle.river.proofs.Answers.{no-refusal}
 use Rattle.report.specs.Report.{resultOf}
 use Rattle.report.specs.Rewrite.{Rewrites}
 use Rattle.report.proofs.Entry.Numbers.{Numbered, read-refusal, rewrite-numbered}

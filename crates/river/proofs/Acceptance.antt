@@ -22,11 +22,10 @@ use Rattle.river.specs.Read.{readFile}
 use Rattle.river.specs.Write.{encode}
 use Rattle.river.specs.Flow.{above, feedersAmong, joinedIf, Flows, flowCheck}
 use Rattle.river.specs.Accept.{Accepts, AcceptedFile, acceptFile}
-use Rattle.river.proofs.Answers.{after-accepted, after-refused, went}
+use Rattle.river.proofs.Answers.{no-refusal, after-accepted, after-refused, went}
 use Rattle.river.proofs.Files.{reads-lawful, reads-only-lawful}
-use Rattle.river.proofs.read.Steps.{no-refusal}
-use Rattle.river.proofs.range.Ranges.{last-outlet, later-outlet}
-use Rattle.river.proofs.flow.Checks.{lawful-at, first-tabled}
+use Rattle.river.proofs.range.Ranges.{lawful-at, last-outlet, later-outlet}
+use Rattle.river.proofs.flow.Checks.{first-tabled}
 use Rattle.river.proofs.flow.FlowCheck.{flows-of-accepted, accepted-of-flows}
 use Rattle.river.specs.FlowTable.{Underway, FlowChecked}
 use Rattle.river.specs.File.{Reads}

@@ -7,9 +7,18 @@ use mathlib.Core.Bool.{Bool, true, false, _&&_}
 use native.Mathlib.Omega.{arith}
 use Rattle.river.proofs.Orders
 use Rattle.river.specs.Refusal.{Answer, accepted, refused, refuse, need, choose, after}
+use Rattle.river.specs.declared.refusal.Outcome.{Outcome}
+use Rattle.river.specs.declared.refusal.Refusal.{Refusal}
+
+-- two constructors are not equal
+pub clash : {P : Type 0} → _≡_ {A = ℕ} 0 1 → P
+clash z = absurd (let h : ⊥ = omega arith in h)
 
 pub never : {A : Type 0} {a : A} {r : _} {P : Type 0} → _≡_ {A = Answer A} (refused r) (accepted a) → P
-never {A} {a} {r} {P} e = let z : _≡_ {A = ℕ} 0 1 = cc in absurd (let h : ⊥ = omega arith in h)
+never e = clash (cc)
+
+pub no-refusal : {P : Type 0} {r : Refusal} → Outcome.Accepted ≡ Outcome.Refused r → P
+no-refusal e = clash (cc)
 
 pub record Both (a b : Bool) : Type 0 where
   pub left : a ≡ true
@@ -18,7 +27,7 @@ pub record Both (a b : Bool) : Type 0 where
 -- a conjunction of tests
 pub both-true : {a b : Bool} → (a && b) ≡ true → Both a b
 both-true {a = true} e = record { left = refl; right = e }
-both-true {a = false} e = let z : _≡_ {A = ℕ} 0 1 = cc in absurd (let h : ⊥ = omega arith in h)
+both-true {a = false} e = clash (cc)
 
 pub both : {a b : Bool} → a ≡ true → b ≡ true → (a && b) ≡ true
 both p q = rw (p, q)

@@ -20,8 +20,8 @@ use Rattle.river.specs.declared.card.Dam.the-variants.{Absent, Aerating}
 use Rattle.river.proofs.Answers.{need-true, after-accepted, passed, went}
 use Rattle.river.proofs.bytes.Numbers.{are-bytes-cons, are-bytes-two, are-bytes-four, are-bytes-drop, begins, twoBytes-twoAt, leads-spelled}
 use Rattle.river.proofs.range.Ranges.{countOk-true, true-countOk, outlet-below, lawful-optionals}
-use Rattle.river.proofs.read.Optional.{unmarked, are-bytes-optionals}
-use Rattle.river.proofs.read.Rows.{rows}
+use Rattle.river.proofs.card.Optional.{unmarked, are-bytes-optionals}
+use Rattle.river.proofs.card.Rows.{rows}
 use Rattle.river.proofs.read.Records.{readReach-encode, drop-encodeCard, readReach-is}
 
 -- Reading what was encoded.

@@ -1,5 +1,3 @@
 -- Laws of reading a record.
 pub mod Steps
-pub mod Optional
-pub mod Rows
 pub mod Records

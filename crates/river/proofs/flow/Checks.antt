@@ -1,11 +1,10 @@
 -- The check of one more reach: what the tables of the reaches that passed say of the next, and the tables after it.
 use mathlib.Core.Path.{_≡_, refl, sym, ap, _∙_}
-use mathlib.Core.List.{List, [], _∷_}
-use Prim.Native.Nat.{ℕ, zero, suc, _+_, _*_, _<_, _≤_}
-use native.Mathlib.Nat.{add-zero, le-trans, lt-of-le-of-lt, mul-le-mul-left, not-suc-le-zero, le-of-suc-le-suc}
-use native.Mathlib.Numerals.{one-add}
+use mathlib.Core.List.{List}
+use Prim.Native.Nat.{ℕ, suc, _+_, _*_, _<_, _≤_}
+use native.Mathlib.Nat.{le-trans, lt-of-le-of-lt, mul-le-mul-left}
 use native.Mathlib.Omega.{arith}
-use lib.ListN.{length, getD}
+use lib.ListN.{length}
 use lib.Dec.{ltb, lit<}
 use Rattle.river.specs.declared.card.Card.{Card}
 use Rattle.river.specs.declared.refusal.Outcome.{Outcome}
@@ -13,23 +12,10 @@ use Rattle.river.specs.declared.flow.FlowTable.{FlowTable}
 use Rattle.river.specs.declared.refusal.Refusal.{Refusal}
 use Rattle.river.specs.declared.flow.Checked.{Checked}
 use Rattle.river.specs.declared.flow.Upstream.{Upstream}
-use Rattle.river.specs.Card.{Lawful, LawfulCard, LawfulFrom, blank}
 use Rattle.river.specs.Flow.{flowLimit, massLimit, Feeders, cardOf, above, flowOf, massOf, deepest, reachFlow, reachMass, reachDepth, ownMass, flowAt, massAt, depthAt, checksOf, reachChecks, ReachPasses}
 use Rattle.river.specs.FlowTable.{Decides, feederSum, SumsFit, UpstreamOf, Entered, Tabled, Underway, NextChecked}
-use Rattle.river.proofs.read.Steps.{no-refusal}
+use Rattle.river.proofs.Answers.{no-refusal}
 use Rattle.river.proofs.flow.Table.{entered, Adds, TableOf, sum-of-feeders, sum-bounded, max-of-feeders, deepest-few, fed-deepest}
-
--- the card of a reach of a lawful river is lawful
-lawful-from : (n i j : ℕ) (cards : List Card) → LawfulFrom n i cards → j < length cards → LawfulCard n (i + j) (getD cards j blank)
-lawful-from n i j [] h l = absurd (not-suc-le-zero l)
-lawful-from n i zero (c ∷ cs) h l = rw add-zero (h .0)
-lawful-from n i (suc j) (c ∷ cs) h l = rw (shift i j) (lawful-from n (suc i) j cs (h .1) (le-of-suc-le-suc l))
-  where
-    shift : (i j : ℕ) → i + suc j ≡ suc i + j
-    shift i j = omega arith
-
-pub lawful-at : {cards : List Card} → Lawful cards → (j : ℕ) → j < length cards → LawfulCard (length cards) (suc j) (getD cards j blank)
-lawful-at {cards} h j l = rw one-add at (lawful-from (length cards) 1 j cards (h .each) l)
 
 -- Qu and the feeders' undecayed BOD add up what each feeder has
 pub flows-add : Adds flowOf reachFlow

@@ -8,7 +8,7 @@ use lib.Seq.{getD-take}
 use Rattle.river.specs.declared.card.Cards.{Cards}
 use Rattle.river.specs.Card.{Lawful, FieldsInRange, river, blank}
 use Rattle.river.specs.Flow.{ownMass}
-use Rattle.river.proofs.flow.Checks.{lawful-at}
+use Rattle.river.proofs.range.Ranges.{lawful-at}
 
 module _ (cs : Cards) (full : length (cs .at) ≡ 128) where
   pub all-reaches : 128 < cs .count → 128 ≡ length (river cs)

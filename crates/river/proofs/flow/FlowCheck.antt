@@ -20,8 +20,7 @@ use Rattle.river.specs.Refusal.{accepted, outcomeOf, goOn}
 use Rattle.river.specs.Card.{Lawful}
 use Rattle.river.specs.Flow.{Feeders, cardOf, above, fed, flowOf, reachFlow, reachMass, damFits, DamRule, ReachPasses, Flows, reachChecks, checksFrom, flowCheck}
 use Rattle.river.specs.FlowTable.{Underway, NextChecked, FlowChecked}
-use Rattle.river.proofs.Answers.{both-true, both}
-use Rattle.river.proofs.read.Steps.{no-refusal}
+use Rattle.river.proofs.Answers.{no-refusal, both-true, both}
 use Rattle.river.proofs.flow.Groups.{Asks, asks-both, flow-rules-ask, load-rule-asks, rate-rules-ask, decided}
 
 -- the test of check 9 and its rule

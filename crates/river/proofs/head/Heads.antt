@@ -18,9 +18,10 @@ use Rattle.river.specs.declared.head.Head.{Head}
 use Rattle.river.specs.Card.{LawfulDam, blank}
 use Rattle.river.specs.Flow.{Feeders, cardOf, above, feedersAmong, joinedIf, flowOf, massOf, deepest, fed, reachFlow, reachMass, ownMass, ReachPasses, DamRule}
 use Rattle.river.specs.Head.{headDemand, headBod, headOxygen}
+use Rattle.river.proofs.range.Ranges.{lawful-at}
 use Rattle.river.proofs.flow.Table.{sum-of-feeders, sum-scaled, fed-deepest}
 use Rattle.river.proofs.head.Bounds.{head-demand-kept}
-use Rattle.river.proofs.flow.Checks.{lawful-at, first-tabled, flows-add, masses-add, flow-table, mass-table, mass-bounded}
+use Rattle.river.proofs.flow.Checks.{first-tabled, flows-add, masses-add, flow-table, mass-table, mass-bounded}
 use Rattle.river.specs.FlowTable.{tableSum, feederSum, Tabled}
 use Rattle.river.specs.Source.{bodSource}
 use Rattle.river.specs.Stored.{storedLimit, oxygenOf, oxygenSumOf}

@@ -1,12 +1,16 @@
 -- The tests of cards hold exactly for the ranges of specs/.
 -- Assumes nothing.
-use Prim.Native.Nat.{ℕ, _≤_, _<_}
+use Prim.Native.Nat.{ℕ, zero, suc, _+_, _≤_, _<_}
 use mathlib.Core.Path.{_≡_, refl}
+use mathlib.Core.List.{List, [], _∷_}
 use mathlib.Core.Bool.{Bool, true, false, _&&_, cond}
+use native.Mathlib.Nat.{add-zero, not-suc-le-zero, le-of-suc-le-suc}
+use native.Mathlib.Numerals.{one-add}
 use native.Mathlib.Omega.{arith}
 use lib.Dec.{leb, ltb, eqb}
+use lib.ListN.{length, getD}
 use borrow.Author.Tests.{le-leb, leb-true, ltb-true, eq-eqb, eqb-true, ne-eqb}
-use Rattle.river.specs.Card.{FieldsInRange, LawfulDam, LawfulCard, optional, optionalOf, inRange, damInRange, countOk, outletOk}
+use Rattle.river.specs.Card.{FieldsInRange, LawfulDam, LawfulCard, LawfulFrom, Lawful, blank, optional, optionalOf, inRange, damInRange, countOk, outletOk}
 use Rattle.river.specs.Optional.{optionalsInRange}
 use Rattle.river.specs.declared.card.Card.{Card}
 use Rattle.river.specs.declared.card.Dam.{Dam}
@@ -82,6 +86,18 @@ unfolding outletOk
 later-outlet n i o h e =
     let t = both-true (rw (ne-eqb i n (omega arith)) at e) in
     (ltb-true _ _ (t .left), leb-true _ _ (t .right))
+
+-- the card of a reach of a lawful river is lawful
+lawful-from : (n i j : ℕ) (cards : List Card) → LawfulFrom n i cards → j < length cards → LawfulCard n (i + j) (getD cards j blank)
+lawful-from n i j [] h l = absurd (not-suc-le-zero l)
+lawful-from n i zero (c ∷ cs) h l = rw add-zero (h .0)
+lawful-from n i (suc j) (c ∷ cs) h l = rw (shift i j) (lawful-from n (suc i) j cs (h .1) (le-of-suc-le-suc l))
+  where
+    shift : (i j : ℕ) → i + suc j ≡ suc i + j
+    shift i j = omega arith
+
+pub lawful-at : {cards : List Card} → Lawful cards → (j : ℕ) → j < length cards → LawfulCard (length cards) (suc j) (getD cards j blank)
+lawful-at {cards} h j l = rw one-add at (lawful-from (length cards) 1 j cards (h .each) l)
 
 -- an outlet is a byte
 pub outlet-below : (n i o : ℕ) → n ≤ 128 → outletOk n i o ≡ true → o < 256

@@ -19,8 +19,8 @@ use Rattle.river.specs.declared.card.Card.{Card}
 use Rattle.river.proofs.Answers.{need-true, after-accepted, passed, went}
 use Rattle.river.proofs.bytes.Numbers.{Begins, begins, twoBytes-twoAt, fourBytes-fourAt, fourAt-below, bytesFrom, leads-spelled, leads-more, are-bytes-drop}
 use Rattle.river.proofs.range.Ranges.{inRange-true, lawful-card, lawful-optionals}
-use Rattle.river.proofs.read.Optional.{unmarked, AreOptionals, readOptionals-encode, readOptionals-are}
-use Rattle.river.proofs.read.Rows.{rows}
+use Rattle.river.proofs.card.Optional.{unmarked, AreOptionals, readOptionals-encode, readOptionals-are}
+use Rattle.river.proofs.card.Rows.{rows, length-encodeCard}
 
 -- the fields of an `RE` record do not depend on the records that follow
 inRange-cardAt : (s : List ℕ) (vs ws : Values optional) → inRange (cardAt s vs) ≡ inRange (cardAt s ws)
@@ -32,9 +32,6 @@ inRange-cardAt s vs ws = refl
 cardAt-encode : (c : Card) (post : List ℕ) → cardAt (encodeCard c ++ post) (optionalOf c) ≡ c
 unfolding cardAt
 cardAt-encode c post = simp div-add-mod'
-
-pub length-encodeCard : (c : Card) → length (encodeCard c) ≡ sizeOf c
-length-encodeCard c = omega arith
 
 room-for-reach : (c : Card) (post : List ℕ) → 26 ≤ length (encodeCard c ++ post)
 room-for-reach c post = omega arith

@@ -3,7 +3,6 @@
 use Prim.Native.Nat.{ℕ, _+_, _≤_}
 use mathlib.Core.Path.{_≡_, ap, sym, _∙_}
 use mathlib.Core.List.{List, _∷_}
-use native.Mathlib.Omega.{arith}
 use lib.ListN.{length, drop}
 use Rattle.river.specs.Bytes.{twoAt}
 use Rattle.river.specs.Card.{encodeDam, damRecord, sizeOf}
@@ -14,16 +13,11 @@ use Rattle.river.specs.declared.card.Card.{Card}
 use Rattle.river.specs.declared.card.Dam.{Dam}
 use Rattle.river.specs.declared.read.DamRead.{DamRead}
 use Rattle.river.specs.declared.read.Header.{Header}
-use Rattle.river.specs.declared.refusal.Outcome.{Outcome}
 use Rattle.river.specs.declared.read.Reach.{Reach}
 use Rattle.river.specs.declared.refusal.Refusal.{Refusal}
-use Rattle.river.proofs.Answers.{after-accepted, after-refused, passed}
+use Rattle.river.proofs.Answers.{clash, after-accepted, after-refused, passed}
 use Rattle.river.proofs.range.Ranges.{true-countOk}
-use Rattle.river.proofs.read.Optional.{first-refused, first-read}
-
--- two constructors are not equal
-pub clash : {P : Type 0} → _≡_ {A = ℕ} 0 1 → P
-clash z = absurd (let h : ⊥ = omega arith in h)
+use Rattle.river.proofs.card.Optional.{first-refused, first-read}
 
 found : (x : Answer Dam) {d : Dam} → damOf x ≡ DamRead.Found d → x ≡ accepted d
 found (accepted d) e = cc
@@ -55,9 +49,6 @@ is-read at (refused r) e = clash (cc)
 pub not-read : (at : ℕ) (x : Answer Card) {a : Reach} {r : Refusal} → a ≡ reachOf at x → a ≡ Reach.Refused r → x ≡ refused (reachRefusal a)
 not-read at (accepted c) e f = clash (cc)
 not-read at (refused r) e f = rw e
-
-pub no-refusal : {P : Type 0} {r : Refusal} → Outcome.Accepted ≡ Outcome.Refused r → P
-no-refusal e = clash (cc)
 
 -- a file by its header
 pub header-few : (s : List ℕ) {n : ℕ} → readHeader s ≡ accepted n → n ≤ 128

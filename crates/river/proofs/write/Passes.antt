@@ -13,11 +13,9 @@ use Rattle.river.specs.Write.{encode, encodeCard, encodeCards, encodeHea
 use Rattle.river.specs.declared.card.Card.{Card}
 use Rattle.river.specs.declared.refusal.Refusal.{Refusal}
 use Rattle.river.specs.declared.write.Check.{Check}
-use Rattle.river.proofs.Answers.{after-accepted, after-refused}
+use Rattle.river.proofs.Answers.{clash, after-accepted, after-refused}
 use Rattle.river.proofs.bytes.Puts.{chain}
-use Rattle.river.proofs.read.Records.{length-encodeCard}
-use Rattle.river.proofs.read.Steps.{clash}
-use Rattle.river.proofs.read.Rows.{size-small}
+use Rattle.river.proofs.card.Rows.{length-encodeCard, size-small}
 use Rattle.river.specs.Card.{headerBytes, longestCard, sizeOf}
 
 -- Checking.

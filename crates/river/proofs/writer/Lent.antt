@@ -23,10 +23,9 @@ use Rattle.river.specs.declared.write.Written.{Written}
 use Rattle.river.specs.declared.writer.Checking.{Checking}
 use Rattle.river.specs.declared.writer.Putting.{Putting}
 use Rattle.river.proofs.card.Card as Cd
-use Rattle.river.proofs.Answers.{need-true, need-false, after-refused}
+use Rattle.river.proofs.Answers.{clash, need-true, need-false, after-refused}
 use Rattle.river.proofs.write.Passes.{refused-check, Checked, check-start, check-more, check-stop, check-end, Measured, measure-start, measure-more, measure-end, Placed, place-start, place-more, place-room, place-end}
 use Rattle.river.proofs.range.Ranges.{true-countOk}
-use Rattle.river.proofs.read.Steps.{clash}
 use Rattle.river.proofs.write.Writing.{refuses-room, writes}
 
 -- the cards from i on: the card at i, and the others

@@ -6,7 +6,7 @@ use mathlib.Core.Path.{_≡_}
 use native.Mathlib.Omega.{arith}
 use lib.ListN.{length-append}
 use Rattle.river.specs.Card.{reachBytes, sizeOf}
-use Rattle.river.proofs.read.Rows.{size-small}
+use Rattle.river.proofs.card.Rows.{size-small}
 use Rattle.river.proofs.card.size_of.Statement.{statement}
 use Rattle.river.proofs.card.size_of.Tie as tie
 

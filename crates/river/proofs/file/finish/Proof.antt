@@ -6,7 +6,7 @@ use denote.Ref.{now}
 use lib.ListN.{take}
 use Rattle.river.specs.declared.refusal.Outcome.{Outcome}
 use Rattle.river.proofs.reader.Reaches.{was-refused, too-long, complete}
-use Rattle.river.proofs.read.Steps.{no-refusal}
+use Rattle.river.proofs.Answers.{no-refusal}
 use Rattle.river.proofs.file.finish.Statement.{statement}
 use Rattle.river.specs.Refusal.{outcomeOf}
 use Rattle.river.proofs.file.finish.Tie as tie

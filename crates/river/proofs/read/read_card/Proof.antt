@@ -12,9 +12,9 @@ use Rattle.river.specs.Optional.{Values, readOptional}
 use Rattle.river.specs.Read.{damOf, cardAt, reachOf}
 use Rattle.river.specs.Refusal.{Answer, accepted}
 use Rattle.river.specs.declared.card.Card.{Card}
-use Rattle.river.proofs.read.Rows.{size-small}
+use Rattle.river.proofs.card.Rows.{size-small}
 use Rattle.river.proofs.read.Steps.{dam-refused, dam-found, card-made}
-use Rattle.river.proofs.read.Optional.{last-read}
+use Rattle.river.proofs.card.Optional.{last-read}
 use Rattle.river.proofs.read.read_card.Statement.{statement}
 use Rattle.river.proofs.read.read_card.Tie as tie
 

@@ -9,7 +9,7 @@ use Rattle.river.specs.Writer.{nextChecking}
 use Rattle.river.specs.declared.write.Check.{Check}
 use Rattle.river.specs.declared.writer.Checking.{Checking}
 use Rattle.river.proofs.write.Passes.{passed-check, refused-check}
-use Rattle.river.proofs.read.Rows.{size-small}
+use Rattle.river.proofs.card.Rows.{size-small}
 use borrow.Author.Needs.{needs}
 use Rattle.river.proofs.writer.check_next.Statement.{statement}
 use Rattle.river.proofs.writer.check_next.Tie as tie

@@ -5,7 +5,7 @@ use native.Mathlib.Omega.{arith}
 use Rattle.river.specs.declared.refusal.Refusal.{Refusal}
 use Rattle.river.specs.declared.write.Check.{Check}
 use Rattle.river.specs.declared.write.Written.{Written}
-use Rattle.river.proofs.read.Steps.{clash}
+use Rattle.river.proofs.Answers.{clash}
 use borrow.Author.Needs.{needs}
 use Rattle.river.proofs.writer.head.Statement.{statement}
 use Rattle.river.proofs.writer.head.Tie as tie

@@ -7,14 +7,16 @@ use mathlib.Core.List.{List, _∷_, _++_}
 use mathlib.Core.Bool.{true}
 use native.Mathlib.Nat.{div-add-mod'}
 use native.Mathlib.Omega.{arith}
+use lib.ListN.{length}
 use Rattle.river.specs.Bytes.{AreBytes}
 use Rattle.river.specs.Card.{damRecord, encodeDam, damInRange, optional, optionalOf, sizeOf, longestCard}
+use Rattle.river.specs.Write.{encodeCard}
 use Rattle.river.specs.declared.card.Card.{Card}
 use Rattle.river.specs.declared.card.Dam.{Dam}
 use Rattle.river.specs.declared.card.Dam.the-variants.{Absent, Aerating}
 use Rattle.river.proofs.bytes.Numbers.{twoBytes-twoAt, fourBytes-fourAt, are-bytes-cons, are-bytes-two, are-bytes-four}
 use Rattle.river.proofs.range.Ranges.{true-damInRange}
-use Rattle.river.proofs.read.Optional.{Present, Sound, AllSound, optionals-small}
+use Rattle.river.proofs.card.Optional.{Present, Sound, AllSound, optionals-small}
 
 cases-dam : (d : Dam) → (d ≡ Absent) ⊎ Present damRecord d
 cases-dam Absent = inl refl
@@ -49,6 +51,9 @@ sound-dam =
 
 pub rows : AllSound optional
 rows = (sound-dam, tt)
+
+pub length-encodeCard : (c : Card) → length (encodeCard c) ≡ sizeOf c
+length-encodeCard c = omega arith
 
 pub size-small : (c : Card) → sizeOf c ≤ longestCard
 size-small c = omega (arith, optionals-small optional rows (optionalOf c))

@@ -1,0 +1,3 @@
+-- Laws of a card's records.
+pub mod Optional
+pub mod Rows
