@@ -10,7 +10,7 @@ use native.Mathlib.Omega.{arith}
 use lib.ListN.{length, drop}
 use borrow.Author.Tests.{le-leb, leb-true, eqb-true}
 use Rattle.river.specs.Bytes.{AreBytes, twoAt}
-use Rattle.river.specs.Card.{Lawful, LawfulCard, LawfulFrom, RV, optional, optionalOf, sizeOf}
+use Rattle.river.specs.Card.{Lawful, LawfulFrom, RV, optional, sizeOf}
 use Rattle.river.specs.File.{IsFile}
 use Rattle.river.specs.Read.{readHeader, readReaches, readFile}
 use Rattle.river.specs.Refusal.{accepted}
@@ -18,10 +18,9 @@ use Rattle.river.specs.Write.{encode, encodeCard, encodeCards, encodeHea
 use Rattle.river.specs.declared.card.Card.{Card}
 use Rattle.river.specs.declared.card.Dam.the-variants.{Absent, Aerating}
 use Rattle.river.proofs.Answers.{need-true, after-accepted, passed, went}
-use Rattle.river.proofs.bytes.Numbers.{are-bytes-cons, are-bytes-two, are-bytes-four, are-bytes-drop, begins, twoBytes-twoAt, leads-spelled}
-use Rattle.river.proofs.range.Ranges.{countOk-true, true-countOk, outlet-below, lawful-optionals}
-use Rattle.river.proofs.card.Optional.{unmarked, are-bytes-optionals}
-use Rattle.river.proofs.card.Rows.{rows}
+use Rattle.river.proofs.bytes.Numbers.{are-bytes-drop, begins, twoBytes-twoAt, leads-spelled}
+use Rattle.river.proofs.range.Ranges.{countOk-true, true-countOk}
+use Rattle.river.proofs.card.Optional.{unmarked}
 use Rattle.river.proofs.read.Records.{readReach-encode, drop-encodeCard, readReach-is}
 
 -- Reading what was encoded.
@@ -147,32 +146,3 @@ one-river cs ds p q e =
 -- THEOREM: a dam makes another card than no dam, whatever its numbers
 pub dam-or-none : {share generating : ℕ} (c d : Card) → c .dam ≡ Absent → d .dam ≡ Aerating share generating → c ≡ d → ⊥
 dam-or-none c d p q e = let z : _≡_ {A = ℕ} 0 1 = cc (ap (λ (x : Card). x .dam) e) in omega arith
-
--- the file of lawful cards is made of bytes
-
-are-bytes-card : (n i : ℕ) (c : Card) (s : List ℕ) → n ≤ 128 → LawfulCard n i c → AreBytes s → AreBytes (encodeCard c ++ s)
-are-bytes-card n i c s few h k =
-    let r = h .in-range in
-    are-bytes-cons (omega arith)
-    (are-bytes-cons (omega arith)
-    (are-bytes-cons (outlet-below n i (c .outlet) few (h .outlet))
-    (are-bytes-cons (omega (arith, r .temperature))
-    (are-bytes-two (c .k1) (omega (arith, r .k1))
-    (are-bytes-two (c .k2) (omega (arith, r .k2))
-    (are-bytes-four (c .volume) (omega (arith, r .volume))
-    (are-bytes-four (c .inflow) (omega (arith, r .inflow))
-    (are-bytes-four (c .«inflow_bod») (omega (arith, r .inflow-bod))
-    (are-bytes-two (c .«inflow_oxygen») (omega (arith, r .inflow-oxygen))
-    (are-bytes-four (c .load) (h .load) (are-bytes-optionals optional rows (optionalOf c) (lawful-optionals h) k)))))))))))
-
-are-bytes-cards : (n i : ℕ) (cs : List Card) → n ≤ 128 → LawfulFrom n i cs → AreBytes (encodeCards cs)
-are-bytes-cards n i [] few h = record { below = λ k. omega arith }
-are-bytes-cards n i (c ∷ cs) few h = are-bytes-card n i c (encodeCards cs) few (h .0) (are-bytes-cards n (suc i) cs few (h .1))
-
--- THEOREM: the file of lawful cards is made of bytes
-pub encode-is-bytes : (cs : List Card) → Lawful cs → AreBytes (encode cs)
-unfolding encode
-encode-is-bytes cs h =
-    are-bytes-cons (omega arith)
-    (are-bytes-cons (omega arith)
-    (are-bytes-two (length cs) (omega (arith, h .few)) (are-bytes-cards (length cs) 1 cs (h .few) (h .each))))

@@ -7,7 +7,7 @@ use mathlib.Core.Bool.{true, false}
 use native.Mathlib.Nat.{suc-add, add-suc, zero-add}
 use native.Mathlib.Omega.{arith}
 use lib.Arith.{digits-div, digits-mod}
-use lib.ListN.{length, getD, take, drop, length-drop}
+use lib.ListN.{length, take, drop, length-drop}
 use lib.Seq.{drop-cons, drop-append-seam, getD-drop, take-all}
 use borrow.Author.Tests.{eqb-true, eq-eqb}
 use Rattle.river.specs.Bytes.{AreBytes, twoBytes, fourBytes, byteAt, twoAt, fourAt, Mark, marked, markBytes}
@@ -33,20 +33,7 @@ fourBytes-fourAt s k h =
     ap₂ (λ (x y : ℕ). twoBytes x ++ twoBytes y) (digits-div (twoAt s k) b) (digits-mod (twoAt s k) b) ∙
     ap₂ (λ (x y : List ℕ). x ++ y) (twoBytes-twoAt s k h) (twoBytes-twoAt s (k + 2) h)
 
--- numbers within their width are written in bytes
-pub are-bytes-cons : {x : ℕ} {s : List ℕ} → x < 256 → AreBytes s → AreBytes (x ∷ s)
-are-bytes-cons {x} {s} p h = record { below = go }
-  where
-    go : (k : ℕ) → getD (x ∷ s) k 0 < 256
-    go zero = p
-    go (suc k) = h .below k
-
-pub are-bytes-two : {s : List ℕ} (x : ℕ) → x < 65536 → AreBytes s → AreBytes (twoBytes x ++ s)
-are-bytes-two x p h = are-bytes-cons (omega arith) (are-bytes-cons (omega arith) h)
-
-pub are-bytes-four : {s : List ℕ} (x : ℕ) → x < 4294967296 → AreBytes s → AreBytes (fourBytes x ++ s)
-are-bytes-four x p h = are-bytes-two (x / 65536) (omega arith) (are-bytes-two (x % 65536) (omega arith) h)
-
+-- what is left of bytes are bytes
 pub are-bytes-drop : {s : List ℕ} (k : ℕ) → AreBytes s → AreBytes (drop k s)
 are-bytes-drop {s} k h = record { below = λ j. rw getD-drop (h .below (k + j)) }
 

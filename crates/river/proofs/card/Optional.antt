@@ -31,7 +31,6 @@ pub record Sound (k : Kind) : Type 0 where
   pub cases : (v : k .Value) → (v ≡ k .none) ⊎ Present k v
   pub in-range : (s : List ℕ) → k .test s ≡ true → k .inRange (k .decode s) ≡ true
   pub spells : (s : List ℕ) → AreBytes s → Begins s (k .mark) → k .test s ≡ true → k .encode (k .decode s) ≡ bytesFrom s (k .size) 0
-  pub bytes : (v : k .Value) {s : List ℕ} → k .inRange v ≡ true → AreBytes s → AreBytes (k .encode v ++ s)
 
 -- what is read as a value: it is in range, and its bytes lead
 record IsOptional (k : Kind) (s : List ℕ) (v : k .Value) : Type 0 where
@@ -164,15 +163,6 @@ readOptionals-are (k ∷ ks) laws i s vs h e =
     subst (AreOptionals (k ∷ ks) s) same
     (are-more k ks (readOptional-is k (laws .0) i s (p .value) h (p .first))
     (readOptionals-are ks (laws .1) i (drop n s) (q .value) (are-bytes-drop n h) (q .first)))
-
--- the records are made of bytes
-pub are-bytes-optionals : (ks : List Kind) → AllSound ks → (vs : Values ks) {s : List ℕ} → optionalsInRange ks vs ≡ true → AreBytes s
-    → AreBytes (encodeOptionals ks vs ++ s)
-unfolding optionalsInRange
-are-bytes-optionals [] laws vs r h = h
-are-bytes-optionals (k ∷ ks) laws vs {s} r h =
-    let t = both-true r in
-    rw append-assoc (laws .0 .bytes (vs .0) (t .left) (are-bytes-optionals ks (laws .1) (vs .1) (t .right) h))
 
 -- the records are at most as long as all of them
 pub optionals-small : (ks : List Kind) → AllSound ks → (vs : Values ks) → length (encodeOptionals ks vs) ≤ sizes ks

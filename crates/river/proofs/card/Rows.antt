@@ -1,21 +1,18 @@
 -- The kinds of records that may follow an `RE` record satisfy what a kind must.
 -- Assumes nothing.
-use Prim.Native.Nat.{ℕ, _≤_}
+use Prim.Native.Nat.{_≤_}
 use mathlib.Core.Logic.{_⊎_, inl, inr}
 use mathlib.Core.Path.{_≡_, refl, sym}
-use mathlib.Core.List.{List, _∷_, _++_}
-use mathlib.Core.Bool.{true}
+use mathlib.Core.List.{_∷_, _++_}
 use native.Mathlib.Nat.{div-add-mod'}
 use native.Mathlib.Omega.{arith}
 use lib.ListN.{length}
-use Rattle.river.specs.Bytes.{AreBytes}
-use Rattle.river.specs.Card.{damRecord, encodeDam, damInRange, optional, optionalOf, sizeOf, longestCard}
+use Rattle.river.specs.Card.{damRecord, damInRange, optional, optionalOf, sizeOf, longestCard}
 use Rattle.river.specs.Write.{encodeCard}
 use Rattle.river.specs.declared.card.Card.{Card}
 use Rattle.river.specs.declared.card.Dam.{Dam}
 use Rattle.river.specs.declared.card.Dam.the-variants.{Absent, Aerating}
-use Rattle.river.proofs.bytes.Numbers.{twoBytes-twoAt, fourBytes-fourAt, are-bytes-cons, are-bytes-two, are-bytes-four}
-use Rattle.river.proofs.range.Ranges.{true-damInRange}
+use Rattle.river.proofs.bytes.Numbers.{twoBytes-twoAt, fourBytes-fourAt}
 use Rattle.river.proofs.card.Optional.{Present, Sound, AllSound, optionals-small}
 
 cases-dam : (d : Dam) → (d ≡ Absent) ⊎ Present damRecord d
@@ -29,14 +26,6 @@ cases-dam (Aerating s g) =
       back = λ post. simp div-add-mod';
     })
 
-bytes-dam : (d : Dam) {s : List ℕ} → damInRange d ≡ true → AreBytes s → AreBytes (encodeDam d ++ s)
-bytes-dam Absent r h = h
-bytes-dam (Aerating s g) r h =
-    let d = true-damInRange (Aerating s g) r in
-    are-bytes-cons (omega arith)
-    (are-bytes-cons (omega arith)
-    (are-bytes-two s (omega (arith, d .share)) (are-bytes-four g (omega (arith, d .generating)) h)))
-
 sound-dam : Sound damRecord
 unfolding damInRange
 sound-dam =
@@ -46,7 +35,6 @@ sound-dam =
       cases = cases-dam;
       in-range = λ s r. r;
       spells = λ s h m r i. sym (m .first) i ∷ sym (m .second) i ∷ twoBytes-twoAt s 2 h i ++ fourBytes-fourAt s 4 h i;
-      bytes = bytes-dam;
     }
 
 pub rows : AllSound optional

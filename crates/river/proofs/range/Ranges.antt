@@ -3,11 +3,10 @@
 use Prim.Native.Nat.{ℕ, zero, suc, _+_, _≤_, _<_}
 use mathlib.Core.Path.{_≡_, refl}
 use mathlib.Core.List.{List, [], _∷_}
-use mathlib.Core.Bool.{Bool, true, false, _&&_, cond}
+use mathlib.Core.Bool.{true}
 use native.Mathlib.Nat.{add-zero, not-suc-le-zero, le-of-suc-le-suc}
 use native.Mathlib.Numerals.{one-add}
 use native.Mathlib.Omega.{arith}
-use lib.Dec.{leb, ltb, eqb}
 use lib.ListN.{length, getD}
 use borrow.Author.Tests.{le-leb, leb-true, ltb-true, eq-eqb, eqb-true, ne-eqb}
 use Rattle.river.specs.Card.{FieldsInRange, LawfulDam, LawfulCard, LawfulFrom, Lawful, blank, optional, optionalOf, inRange, damInRange, countOk, outletOk}
@@ -98,12 +97,3 @@ lawful-from n i (suc j) (c ∷ cs) h l = rw (shift i j) (lawful-from n (suc i) j
 
 pub lawful-at : {cards : List Card} → Lawful cards → (j : ℕ) → j < length cards → LawfulCard (length cards) (suc j) (getD cards j blank)
 lawful-at {cards} h j l = rw one-add at (lawful-from (length cards) 1 j cards (h .each) l)
-
--- an outlet is a byte
-pub outlet-below : (n i o : ℕ) → n ≤ 128 → outletOk n i o ≡ true → o < 256
-unfolding outletOk
-outlet-below n i o h e = go (eqb i n) e
-  where
-    go : (b : Bool) → cond b (eqb o 0) (ltb i o && leb o n) ≡ true → o < 256
-    go true t = omega (arith, eqb-true o 0 t)
-    go false t = omega (arith, leb-true o n (both-true {a = ltb i o} {b = leb o n} t .right))
