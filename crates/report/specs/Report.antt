@@ -15,9 +15,9 @@ use Rattle.report.specs.Record.{Figures, encodeRecord, recordSize, recor
 use Rattle.river.specs.Accept.{acceptFile, AcceptedFile}
 
 -- the first n of some rows of bytes, one behind the other
-unfoldable pub rows : (ℕ → List ℕ) → ℕ → List ℕ
-rows row zero = []
-rows row (suc n) = rows row n ++ row n
+unfoldable pub firstRows : (ℕ → List ℕ) → ℕ → List ℕ
+firstRows row zero = []
+firstRows row (suc n) = firstRows row n ++ row n
 
 -- the record of the reach at place i
 abbrev pub recordOf : List Card → ℕ → List ℕ
@@ -25,7 +25,7 @@ recordOf cards i = encodeRecord (figuresAt cards (suc i))
 
 -- the report of a river: the records of its reaches, and how many bytes they have together
 abbrev pub reportOf : List Card → List ℕ
-reportOf cards = rows (recordOf cards) (length cards)
+reportOf cards = firstRows (recordOf cards) (length cards)
 
 abbrev pub reportSize : List Card → ℕ
 reportSize cards = recordSize cards * length cards

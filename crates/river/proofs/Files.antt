@@ -18,7 +18,7 @@ use Rattle.river.specs.Write.{encode, encodeCard, encodeCards, encodeHea
 use Rattle.river.specs.declared.card.Card.{Card}
 use Rattle.river.specs.declared.card.Dam.the-variants.{Absent, Aerating}
 use Rattle.river.proofs.Answers.{need-true, after-accepted, passed, went}
-use Rattle.river.proofs.bytes.Numbers.{are-bytes-drop, begins, twoBytes-twoAt, leads-spelled}
+use Rattle.river.proofs.bytes.Numbers.{are-bytes-drop, true-marked, twoBytes-twoAt, leads-spelled}
 use Rattle.river.proofs.range.Ranges.{countOk-true, true-countOk}
 use Rattle.river.proofs.card.Optional.{unmarked}
 use Rattle.river.proofs.read.Records.{readReach-encode, drop-encodeCard, readReach-is}
@@ -95,7 +95,7 @@ readHeader-is s n h e =
     let p = passed _ _ _ _ e in
     let q = passed _ _ _ _ (p .rest) in
     let r = passed _ _ _ _ (q .rest) in
-    let m = begins s RV (q .test) in
+    let m = true-marked s RV (q .test) in
     let ok = true-countOk (twoAt s 2) (r .test) in
     let same : twoAt s 2 ≡ n = cc (r .rest) in
     subst (IsHeader s) same

@@ -15,7 +15,7 @@ use Rattle.river.specs.Card.{Lawful, LawfulCard, LawfulFrom, river}
 use Rattle.river.specs.Read.{readFile}
 use Rattle.river.specs.Refusal.{Answer, accepted, refused, refuse, need, after, outcomeOf}
 use Rattle.river.specs.Write.{encode, checkCard, checkFrom, writeAnswer, bufferWritten, writtenOf, Writes, HasRoom, LoadsFit}
-use Rattle.river.specs.Rewrite.{rewriteAnswer, bufferRewritten, Rewritable, WritesBack, Within, cardsBack, ReadsBack}
+use Rattle.river.specs.Rewrite.{rewriteAnswer, bufferRewritten, Rewritable, WritesBack, WrittenFits, cardsBack, ReadsBack}
 use Rattle.river.specs.declared.card.Card.{Card}
 use Rattle.river.specs.declared.refusal.Outcome.{Outcome}
 use Rattle.river.specs.declared.refusal.Refusal.{Refusal}
@@ -163,9 +163,9 @@ module _ {file : List ℕ} {r : Reading} (bytes : AreBytes file) (reads : Reads 
 -- Reading what was written.
 
 -- what was written lies within the buffer
-pub within : (cs : List Card) (before left : List ℕ) (w : Written) → Writes (length cs) cs before w left → length left ≡ length before → Within w (length left)
-within cs before left (Written.Length l) writes e = omega (arith, has-room (length cs) cs (length before) l (sym (writes .answer)) .1)
-within cs before left (Written.Refused r) writes e = tt
+pub written-fits : (cs : List Card) (before left : List ℕ) (w : Written) → Writes (length cs) cs before w left → length left ≡ length before → WrittenFits w (length left)
+written-fits cs before left (Written.Length l) writes e = omega (arith, has-room (length cs) cs (length before) l (sym (writes .answer)) .1)
+written-fits cs before left (Written.Refused r) writes e = tt
 
 -- the answer of a writing and of the reading after it
 came-back : (cs : List Card) (before left : List ℕ) (w : Written) → LoadsFit cs → Writes (length cs) cs before w left → after (writtenOf w) (λ l. readFile (take l left)) ≡ cardsBack cs (length before)

@@ -37,9 +37,9 @@ pub record WritesBack (file before : List ℕ) (o : Outcome) (left : List ℕ) :
   pub buffer : left ≡ bufferRewritten (rewriteAnswer file (length before)) file before
 
 -- what a writing has left lies within a buffer of so many bytes
-abbrev pub Within : Written → ℕ → Type 0
-Within (Written.Length l) room = l ≤ room
-Within (Written.Refused r) room = Unit
+abbrev pub WrittenFits : Written → ℕ → Type 0
+WrittenFits (Written.Length l) room = l ≤ room
+WrittenFits (Written.Refused r) room = Unit
 
 -- the answer where cards are written and their file is read: the refusal of writing, or the cards themselves
 abbrev pub cardsBack : List Card → ℕ → Answer (List Card)

@@ -45,16 +45,16 @@ pub record Unput (p : Putting) (r : Refusal) (before left : List ℕ) : Type 0 w
   pub due : p .due ≡ 0
   pub buffer : left ≡ before
 
-pub record HeadPut (s : Checking) (before : List ℕ) (p : Putting) (left : List ℕ) : Type 0 where
+pub record HeaderPut (s : Checking) (before : List ℕ) (p : Putting) (left : List ℕ) : Type 0 where
   pub answer : p .answer ≡ Written.Length (s .length)
   pub due : p .due ≡ s .due
   pub header : Put before 0 (encodeHeader (s .due)) left (p .next)
 
-pub record Heads (s : Checking) (before : List ℕ) (p : Putting) (left : List ℕ) : Type 0 where
+pub record PutsStart (s : Checking) (before : List ℕ) (p : Putting) (left : List ℕ) : Type 0 where
   pub none : p .put ≡ 0
   pub stops : {r : Refusal} → s .check ≡ Check.Refused r → Unput p r before left
   pub short : s .check ≡ Check.Passed → length before < s .length → Unput p (refuse 12 0) before left
-  pub begins : s .check ≡ Check.Passed → s .length ≤ length before → HeadPut s before p left
+  pub begins : s .check ≡ Check.Passed → s .length ≤ length before → HeaderPut s before p left
 
 -- one card more is put
 pub record PutsNext (p : Putting) (c : Card) (buffer : List ℕ) (q : Putting) (left : List ℕ) : Type 0 where

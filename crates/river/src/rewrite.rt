@@ -5,7 +5,7 @@ ghost use Rattle.river.specs.Read.{readFile};
 ghost use Rattle.river.specs.Refusal.{after};
 ghost use Rattle.river.specs.File.{Yields};
 ghost use Rattle.river.specs.Write.{writtenOf};
-ghost use Rattle.river.specs.Rewrite.{WritesBack, Within, ReadsBack};
+ghost use Rattle.river.specs.Rewrite.{WritesBack, WrittenFits, ReadsBack};
 use crate::card::Card;
 use crate::file::Reading;
 use crate::file::read_file;
@@ -34,7 +34,7 @@ pub fn rewrite(file: &[u8], out: &mut [u8]) -> Outcome
 
 // The file that a writing has left at the start of a buffer is read, or the writing's refusal is handed on.
 fn read_written(w: Written, out: &[u8]) -> Reading
-    requires { ⌜ Within w (length (now out)) ⌝ }
+    requires { ⌜ WrittenFits w (length (now out)) ⌝ }
     ensures { λ r. ⌜ Yields (after (writtenOf w) (λ l. readFile (take l (now (out .entry))))) r ⌝ }
 {
     match w {

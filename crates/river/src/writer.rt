@@ -3,7 +3,7 @@ ghost use mathlib.Core.Path.{_≡_};
 ghost use Prim.Native.Nat.{_+_, _*_, _≤_, _<_};
 ghost use lib.ListN.{length, take};
 ghost use Rattle.river.specs.Write.{checkCard, Writes};
-ghost use Rattle.river.specs.Writer.{stoppedAt, startChecking, nextChecking, ChecksAll, Heads, PutsNext};
+ghost use Rattle.river.specs.Writer.{stoppedAt, startChecking, nextChecking, ChecksAll, PutsStart, PutsNext};
 ghost use Rattle.river.specs.Card.{headerBytes, longestCard, sizeOf, river};
 use crate::card::Card;
 use crate::card::Cards;
@@ -83,9 +83,9 @@ fn check_next(s: Checking, c: Card) -> Checking
 }
 
 // The header, where the cards have passed and the buffer has room for their file.
-fn head(s: Checking, out: &mut [u8]) -> Putting
+fn put_start(s: Checking, out: &mut [u8]) -> Putting
     requires { ⌜ (s .due ≤ 128) × (headerBytes ≤ s .length) ⌝ }
-    ensures { λ p. ⌜ Heads s (now (out .entry)) p (now (out .exit)) ⌝ }
+    ensures { λ p. ⌜ PutsStart s (now (out .entry)) p (now (out .exit)) ⌝ }
 {
     let check = s.check;
     let due = s.due;
@@ -158,7 +158,7 @@ fn check_all(cards: &[Card]) -> Checking
 pub fn write(cards: &[Card], out: &mut [u8]) -> Written
     ensures { λ r. ⌜ Writes (length (now (cards .entry))) (now (cards .entry)) (now (out .entry)) r (now (out .exit)) ⌝ }
 {
-    let mut p = head(check_all(cards), out);
+    let mut p = put_start(check_all(cards), out);
     while p.put < p.due {
         let i = p.put;
         p = put_next(p, cards[i], out);

@@ -15,7 +15,7 @@ use Rattle.river.specs.Refusal.{Answer, accepted, refused, refuse}
 use Rattle.river.specs.Write.{encode}
 use Rattle.river.proofs.Acceptance.{accepts-exactly}
 use Rattle.river.proofs.Answers.{after-refused}
-use Rattle.river.proofs.bytes.Puts.{at-start}
+use Rattle.river.proofs.bytes.Puts.{put-at-start}
 use Rattle.report.specs.Program.{figuresAt}
 use Rattle.report.specs.Record.{Figures, recordSize}
 use Rattle.report.specs.Report.{reportAnswer, Reports}
@@ -71,7 +71,7 @@ renders {file} {before} {after} {text} {most} {r} p e fits same =
     let short : r ≤ length before = omega (arith, p .within) in (
       record {
         size = size ∙ ap length e;
-        buffer = at-start (p .put) (omega arith) ∙ ap₂ (λ (t : List ℕ) (n : ℕ). t ++ drop n before) e (sym size);
+        buffer = put-at-start (p .put) (omega arith) ∙ ap₂ (λ (t : List ℕ) (n : ℕ). t ++ drop n before) e (sym size);
       },
       (omega arith, sym (length-take-le r after (omega arith))),
     )

@@ -53,18 +53,18 @@ pub whole-tail : (s : List ℕ) (k : ℕ) → take (length s - k) (drop k s) ≡
 whole-tail s k = take-all (length s - k) (drop k s) (omega (arith, length-drop k s))
 
 -- bytes that begin with a mark
-pub record Begins (s : List ℕ) (m : Mark) : Type 0 where
+pub record HasMark (s : List ℕ) (m : Mark) : Type 0 where
   pub first : byteAt s 0 ≡ m .first
   pub second : byteAt s 1 ≡ m .second
 
-pub begins : (s : List ℕ) (m : Mark) → marked s m ≡ true → Begins s m
-begins s m e = let t = both-true e in record { first = eqb-true _ _ (t .left); second = eqb-true _ _ (t .right) }
+pub true-marked : (s : List ℕ) (m : Mark) → marked s m ≡ true → HasMark s m
+true-marked s m e = let t = both-true e in record { first = eqb-true _ _ (t .left); second = eqb-true _ _ (t .right) }
 
-pub begins-marked : {s : List ℕ} {m : Mark} → Begins s m → marked s m ≡ true
-begins-marked b = both (eq-eqb _ _ (b .first)) (eq-eqb _ _ (b .second))
+pub marked-true : {s : List ℕ} {m : Mark} → HasMark s m → marked s m ≡ true
+marked-true b = both (eq-eqb _ _ (b .first)) (eq-eqb _ _ (b .second))
 
-pub begins-other : {s : List ℕ} {m : Mark} (n : Mark) → Begins s m → marked (markBytes m) n ≡ false → marked s n ≡ false
-begins-other n b e = rw (b .first, b .second) e
+pub marked-other : {s : List ℕ} {m : Mark} (n : Mark) → HasMark s m → marked (markBytes m) n ≡ false → marked s n ≡ false
+marked-other n b e = rw (b .first, b .second) e
 
 -- bytes that stand at the start of others
 abbrev pub Leads : List ℕ → List ℕ → Type 0

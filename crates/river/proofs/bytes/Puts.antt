@@ -35,5 +35,5 @@ pub put-none : (b : List ℕ) (at : ℕ) → Put b at [] b at
 put-none b at = record { buffer = refl; place = rw add-zero }
 
 -- bytes put at the start
-pub at-start : {b x l : List ℕ} {r : ℕ} → Put b 0 x l r → length x ≤ length b → l ≡ x ++ drop (length x) b
-at-start {b} {x} p h = p .buffer ∙ sets-eq x b 0 (omega arith) ∙ ap (λ (k : ℕ). x ++ drop k b) (let e : 0 + length x ≡ length x = omega arith in e)
+pub put-at-start : {b x l : List ℕ} {r : ℕ} → Put b 0 x l r → length x ≤ length b → l ≡ x ++ drop (length x) b
+put-at-start {b} {x} p h = p .buffer ∙ sets-eq x b 0 (omega arith) ∙ ap (λ (k : ℕ). x ++ drop k b) (let e : 0 + length x ≡ length x = omega arith in e)

@@ -15,11 +15,11 @@ use Rattle.river.specs.Optional.{Kind, Values, readOptional, readOptiona
 use Rattle.river.specs.Refusal.{Answer, accepted, refused, after}
 use Rattle.river.specs.declared.refusal.Refusal.{Refusal}
 use Rattle.river.proofs.Answers.{need-true, choose-true, choose-false, after-accepted, after-refused, after-after, passed, went, both, both-true}
-use Rattle.river.proofs.bytes.Numbers.{Begins, begins, begins-marked, begins-other, bytesFrom, Leads, leads-spelled, leads-more, are-bytes-drop}
+use Rattle.river.proofs.bytes.Numbers.{HasMark, true-marked, marked-true, marked-other, bytesFrom, Leads, leads-spelled, leads-more, are-bytes-drop}
 
 -- a value that has a record: the record begins with the mark, has the kind's length, passes the test and holds the value
 pub record Present (k : Kind) (v : k .Value) : Type 0 where
-  pub marks : (post : List ℕ) → Begins (k .encode v ++ post) (k .mark)
+  pub marks : (post : List ℕ) → HasMark (k .encode v ++ post) (k .mark)
   pub long : length (k .encode v) ≡ k .size
   pub passes : (post : List ℕ) → k .inRange v ≡ true → k .test (k .encode v ++ post) ≡ true
   pub back : (post : List ℕ) → k .decode (k .encode v ++ post) ≡ v
@@ -30,7 +30,7 @@ pub record Sound (k : Kind) : Type 0 where
   pub none-in-range : k .inRange (k .none) ≡ true
   pub cases : (v : k .Value) → (v ≡ k .none) ⊎ Present k v
   pub in-range : (s : List ℕ) → k .test s ≡ true → k .inRange (k .decode s) ≡ true
-  pub spells : (s : List ℕ) → AreBytes s → Begins s (k .mark) → k .test s ≡ true → k .encode (k .decode s) ≡ bytesFrom s (k .size) 0
+  pub spells : (s : List ℕ) → AreBytes s → HasMark s (k .mark) → k .test s ≡ true → k .encode (k .decode s) ≡ bytesFrom s (k .size) 0
 
 -- what is read as a value: it is in range, and its bytes lead
 record IsOptional (k : Kind) (s : List ℕ) (v : k .Value) : Type 0 where
@@ -49,7 +49,7 @@ module _ (k : Kind) (law : Sound k) (i : ℕ) where
       go : (v ≡ k .none) ⊎ Present k v → readOptional k i (k .encode v ++ post) ≡ accepted v
       go (inl p) = rw (p, law .none-empty) (choose-false _ _ _ e)
       go (inr p) =
-          choose-true _ _ _ (begins-marked (p .marks post)) ∙
+          choose-true _ _ _ (marked-true (p .marks post)) ∙
           need-true _ _ _ _ (le-leb _ _ (room p)) ∙
           need-true _ _ _ _ (p .passes post r) ∙
           ap accepted (p .back post)
@@ -66,7 +66,7 @@ module _ (k : Kind) (law : Sound k) (i : ℕ) where
           subst (IsOptional k s) same
           (record {
             in-range = law .in-range s (q .test);
-            bytes = leads-spelled _ s (leb-true _ _ (p .test)) (law .spells s h (begins s (k .mark) m) (q .test));
+            bytes = leads-spelled _ s (leb-true _ _ (p .test)) (law .spells s h (true-marked s (k .mark) m) (q .test));
           })
       go false m =
           let same : k .none ≡ v = cc (sym (choose-false _ _ _ m) ∙ e) in
@@ -119,7 +119,7 @@ other-mark (k ∷ ks) laws m vs post u e =
 
     go : marked rest m ≡ false → (vs .0 ≡ k .none) ⊎ Present k (vs .0) → marked (k .encode (vs .0) ++ rest) m ≡ false
     go f (inl p) = rw (p, laws .0 .none-empty) f
-    go f (inr p) = begins-other m (p .marks rest) (not-true _ (both-true u .left))
+    go f (inr p) = marked-other m (p .marks rest) (not-true _ (both-true u .left))
 
 -- the records are read from their bytes, where they are not followed by a record of these kinds
 pub readOptionals-encode : (ks : List Kind) → AllSound ks → different ks ≡ true → (i : ℕ) (vs : Values ks) (post : List ℕ)

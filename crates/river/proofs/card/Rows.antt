@@ -37,11 +37,11 @@ sound-dam =
       spells = λ s h m r i. sym (m .first) i ∷ sym (m .second) i ∷ twoBytes-twoAt s 2 h i ++ fourBytes-fourAt s 4 h i;
     }
 
-pub rows : AllSound optional
-rows = (sound-dam, tt)
+pub sound-optional : AllSound optional
+sound-optional = (sound-dam, tt)
 
 pub length-encodeCard : (c : Card) → length (encodeCard c) ≡ sizeOf c
 length-encodeCard c = omega arith
 
 pub size-small : (c : Card) → sizeOf c ≤ longestCard
-size-small c = omega (arith, optionals-small optional rows (optionalOf c))
+size-small c = omega (arith, optionals-small optional sound-optional (optionalOf c))

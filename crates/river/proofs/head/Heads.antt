@@ -28,11 +28,11 @@ use Rattle.river.specs.Stored.{storedLimit, oxygenOf, oxygenSumOf}
 use Rattle.river.specs.HeadTable.{DamWithin, demandLimit, HeadReady, DemandReady, OxygenReady, HeadInput, HeadOf}
 
 -- feeders that pass have water
-pub feeders-flow : (cards : List Card) (n i : ℕ) → ((j : ℕ) → j < n → ReachPasses (cardOf cards (suc j)) (above cards (suc j))) → fed (feedersAmong cards n i) ≡ true → 0 < flowOf (feedersAmong cards n i)
+pub flow-of-fed : (cards : List Card) (n i : ℕ) → ((j : ℕ) → j < n → ReachPasses (cardOf cards (suc j)) (above cards (suc j))) → fed (feedersAmong cards n i) ≡ true → 0 < flowOf (feedersAmong cards n i)
 unfolding feedersAmong joinedIf fed flowOf
-feeders-flow cards zero i s e = let z : _≡_ {A = ℕ} 0 1 = cc in absurd (let h : ⊥ = omega arith in h)
-feeders-flow cards (suc n) i s e =
-    step (eqb (getD cards n blank .outlet) i) (s n (le-refl (suc n)) .flowing) (feeders-flow cards n i (λ j l. s j (omega arith))) e
+flow-of-fed cards zero i s e = let z : _≡_ {A = ℕ} 0 1 = cc in absurd (let h : ⊥ = omega arith in h)
+flow-of-fed cards (suc n) i s e =
+    step (eqb (getD cards n blank .outlet) i) (s n (le-refl (suc n)) .flowing) (flow-of-fed cards n i (λ j l. s j (omega arith))) e
   where
     step : (b : Bool) → 0 < reachFlow (getD cards n blank) (feedersAmong cards n (suc n)) → (fed (feedersAmong cards n i) ≡ true → 0 < flowOf (feedersAmong cards n i)) → fed (joinedIf b (getD cards n blank) (feedersAmong cards n (suc n)) (feedersAmong cards n i)) ≡ true → 0 < flowOf (joinedIf b (getD cards n blank) (feedersAmong cards n (suc n)) (feedersAmong cards n i))
     step true p f e = lt-of-lt-of-le p (le-add-right _ _)
@@ -100,7 +100,7 @@ module _ {cards : List Card} {flows : FlowTable} {feet : FootTable} {i : ℕ} (h
             record {
               flowing = here .flowing;
               bounded = here .bounded;
-              feeders-flow = feeders-flow cards i (suc i) (λ j l. h .sound .each j (omega (arith, h .within)));
+              feeders-flow = flow-of-fed cards i (suc i) (λ j l. h .sound .each j (omega (arith, h .within)));
             };
       }
 

@@ -17,10 +17,10 @@ use Rattle.river.specs.Refusal.{accepted}
 use Rattle.river.specs.Write.{encodeReach, encodeCard}
 use Rattle.river.specs.declared.card.Card.{Card}
 use Rattle.river.proofs.Answers.{need-true, after-accepted, passed, went}
-use Rattle.river.proofs.bytes.Numbers.{Begins, begins, twoBytes-twoAt, fourBytes-fourAt, fourAt-below, bytesFrom, leads-spelled, leads-more, are-bytes-drop}
+use Rattle.river.proofs.bytes.Numbers.{HasMark, true-marked, twoBytes-twoAt, fourBytes-fourAt, fourAt-below, bytesFrom, leads-spelled, leads-more, are-bytes-drop}
 use Rattle.river.proofs.range.Ranges.{inRange-true, lawful-card, lawful-optionals}
 use Rattle.river.proofs.card.Optional.{unmarked, AreOptionals, readOptionals-encode, readOptionals-are}
-use Rattle.river.proofs.card.Rows.{rows, length-encodeCard}
+use Rattle.river.proofs.card.Rows.{sound-optional, length-encodeCard}
 
 -- the fields of an `RE` record do not depend on the records that follow
 inRange-cardAt : (s : List ℕ) (vs ws : Values optional) → inRange (cardAt s vs) ≡ inRange (cardAt s ws)
@@ -46,7 +46,7 @@ readReach-encode n i c post h u =
     need-true _ _ _ _ refl ∙
     need-true _ _ _ _ (inRange-cardAt s (absent optional) (optionalOf c) ∙ rw cardAt-encode (inRange-true c (h .in-range))) ∙
     need-true _ _ _ _ (h .outlet) ∙
-    after-accepted _ _ (readOptionals-encode optional rows refl i (optionalOf c) post (lawful-optionals h) u) ∙
+    after-accepted _ _ (readOptionals-encode optional sound-optional refl i (optionalOf c) post (lawful-optionals h) u) ∙
     ap accepted (cardAt-encode c post)
 
 pub drop-encodeCard : (c : Card) (post : List ℕ) → drop (sizeOf c) (encodeCard c ++ post) ≡ post
@@ -55,7 +55,7 @@ drop-encodeCard c post = drop-at (encodeCard c) post (sizeOf c) (length-encodeCa
 -- What was read, encoded.
 
 -- the bytes of an `RE` record are those of the card in it
-encodeReach-cardAt : (s : List ℕ) (vs : Values optional) → AreBytes s → Begins s RE → encodeReach (cardAt s vs) ≡ bytesFrom s 26 0
+encodeReach-cardAt : (s : List ℕ) (vs : Values optional) → AreBytes s → HasMark s RE → encodeReach (cardAt s vs) ≡ bytesFrom s 26 0
 unfolding cardAt
 encodeReach-cardAt s vs h m i =
     sym (m .first) i ∷
@@ -73,7 +73,7 @@ pub record IsReach (n i : ℕ) (s : List ℕ) (c : Card) : Type 0 where
   pub lawful : LawfulCard n i c
   pub bytes : s ≡ encodeCard c ++ drop (sizeOf c) s
 
-cardAt-is : (n i : ℕ) (s : List ℕ) (vs : Values optional) → AreBytes s → 26 ≤ length s → Begins s RE → inRange (cardAt s (absent optional)) ≡ true
+cardAt-is : (n i : ℕ) (s : List ℕ) (vs : Values optional) → AreBytes s → 26 ≤ length s → HasMark s RE → inRange (cardAt s (absent optional)) ≡ true
     → outletOk n i (byteAt s 2) ≡ true → AreOptionals optional (drop 26 s) vs → IsReach n i s (cardAt s vs)
 unfolding cardAt
 cardAt-is n i s vs h l m r o p =
@@ -95,5 +95,5 @@ readReach-is n i s c h e =
     let w = went _ _ (o .rest) in
     let same : cardAt s (w .value) ≡ c = cc (w .then) in
     subst (IsReach n i s) same
-    (cardAt-is n i s (w .value) h (leb-true _ _ (p .test)) (begins s RE (q .test)) (r .test) (o .test)
-    (readOptionals-are optional rows i (drop 26 s) (w .value) (are-bytes-drop 26 h) (w .first)))
+    (cardAt-is n i s (w .value) h (leb-true _ _ (p .test)) (true-marked s RE (q .test)) (r .test) (o .test)
+    (readOptionals-are optional sound-optional i (drop 26 s) (w .value) (are-bytes-drop 26 h) (w .first)))

@@ -27,13 +27,13 @@ not-found : (x : Answer Dam) {r : Refusal} → damOf x ≡ DamRead.Refused r →
 not-found (accepted d) e = clash (cc)
 not-found (refused r) e = cc
 
-pub counted : (x : Answer ℕ) {n next : ℕ} → headerOf x ≡ Header.Count n next → (x ≡ accepted n) × (next ≡ 4)
-counted (accepted m) e = (cc, cc)
-counted (refused r) e = clash (cc)
+pub header-counted : (x : Answer ℕ) {n next : ℕ} → headerOf x ≡ Header.Count n next → (x ≡ accepted n) × (next ≡ 4)
+header-counted (accepted m) e = (cc, cc)
+header-counted (refused r) e = clash (cc)
 
-pub not-counted : (x : Answer ℕ) {h : Header} {r : Refusal} → h ≡ headerOf x → h ≡ Header.Refused r → x ≡ refused (headerRefusal h)
-not-counted (accepted m) e f = clash (cc)
-not-counted (refused r) e f = rw e
+pub header-not-counted : (x : Answer ℕ) {h : Header} {r : Refusal} → h ≡ headerOf x → h ≡ Header.Refused r → x ≡ refused (headerRefusal h)
+header-not-counted (accepted m) e f = clash (cc)
+header-not-counted (refused r) e f = rw e
 
 pub record IsRead (at : ℕ) (x : Answer Card) (c : Card) (next : ℕ) : Type 0 where
   pub card : x ≡ accepted c
@@ -62,12 +62,12 @@ pub file-reaches : (s : List ℕ) {n next : ℕ} → headerOf (readHeader s) ≡
     → readFile s ≡ readReaches n 1 n (drop next s)
 unfolding readFile
 file-reaches s {n} e =
-    let h = counted (readHeader s) e in
+    let h = header-counted (readHeader s) e in
     after-accepted _ _ (h .0) ∙ ap (λ (k : ℕ). readReaches n 1 n (drop k s)) (sym (h .1))
 
-pub file-refused : (s : List ℕ) {r : Refusal} → readHeader s ≡ refused r → readFile s ≡ refused r
+pub header-refuses : (s : List ℕ) {r : Refusal} → readHeader s ≡ refused r → readFile s ≡ refused r
 unfolding readFile
-file-refused s e = after-refused _ _ e
+header-refuses s e = after-refused _ _ e
 
 -- what is read of a dam decides what comes next: a refusal, or the records behind
 module _ {A : Type 0} (ks : List Kind) (i : ℕ) (s : List ℕ) (f : Values (damRecord ∷ ks) → Answer A) {a : DamRead} (p : a ≡ damOf (readOptional damRecord i s)) where

@@ -17,7 +17,7 @@ use Rattle.river.specs.declared.refusal.Outcome.{Outcome}
 use Rattle.river.specs.declared.reader.Progress.{Progress}
 use Rattle.river.specs.declared.refusal.Refusal.{Refusal}
 use Rattle.river.proofs.Answers.{need-true, need-false, after-accepted, after-refused}
-use Rattle.river.proofs.read.Steps.{counted, header-few, file-reaches}
+use Rattle.river.proofs.read.Steps.{header-counted, header-few, file-reaches}
 use Rattle.river.specs.Card.{sizeOf}
 
 joined-nil : (x : Answer (List Card)) → x ≡ withCards [] x
@@ -69,7 +69,7 @@ module _ (s : List ℕ) where
   begun at {n} {next} e =
       let same : n ≡ n - 0 = omega arith in
       record {
-        few = header-few s (counted (readHeader s) e .0);
+        few = header-few s (header-counted (readHeader s) e .0);
         most = omega arith;
         opened = λ _. refl;
         rest =

@@ -29,17 +29,17 @@ refused-check (accepted u) e = clash (cc)
 refused-check (refused r) e = cc
 
 -- i cards of n have passed
-pub record Checked (n : ℕ) (cs : List Card) (i : ℕ) : Type 0 where
+pub record FirstPassed (n : ℕ) (cs : List Card) (i : ℕ) : Type 0 where
   pub most : i ≤ n
   pub rest : checkFrom n 1 cs ≡ checkFrom n (i + 1) (drop i cs)
 
 module _ (n : ℕ) (cs : List Card) where
-  pub check-start : Checked n cs 0
+  pub check-start : FirstPassed n cs 0
   check-start = record { most = omega arith; rest = refl }
 
-  module _ {i : ℕ} (p : Checked n cs i) where
+  module _ {i : ℕ} (p : FirstPassed n cs i) where
     pub check-more : {c : Card} {a : Check} → i < n → drop i cs ≡ c ∷ drop (i + 1) cs → a ≡ checkOf (checkCard n (i + 1) c) → a ≡ Check.Passed
-        → Checked n cs (i + 1)
+        → FirstPassed n cs (i + 1)
     unfolding checkFrom
     check-more {c} less e f g =
         record {

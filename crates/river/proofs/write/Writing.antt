@@ -17,7 +17,7 @@ use Rattle.river.specs.declared.write.Check.{Check}
 use Rattle.river.specs.declared.write.Written.{Written}
 use Rattle.river.proofs.Answers.{need-true, need-false, after-accepted, after-refused}
 use Rattle.river.proofs.write.Passes.{passed-check}
-use Rattle.river.proofs.bytes.Puts.{at-start}
+use Rattle.river.proofs.bytes.Puts.{put-at-start}
 
 module _ (n : ℕ) (cs : List Card) (before : List ℕ) where
   -- a refusal leaves the buffer as it was
@@ -52,6 +52,6 @@ module _ (n : ℕ) (cs : List Card) (before : List ℕ) where
                 after-accepted _ _ (passed-check (checkFrom n 1 cs) (sym e ∙ f)) ∙
                 need-true _ _ _ _ (le-leb (length (encode cs)) (length before) (omega arith)));
             buffer =
-                at-start put (omega arith) ∙
+                put-at-start put (omega arith) ∙
                 ap (λ (j : ℕ). encode cs ++ drop j before) same;
           }

@@ -15,7 +15,7 @@ use Rattle.river.specs.Bytes.{Put}
 use Rattle.river.specs.Card.{countOk, blank, headerBytes, longestCard, sizeOf}
 use Rattle.river.specs.Refusal.{Answer, accepted, refused, refuse, need, after}
 use Rattle.river.specs.Write.{encode, encodeHeader, checkCard, checkFrom, checkOf, writeAnswer, bufferWritten, Writes}
-use Rattle.river.specs.Writer.{startFrom, startChecking, nextChecking, ChecksAll, Unput, Heads, PutsNext}
+use Rattle.river.specs.Writer.{startFrom, startChecking, nextChecking, ChecksAll, Unput, PutsStart, PutsNext}
 use Rattle.river.specs.declared.card.Card.{Card}
 use Rattle.river.specs.declared.refusal.Refusal.{Refusal}
 use Rattle.river.specs.declared.write.Check.{Check}
@@ -24,7 +24,7 @@ use Rattle.river.specs.declared.writer.Checking.{Checking}
 use Rattle.river.specs.declared.writer.Putting.{Putting}
 use Rattle.river.proofs.card.Card as Cd
 use Rattle.river.proofs.Answers.{clash, need-true, need-false, after-refused}
-use Rattle.river.proofs.write.Passes.{refused-check, Checked, check-start, check-more, check-stop, check-end, Measured, measure-start, measure-more, measure-end, Placed, place-start, place-more, place-room, place-end}
+use Rattle.river.proofs.write.Passes.{refused-check, FirstPassed, check-start, check-more, check-stop, check-end, Measured, measure-start, measure-more, measure-end, Placed, place-start, place-more, place-room, place-end}
 use Rattle.river.proofs.range.Ranges.{true-countOk}
 use Rattle.river.proofs.write.Writing.{refuses-room, writes}
 
@@ -63,10 +63,10 @@ below h k = omega arith
 abbrev checkAll : List Card → Answer Unit
 checkAll cs = need (countOk (length cs)) 3 0 (checkFrom (length cs) 1 cs)
 
-record Passing (cs : List Card) (s : Checking) : Type 0 where
+record PassedSoFar (cs : List Card) (s : Checking) : Type 0 where
   counted : countOk (length cs) ≡ true
   due : s .due ≡ length cs
-  checked : Checked (length cs) cs (s .passed)
+  checked : FirstPassed (length cs) cs (s .passed)
   measured : Measured cs (s .passed) (s .length)
 
 record Stopped (cs : List Card) (s : Checking) (r : Refusal) : Type 0 where
@@ -74,23 +74,23 @@ record Stopped (cs : List Card) (s : Checking) (r : Refusal) : Type 0 where
   answer : checkAll cs ≡ refused r
 
 abbrev CheckedAs : Check → List Card → Checking → Type 0
-CheckedAs Check.Passed cs s = Passing cs s
+CheckedAs Check.Passed cs s = PassedSoFar cs s
 CheckedAs (Check.Refused r) cs s = Stopped cs s r
 
 -- the cards that are checked so far, and those still due
-pub record Checks (cs : List Card) (s : Checking) : Type 0 where
+pub record CardsChecked (cs : List Card) (s : Checking) : Type 0 where
   pub few : s .due ≤ 128
   pub within : s .due ≤ length cs
   pub long : headerBytes ≤ s .length
   so-far : CheckedAs (s .check) cs s
 
 module _ (cs : List Card) where
-  halted : {r : Refusal} → checkAll cs ≡ refused r → Checks cs (record { check = Check.Refused r; due = 0; passed = 0; length = headerBytes })
+  halted : {r : Refusal} → checkAll cs ≡ refused r → CardsChecked cs (record { check = Check.Refused r; due = 0; passed = 0; length = headerBytes })
   halted e = record { few = omega arith; within = omega arith; long = omega arith; so-far = record { due = refl; answer = e } }
 
-  starts-as : (b : Bool) → countOk (length cs) ≡ b → Checks cs (startChecking (length cs))
+  starts-as : (b : Bool) → countOk (length cs) ≡ b → CardsChecked cs (startChecking (length cs))
   starts-as true e =
-      subst (λ (x : Answer Unit). Checks cs (startFrom x (length cs))) (sym (need-true _ _ _ _ e))
+      subst (λ (x : Answer Unit). CardsChecked cs (startFrom x (length cs))) (sym (need-true _ _ _ _ e))
       (record {
         few = true-countOk (length cs) e .1;
         within = omega arith;
@@ -98,25 +98,25 @@ module _ (cs : List Card) where
         so-far = record { counted = e; due = refl; checked = check-start (length cs) cs; measured = measure-start cs };
       })
   starts-as false e =
-      subst (λ (x : Answer Unit). Checks cs (startFrom x (length cs))) (sym (need-false _ _ _ _ e)) (halted (need-false _ _ _ _ e))
+      subst (λ (x : Answer Unit). CardsChecked cs (startFrom x (length cs))) (sym (need-false _ _ _ _ e)) (halted (need-false _ _ _ _ e))
 
-  pub starts : Checks cs (startChecking (length cs))
+  pub starts : CardsChecked cs (startChecking (length cs))
   starts = starts-as (countOk (length cs)) refl
 
-  module _ {s : Checking} (g : Checks cs s) where
+  module _ {s : Checking} (g : CardsChecked cs s) where
     -- while a card is due no refusal is found
-    passing-as : (k : Check) → CheckedAs k cs s → s .passed < s .due → Passing cs s
+    passing-as : (k : Check) → CheckedAs k cs s → s .passed < s .due → PassedSoFar cs s
     passing-as Check.Passed p less = p
     passing-as (Check.Refused r) p less = absurd (let z : ⊥ = omega (arith, p .due) in z)
 
-    passing : s .passed < s .due → Passing cs s
+    passing : s .passed < s .due → PassedSoFar cs s
     passing less = passing-as (s .check) (g .so-far) less
 
     pub near : s .passed < s .due → s .length ≤ headerBytes + longestCard * s .passed
     near less = passing less .measured .near
 
     next-as : {c : Card} (x : Answer Unit) → checkCard (s .due) (s .passed + 1) c ≡ x → s .passed < s .due
-        → drop (s .passed) cs ≡ c ∷ drop (s .passed + 1) cs → Checks cs (nextChecking x s c)
+        → drop (s .passed) cs ≡ c ∷ drop (s .passed + 1) cs → CardsChecked cs (nextChecking x s c)
     next-as {c} (accepted u) e less f =
         let p = passing less in
         let is : checkCard (length cs) (s .passed + 1) c ≡ accepted u = ap (λ (n : ℕ). checkCard n (s .passed + 1) c) (sym (p .due)) ∙ e in
@@ -139,7 +139,7 @@ module _ (cs : List Card) where
         halted (need-true _ _ _ _ (p .counted) ∙ refused-check (checkFrom (length cs) 1 cs) (sym stop ∙ ap checkOf is))
 
     pub next : {c : Card} → s .passed < s .due → drop (s .passed) cs ≡ c ∷ drop (s .passed + 1) cs
-        → Checks cs (nextChecking (checkCard (s .due) (s .passed + 1) c) s c)
+        → CardsChecked cs (nextChecking (checkCard (s .due) (s .passed + 1) c) s c)
     next {c} less f = next-as (checkCard (s .due) (s .passed + 1) c) refl less f
 
     all-as : (k : Check) → s .check ≡ k → CheckedAs k cs s → s .due ≤ s .passed → ChecksAll cs s
@@ -197,9 +197,9 @@ pub record Puts (cs : List Card) (before : List ℕ) (p : Putting) (buffer : Lis
   so-far : PutAs (p .answer) cs before p buffer
 
 module _ (cs : List Card) (before : List ℕ) where
-  stops : {p : Putting} {r : Refusal} {left : List ℕ} → Unput p r before left → refused r ≡ writeAnswer (length cs) cs (length before) → Puts cs before p left
+  put-stops : {p : Putting} {r : Refusal} {left : List ℕ} → Unput p r before left → refused r ≡ writeAnswer (length cs) cs (length before) → Puts cs before p left
   unfolding bufferWritten
-  stops {p} {r} {left} u e =
+  put-stops {p} {r} {left} u e =
       record {
         few = omega (arith, u .due);
         within = omega (arith, u .due);
@@ -208,7 +208,7 @@ module _ (cs : List Card) (before : List ℕ) where
             (record { due = u .due; result = record { answer = e; buffer = u .buffer } });
       }
 
-  module _ {s : Checking} {p : Putting} {left : List ℕ} (g : ChecksAll cs s) (h : Heads s before p left) (same : length left ≡ length before) where
+  module _ {s : Checking} {p : Putting} {left : List ℕ} (g : ChecksAll cs s) (h : PutsStart s before p left) (same : length left ≡ length before) where
     passed-all : (b : Bool) → countOk (length cs) ≡ b → s .check ≡ Check.Passed → (countOk (length cs) ≡ true) × (Check.Passed ≡ checkOf (checkFrom (length cs) 1 cs))
     passed-all true e f = (e, sym f ∙ g .check ∙ ap checkOf (need-true _ _ _ _ e))
     passed-all false e f =
@@ -219,10 +219,10 @@ module _ (cs : List Card) (before : List ℕ) where
     unfolding writeAnswer
     begins-as (Check.Refused r) e f =
         let is : checkAll cs ≡ refused r = refused-check (checkAll cs) (sym (g .check) ∙ e) in
-        stops (h .stops e) (sym (need-after _ _ _ _ _ is))
+        put-stops (h .stops e) (sym (need-after _ _ _ _ _ is))
     begins-as Check.Passed e (inl less) =
         let p = passed-all (countOk (length cs)) refl e in
-        stops (h .short e less) (refuses-room (length cs) cs before (p .0) (p .1) refl (g .size e) less .answer)
+        put-stops (h .short e less) (refuses-room (length cs) cs before (p .0) (p .1) refl (g .size e) less .answer)
     begins-as Check.Passed e (inr room) =
         let c = passed-all (countOk (length cs)) refl e in
         let b = h .begins e room in

@@ -6,7 +6,7 @@ use denote.Ref.{now}
 use Rattle.river.specs.Read.{readHeader}
 use Rattle.river.specs.Refusal.{refused}
 use Rattle.river.proofs.reader.Reaches.{begun, halted}
-use Rattle.river.proofs.read.Steps.{not-counted, file-refused}
+use Rattle.river.proofs.read.Steps.{header-not-counted, header-refuses}
 use Rattle.river.proofs.reader.begin.Statement.{statement}
 use Rattle.river.proofs.reader.begin.Tie as tie
 
@@ -16,7 +16,7 @@ returns c =
     let read = told .before .before .before in
     let s = now (read .before .before .args .file) in
     halted s _
-    (file-refused s (not-counted (readHeader s) (read .read-header .ensures) (told .enum-told .given .1)) ∙
+    (header-refuses s (header-not-counted (readHeader s) (read .read-header .ensures) (told .enum-told .given .1)) ∙
     ap refused (sym (c .header-refusal .ensures)))
 
 returns-2 : tie.Need-returns-2

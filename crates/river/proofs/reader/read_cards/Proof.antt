@@ -142,13 +142,13 @@ module _ {M : Type 1} (𝓤 : URA M) (H : Heap 𝓤) (A : Atoms 𝓤) (W : Given
   Post = walkOf 𝓤 H A cards.ended stayed (cards.clauses 𝓤 H A mem run) .post (((κ, tt), (q, tt), tt, (s, (p₀, tt)), vals), tt)
 
   -- the progress, at its machine value
-  abbrev Sound : Progress → Type 0
-  Sound p = Is P.the-row p (P′.lowered p ∷ [])
+  abbrev IsLowered : Progress → Type 0
+  IsLowered p = Is P.the-row p (P′.lowered p ∷ [])
 
   spelled : (p : Progress) (w : Val) → Is P.the-row p (w ∷ []) → w ∷ [] ≡ P′.lowered p ∷ []
   spelled p w is = P′.lowers .val-is p (w ∷ []) is
 
-  typed : (p : Progress) → Sound p → Holds (hasTy P′.mir (P′.lowered p)) × WT (P′.lowered p)
+  typed : (p : Progress) → IsLowered p → Holds (hasTy P′.mir (P′.lowered p)) × WT (P′.lowered p)
   typed p ok = LL.lawful P.the-type P′.the-laws 𝓤 H A W .typed p _ ok .0
 
   -- ---- what each call is passed, what it asks, and what it says of its result
@@ -205,7 +205,7 @@ module _ {M : Type 1} (𝓤 : URA M) (H : Heap 𝓤) (A : Atoms 𝓤) (W : Given
   abbrev to-take : Progress → Reach → Val → Take 𝓤 H A mem run .Ghost
   to-take p x u = ((tt, tt, tt, (p, (x, tt)), (P′.lowered p ∷ [], (u ∷ [], tt))), tt)
 
-  goes-take : (p : Progress) (x : Reach) (u : Val) → Sound p → p .read < p .count → p .count ≤ 128 → ent 𝓤 (sem 𝓤 H A (Rc.the-row .own x (u ∷ []))) (Take 𝓤 H A mem run .pre (to-take p x u))
+  goes-take : (p : Progress) (x : Reach) (u : Val) → IsLowered p → p .read < p .count → p .count ≤ 128 → ent 𝓤 (sem 𝓤 H A (Rc.the-row .own x (u ∷ []))) (Take 𝓤 H A mem run .pre (to-take p x u))
   goes-take p x u ok less few =
       qed W (‵ (Rc.the-row .own x (u ∷ [])) ∷ []) ∵ says ! (less, few) $ nothing ! $ move ! (1 ∷ 0 ∷ []) $ fjoin ! $
       owned ! P.the-row (Is P.the-row) (LL.makes P.the-type P′.the-plain 𝓤 H A) p (P′.lowered p ∷ []) ok $ fjoin ! $ nothing ! $ frame ! $ done !
@@ -213,7 +213,7 @@ module _ {M : Type 1} (𝓤 : URA M) (H : Heap 𝓤) (A : Atoms 𝓤) (W : Given
   take-said : (p : Progress) (x : Reach) (r : Progress) → ent 𝓤 (ensured 𝓤 H A taking.ended (taking.clauses 𝓤 H A mem run) tt (p, (x, tt)) tt r) (fact 𝓤 (Takes p x r))
   take-said p x r = exE 𝓤 _ (λ ws. snd∗ 𝓤 (sem 𝓤 H A (lasts taking.ended tt (p, (x, tt)) ws)) (fact 𝓤 (Takes p x r)))
 
-  exits : (y : Progress) → Sound y → ReadingIsOver (now s) y → ent 𝓤 (⋆ 𝓤 H A (Tok ∷ ‵ Own ∷ [])) (Post (P′.lowered y))
+  exits : (y : Progress) → IsLowered y → ReadingIsOver (now s) y → ent 𝓤 (⋆ 𝓤 H A (Tok ∷ ‵ Own ∷ [])) (Post (P′.lowered y))
   exits y ok e =
       qed W (Tok ∷ ‵ Own ∷ []) ∵
       suffices ! _ (ends-at 𝓤 H A cards.ended stayed (cards.clauses 𝓤 H A mem run) W (((κ, tt), (q, tt), tt, (s, (p₀, tt)), vals), tt) (P′.lowered y) y (tt, (tt, tt)) (tt, (tt, tt))) $ says ! e $
@@ -224,7 +224,7 @@ module _ {M : Type 1} (𝓤 : URA M) (H : Heap 𝓤) (A : Atoms 𝓤) (W : Given
   record State : Type 0 where
     at : Progress
     goes : ReadingGoesOn (now s) at
-    sound : Sound at
+    is-lowered : IsLowered at
     place : ℕ
     fits : place < 2 ^ 64
 
@@ -269,16 +269,16 @@ module _ {M : Type 1} (𝓤 : URA M) (H : Heap 𝓤) (A : Atoms 𝓤) (W : Given
       over x e le =
           assigns ! (bin ! (of-field ! 14 refl tt) (of-field ! 14 refl tt) tt) (from ! (stop !)) (init ! 10 refl (tt, tt)) $
           rewrite ! 10 (λ (t : Bool). ‵ (fat fullShare (τ 4) l₄ 0 (vbool t))) e refl $ leaves-loop ! (of-local ! 10 refl) $ exec ! C Λ En mir′.t-3 (atRet En Post) $
-          assigns ! (of-opd ! (of-local ! 14 refl)) (from ! (stop !)) (init ! 18 refl (typed (x .at) (x .sound))) $
+          assigns ! (of-opd ! (of-local ! 14 refl)) (from ! (stop !)) (init ! 18 refl (typed (x .at) (x .is-lowered))) $
           returns ! (look ! 18 refl) $ free ! 2 (holds (P′.lowered (x .at)) ∷ holds v ∷ holds (P′.lowered (x .at)) ∷ holds (T′.lowered (mk (x .place))) ∷ holds (vbool false) ∷ []) refl $
-          by ! (exits (x .at) (x .sound) (record { goes = x .goes; none-due = le }))
+          by ! (exits (x .at) (x .is-lowered) (record { goes = x .goes; none-due = le }))
 
       -- the test holds: one reach more
       more : (x : State) → ltb (x .at .read) (x .at .count) ≡ true → x .at .read < x .at .count → Sq W (At x) (runs C Λ En mir′.turn-1 (anyQ (Turned x)))
       unfolding afterTurn
       more x e less =
           let p = x .at in
-          let wt = typed p (x .sound) in
+          let wt = typed p (x .is-lowered) in
           let here = wt .1 .1 .1 .1 .1 .0 .fits in
           let one = one-fits less (x .goes .few) in
           assigns ! (bin ! (of-field ! 14 refl tt) (of-field ! 14 refl tt) tt) (from ! (stop !)) (init ! 10 refl (tt, tt)) $
@@ -300,13 +300,13 @@ module _ {M : Type 1} (𝓤 : URA M) (H : Heap 𝓤) (A : Atoms 𝓤) (W : Given
           -- [the reach; the token; what s owns; _8; …; _0; …]
           peeks ! Rc.the-row (Is Rc.the-row) (shows 𝓤 H A Rc.the-row) r (u ∷ []) (λ is.
           land ! (from ! (stop !)) (init ! 7 refl (EL.lawful Rc.the-type Rc′.the-laws 𝓤 H A W tt .typed r _ is .0)) $
-          use1 W (raw (Take 𝓤 H A mem run .pre (to-take p r u))) (goes-take p r u (x .sound) less (x .goes .few)) $
+          use1 W (raw (Take 𝓤 H A mem run .pre (to-take p r u))) (goes-take p r u (x .is-lowered) less (x .goes .few)) $
           calls-at-last ! fm (Take 𝓤 H A mem run) (known .takes) (to-take p r u) (and-then ! (of-local ! 15 refl) (and-then ! (of-local ! 7 refl) (no-more !))) (λ w.
           use1 W (later (some (λ (y : Progress). (‵ ftrue ⊛ ‵ (P.the-row .own y (w ∷ []))) ⊛ raw (ensured 𝓤 H A taking.ended (taking.clauses 𝓤 H A mem run) tt (p, (r, tt)) tt y)))) (id⊢ 𝓤 _) $ await ! tt $ pick ! (λ y.
           split ! $ move ! (1 ∷ []) $ use1 W (raw (fact 𝓤 (Takes p r y))) (take-said p r y) $ heard ! (Takes p r y) (λ f. split ! $ drop ! $
           -- [the new progress; the token; what s owns; _8; …; _0; …]
           peeks ! P.the-row (Is P.the-row) (shows 𝓤 H A P.the-row) y (w ∷ []) (λ isp.
-          let x′ : State = record { at = y; goes = f .goes (now s) (x .goes) d; sound = subst (Is P.the-row y) (spelled y w isp) isp; place = p .next; fits = here } in
+          let x′ : State = record { at = y; goes = f .goes (now s) (x .goes) d; is-lowered = subst (Is P.the-row y) (spelled y w isp) isp; place = p .next; fits = here } in
           land-last ! (from ! (stop !)) (store ! 15 refl (LL.lawful P.the-type P′.the-laws 𝓤 H A W .typed y _ isp .0)) $ rewrite ! 15 (λ (u : Val). ‵ (fat fullShare (τ 2) l₂ 0 u)) (ap only (spelled y w isp)) refl $ drop ! $
           forget ! 2 refl $ forget ! 4 refl $ forget ! 6 refl $ forget ! 8 refl $ forget ! 10 refl $ again ! Nearer At x x′ (f .fewer)))))))))))))
 
@@ -318,13 +318,13 @@ module _ {M : Type 1} (𝓤 : URA M) (H : Heap 𝓤) (A : Atoms 𝓤) (W : Given
           choose false e = over x e (nltb→le (x .at .read) (x .at .count) (subst (λ (t : Bool). Holds (not t)) (sym e) tt))
 
     -- the MIR up to the loop, and the loop
-    walk : Sound p₀ → ReadingGoesOn (now s) p₀ → (𝓣 : Tables 𝓤 H) → Known 𝓤 H A mem run (𝓣 .C) → ent 𝓤 (onEntry 𝓤 H A cards.signature (κ, tt) (q, tt) (s, (p₀, tt)) vals) (WpFn 𝓤 H (𝓣 .C) (𝓣 .Λ) code.function (v ∷ P′.lowered p₀ ∷ []) Post)
-    walk sound goes 𝓣 known =
+    walk : IsLowered p₀ → ReadingGoesOn (now s) p₀ → (𝓣 : Tables 𝓤 H) → Known 𝓤 H A mem run (𝓣 .C) → ent 𝓤 (onEntry 𝓤 H A cards.signature (κ, tt) (q, tt) (s, (p₀, tt)) vals) (WpFn 𝓤 H (𝓣 .C) (𝓣 .Λ) code.function (v ∷ P′.lowered p₀ ∷ []) Post)
+    walk is-lowered goes 𝓣 known =
         let fm = fmOf 𝓤 H (W .laws) 𝓣 in
-        let x : State = record { at = p₀; goes = goes; sound = sound; place = 0; fits = lit< tt } in
+        let x : State = record { at = p₀; goes = goes; is-lowered = is-lowered; place = 0; fits = lit< tt } in
         qed W (Tok ∷ ‵ (owns (ShrSlice (named 0) κ u8 ∷ P.the-row ∷ []) (s, (p₀, tt)) vals) ∷ []) ∵ enter ! (𝓣 .C) (𝓣 .Λ) code.function (v ∷ P′.lowered p₀ ∷ []) _ $
         alloc1 ! (λ l₀. alloc1 ! (λ l₁. alloc1 ! (λ l₂. alloc1 ! (λ l₃. alloc1 ! (λ l₄. alloc1 ! (λ l₅. alloc1 ! (λ l₆. alloc1 ! (λ l₇. alloc1 ! (λ l₈. alloc0 ! $ params1 ! $
-        pass1 ! (init ! 14 refl (tt, slice-typed)) $ pass1 ! (init ! 12 refl (typed p₀ sound)) $ pass0 ! $
+        pass1 ! (init ! 14 refl (tt, slice-typed)) $ pass1 ! (init ! 12 refl (typed p₀ is-lowered)) $ pass0 ! $
         -- [_8; …; _0; …; the token; what the parameters own]
         move ! (18 ∷ 19 ∷ []) $ move ! (1 ∷ []) $ fsplit ! $ move ! (1 ∷ []) $ drop ! $ move ! (1 ∷ 0 ∷ []) $
         -- [the token; what s owns; _8; …; _0; …]

@@ -6,7 +6,7 @@ use borrow.Author.Needs.{needs}
 use borrow.Table.Elements.{length-take-le}
 use Rattle.river.specs.File.{Yields}
 use Rattle.river.specs.Write.{writtenOf}
-use Rattle.river.specs.Rewrite.{Within}
+use Rattle.river.specs.Rewrite.{WrittenFits}
 use Rattle.river.specs.declared.write.Written.{Written}
 use Rattle.river.proofs.Answers.{after-accepted, after-refused}
 use Rattle.river.proofs.rewrite.read_written.Statement.{statement}
@@ -15,7 +15,7 @@ use Rattle.river.proofs.rewrite.read_written.Tie as tie
 slice-aggregate-read-file : tie.Need-slice-aggregate-read-file
 slice-aggregate-read-file c =
     let a = c .before .before in
-    sym (length-take-le _ _ (subst (λ (w : Written). Within w (length (a .before .before .before .args .out .now))) (a .w .given .1) (a .before .before .before .pre)))
+    sym (length-take-le _ _ (subst (λ (w : Written). WrittenFits w (length (a .before .before .before .args .out .now))) (a .w .given .1) (a .before .before .before .pre)))
 
 returns : tie.Need-returns
 returns c = subst (λ a. Yields a (c .read-file .result)) (sym (after-accepted _ _ (ap writtenOf (c .before .before .before .w .given .1)))) (c .read-file .ensures)

@@ -43,11 +43,11 @@ use Rattle.river.specs.File.{Yields}
 use Rattle.river.specs.Read.{readFile}
 use Rattle.river.specs.Refusal.{after}
 use Rattle.river.specs.Write.{writtenOf, Writes, LoadsFit}
-use Rattle.river.specs.Rewrite.{Within, ReadsBack}
+use Rattle.river.specs.Rewrite.{WrittenFits, ReadsBack}
 use Rattle.river.specs.declared.card.Card.{Card}
 use Rattle.river.specs.declared.file.Reading.{Reading}
 use Rattle.river.specs.declared.write.Written.{Written}
-use Rattle.river.proofs.RoundTrip.{within, reads-back}
+use Rattle.river.proofs.RoundTrip.{written-fits, reads-back}
 use Rattle.river.proofs.Walks.Again.{LentAgain, lends-again, comes-back}
 use Rattle.river.proofs.Walks.Known.{EachIs, slice-known}
 use Rattle.river.proofs.Walks.Locals.{type-of, of-local, of-field, holds, free}
@@ -151,7 +151,7 @@ module _ {M : Type 1} (𝓤 : URA M) (H : Heap 𝓤) (A : Atoms 𝓤) (W : Given
   abbrev to-read : ℕ → GName → List ℕ → Written → Val → Read 𝓤 H A mem run .Ghost
   to-read μ ε l r w = (((μ ∷ [], tt), (fullShare, tt), tt, (r, (y ε l, tt)), (w ∷ [], (v′ (length l) ∷ [], tt))), tt)
 
-  goes-read : (μ : ℕ) (ε : GName) (l : List ℕ) (r : Written) (w : Val) → Within r (length l) → ent 𝓤 (⋆ 𝓤 H A (‵ (flft (μ ∷ []) fullShare) ∷ ‵ (Wr.the-row .own r (w ∷ [])) ∷ ‵ (SharedO μ ε l) ∷ [])) (Read 𝓤 H A mem run .pre (to-read μ ε l r w))
+  goes-read : (μ : ℕ) (ε : GName) (l : List ℕ) (r : Written) (w : Val) → WrittenFits r (length l) → ent 𝓤 (⋆ 𝓤 H A (‵ (flft (μ ∷ []) fullShare) ∷ ‵ (Wr.the-row .own r (w ∷ [])) ∷ ‵ (SharedO μ ε l) ∷ [])) (Read 𝓤 H A mem run .pre (to-read μ ε l r w))
   goes-read μ ε l r w pre =
       qed W (‵ (flft (μ ∷ []) fullShare) ∷ ‵ (Wr.the-row .own r (w ∷ [])) ∷ ‵ (SharedO μ ε l) ∷ []) ∵ says ! pre $ nothing ! $ move ! (1 ∷ 0 ∷ []) $ join ! $ frame ! $ nothing ! $ move ! (2 ∷ 0 ∷ []) $ fjoin ! $ move ! (1 ∷ 0 ∷ []) $ fjoin ! $ done !
 
@@ -204,7 +204,7 @@ module _ {M : Type 1} (𝓤 : URA M) (H : Heap 𝓤) (A : Atoms 𝓤) (W : Given
       -- it is lent as a `&` for a lifetime μ of the second call
       lft-new ! tt (λ μ. move ! (1 ∷ 2 ∷ []) $
       use2 W (later (some (λ (ε : GName). ‵ (SharedO μ ε l) ⊛ ‵ (Kept u8 κ′ (μ ∷ []) q′ γ′ b′ o′ l)))) (shares u8 κ′ (μ ∷ []) q′ γ′ b′ o′ l 𝓤 H A W (named 1) (named 0)) $ await ! tt $ pick ! (λ ε. split ! $
-      move ! (2 ∷ 4 ∷ 0 ∷ []) $ use3 W (raw (Read 𝓤 H A mem run .pre (to-read μ ε l r w))) (goes-read μ ε l r w (within ys zs l r d long)) $
+      move ! (2 ∷ 4 ∷ 0 ∷ []) $ use3 W (raw (Read 𝓤 H A mem run .pre (to-read μ ε l r w))) (goes-read μ ε l r w (written-fits ys zs l r d long)) $
       -- [what `read_written` asks; what is kept of the buffer; the token; _7; …; _0; …]
       calls-at ! fm (Read 𝓤 H A mem run) (known .reads) (to-read μ ε l r w) (and-then ! (of-local ! 11 refl) (and-then ! (of-local ! 3 refl) (no-more !))) (λ u.
       use1 W (later (some (λ (z : Reading). ((‵ (flft (μ ∷ []) fullShare) ⊛ ‵ ftrue) ⊛ ‵ (Rd.the-row .own z (u ∷ []))) ⊛ raw (ensured 𝓤 H A read.ended (read.clauses 𝓤 H A mem run) (μ ∷ [], tt) (r, (y ε l, tt)) tt z)))) (id⊢ 𝓤 _) $ await ! tt $ pick ! (λ z.

@@ -1,5 +1,5 @@
 -- `river::writer::check_all` meets its contract: a walk of its MIR, by hand. In a loop each lent card is read and handed by value to `check_next`. All that the proof knows of the functions that are called is that each meets its contract.
--- What the loop carries is the checking, as facts (`Checks`). The lent slice is Copy: of a copy of what it owns one card is looked at and put back.
+-- What the loop carries is the checking, as facts (`CardsChecked`). The lent slice is Copy: of a copy of what it owns one card is looked at and put back.
 -- Assumes nothing.
 use mathlib.Core.Path.{_≡_, refl, sym, ap, subst}
 use Prim.Native.Nat.{ℕ, _+_, _-_, _*_, _<_, _≤_, _^_}
@@ -47,7 +47,7 @@ use Rattle.river.specs.Write.{checkCard}
 use Rattle.river.specs.Writer.{startChecking, nextChecking, ChecksAll}
 use Rattle.river.specs.declared.card.Card.{Card}
 use Rattle.river.specs.declared.writer.Checking.{Checking}
-use Rattle.river.proofs.writer.Lent.{from-on, none, card-bytes, bytes-fit, below, Checks, starts, near, next, all-checked, fewer}
+use Rattle.river.proofs.writer.Lent.{from-on, none, card-bytes, bytes-fit, below, CardsChecked, starts, near, next, all-checked, fewer}
 use Rattle.river.proofs.Walks.Locals.{type-of, of-local, of-field, empty, holds, cells, free}
 use Rattle.river.proofs.card.Card as Cd
 use Rattle.river.proofs.card.Card.Laws as Cd′
@@ -115,13 +115,13 @@ module _ {M : Type 1} (𝓤 : URA M) (H : Heap 𝓤) (A : Atoms 𝓤) (W : Given
   Post = walkOf 𝓤 H A check-all.ended stayed (check-all.clauses 𝓤 H A mem run) .post (((κ, tt), (q, tt), tt, (x, tt), (v ∷ [], tt)), tt)
 
   -- the checking, at its machine value
-  abbrev Sound : Checking → Type 0
-  Sound s = Is Ck.the-row s (Ck′.lowered s ∷ [])
+  abbrev IsLowered : Checking → Type 0
+  IsLowered s = Is Ck.the-row s (Ck′.lowered s ∷ [])
 
   spelled : (s : Checking) (w : Val) → Is Ck.the-row s (w ∷ []) → w ∷ [] ≡ Ck′.lowered s ∷ []
   spelled s w is = Ck′.lowers .val-is s (w ∷ []) is
 
-  typed : (s : Checking) → Sound s → Holds (hasTy Ck′.mir (Ck′.lowered s)) × WT (Ck′.lowered s)
+  typed : (s : Checking) → IsLowered s → Holds (hasTy Ck′.mir (Ck′.lowered s)) × WT (Ck′.lowered s)
   typed s ok = LL.lawful Ck.the-type Ck′.the-laws 𝓤 H A W .typed s _ ok .0
 
   -- ---- what each call is passed, and what it asks
@@ -134,12 +134,12 @@ module _ {M : Type 1} (𝓤 : URA M) (H : Heap 𝓤) (A : Atoms 𝓤) (W : Given
   abbrev to-next : Checking → Card → CheckNext 𝓤 H A mem run .Ghost
   to-next s c = ((tt, tt, tt, (s, (c, tt)), (Ck′.lowered s ∷ [], (Cd′.lowered c ∷ [], tt))), tt)
 
-  goes-next : (s : Checking) (c : Card) → Sound s → (s .passed < s .due) × (s .due ≤ 128) × (s .length ≤ headerBytes + longestCard * s .passed) → Is Cd.the-row c (Cd′.lowered c ∷ []) → ent 𝓤 (emp 𝓤) (CheckNext 𝓤 H A mem run .pre (to-next s c))
+  goes-next : (s : Checking) (c : Card) → IsLowered s → (s .passed < s .due) × (s .due ≤ 128) × (s .length ≤ headerBytes + longestCard * s .passed) → Is Cd.the-row c (Cd′.lowered c ∷ []) → ent 𝓤 (emp 𝓤) (CheckNext 𝓤 H A mem run .pre (to-next s c))
   goes-next s c ok pre is =
       qed W [] ∵ says ! pre $ nothing ! $ owned ! Cd.the-row (Is Cd.the-row) (LL.makes Cd.the-type Cd′.the-plain 𝓤 H A) c (Cd′.lowered c ∷ []) is $ fjoin ! $
       owned ! Ck.the-row (Is Ck.the-row) (LL.makes Ck.the-type Ck′.the-plain 𝓤 H A) s (Ck′.lowered s ∷ []) ok $ fjoin ! $ nothing ! $ frame ! $ done !
 
-  exits : (s : Checking) → Sound s → ChecksAll ys s → ent 𝓤 (⋆ 𝓤 H A (‵ (flft κ q) ∷ ‵ OwnC ∷ [])) (Post (Ck′.lowered s))
+  exits : (s : Checking) → IsLowered s → ChecksAll ys s → ent 𝓤 (⋆ 𝓤 H A (‵ (flft κ q) ∷ ‵ OwnC ∷ [])) (Post (Ck′.lowered s))
   exits s ok e =
       qed W (‵ (flft κ q) ∷ ‵ OwnC ∷ []) ∵
       suffices ! _ (ends-at 𝓤 H A check-all.ended stayed (check-all.clauses 𝓤 H A mem run) W (((κ, tt), (q, tt), tt, (x, tt), (v ∷ [], tt)), tt) (Ck′.lowered s) s (tt, tt) (tt, tt)) $ says ! e $
@@ -149,8 +149,8 @@ module _ {M : Type 1} (𝓤 : URA M) (H : Heap 𝓤) (A : Atoms 𝓤) (W : Given
   -- ---- the loop's state: the checking, with what is known of it
   record State : Type 0 where
     at : Checking
-    checks : Checks ys at
-    sound : Sound at
+    checks : CardsChecked ys at
+    is-lowered : IsLowered at
 
   abbrev Nearer : State → State → Type 0
   Nearer s t = s .at .due - s .at .passed < t .at .due - t .at .passed
@@ -187,9 +187,9 @@ module _ {M : Type 1} (𝓤 : URA M) (H : Heap 𝓤) (A : Atoms 𝓤) (W : Given
     over s e le =
         assigns ! (bin ! (of-field ! 14 refl tt) (of-field ! 14 refl tt) tt) (from ! (stop !)) (init ! 8 refl (tt, tt)) $
         rewrite ! 8 (λ (t : Bool). ‵ (fat fullShare (τ 5) l₅ 0 (vbool t))) e refl $ leaves-loop ! (of-local ! 8 refl) $ exec ! C Λ En mir′.t-4 (atRet En Post) $
-        assigns ! (of-opd ! (of-local ! 14 refl)) (from ! (stop !)) (init ! 18 refl (typed (s .at) (s .sound))) $
+        assigns ! (of-opd ! (of-local ! 14 refl)) (from ! (stop !)) (init ! 18 refl (typed (s .at) (s .is-lowered))) $
         returns ! (look ! 18 refl) $
-        free ! 2 (holds (Ck′.lowered (s .at)) ∷ holds v ∷ holds (Ck′.lowered (s .at)) ∷ empty ∷ holds (vint w64 n) ∷ holds (vbool false) ∷ []) refl $ by ! (exits (s .at) (s .sound) (all-checked ys (s .checks) le))
+        free ! 2 (holds (Ck′.lowered (s .at)) ∷ holds v ∷ holds (Ck′.lowered (s .at)) ∷ empty ∷ holds (vint w64 n) ∷ holds (vbool false) ∷ []) refl $ by ! (exits (s .at) (s .is-lowered) (all-checked ys (s .checks) le))
 
     -- the test holds: one card more is read, and checked
     more : (s : State) → ltb (s .at .passed) (s .at .due) ≡ true → s .at .passed < s .at .due → Sq W (At s) (runs C Λ En mir′.turn-1 (anyQ (Turned s)))
@@ -198,7 +198,7 @@ module _ {M : Type 1} (𝓤 : URA M) (H : Heap 𝓤) (A : Atoms 𝓤) (W : Given
         let few : s .at .passed < 128 = below less (s .checks .few) in
         let here : s .at .passed < n = below less (s .checks .within) in
         let c = getD ys (s .at .passed) none in
-        let fits = typed (s .at) (s .sound) .1 .1 .1 .0 in
+        let fits = typed (s .at) (s .is-lowered) .1 .1 .1 .0 in
         assigns ! (bin ! (of-field ! 14 refl tt) (of-field ! 14 refl tt) tt) (from ! (stop !)) (init ! 8 refl (tt, tt)) $
         rewrite ! 8 (λ (t : Bool). ‵ (fat fullShare (τ 5) l₅ 0 (vbool t))) e refl $ stays ! (of-local ! 8 refl) $
         assigns ! (of-opd ! (of-field ! 14 refl tt)) (from ! (stop !)) (init ! 12 refl (tt, fits)) $
@@ -213,12 +213,12 @@ module _ {M : Type 1} (𝓤 : URA M) (H : Heap 𝓤) (A : Atoms 𝓤) (W : Given
         assigns ! (of-opd ! (load ! (from ! (hop ! (look ! 8 refl) (stop !))) (look-raw ! 0 refl))) (from ! (stop !)) (init ! 6 refl (LL.lawful Cd.the-type Cd′.the-laws 𝓤 H A W .typed c _ is .0)) $
         elem-back ! Cd.the-row q″ ys (s .at .passed) none (Cd′.lowered c ∷ []) b o here $ shuts-slice ! tt Cd.the-row q″ ys b o $ move ! (1 ∷ []) $ drop ! $
         -- [the token; what the slice owns; _8; …; _0; …]
-        use0 W (raw (CheckNext 𝓤 H A mem run .pre (to-next (s .at) c))) (goes-next (s .at) c (s .sound) (less, s .checks .few, near ys (s .checks) less) is) $
+        use0 W (raw (CheckNext 𝓤 H A mem run .pre (to-next (s .at) c))) (goes-next (s .at) c (s .is-lowered) (less, s .checks .few, near ys (s .checks) less) is) $
         calls-at-last ! fm (CheckNext 𝓤 H A mem run) (known .goes) (to-next (s .at) c) (and-then ! (of-local ! 15 refl) (and-then ! (of-local ! 3 refl) (no-more !))) (λ w.
         use1 W (later (some (λ (r : Checking). (‵ ftrue ⊛ ‵ (Ck.the-row .own r (w ∷ []))) ⊛ raw (ensured 𝓤 H A check-next.ended (check-next.clauses 𝓤 H A mem run) tt (s .at, (c, tt)) tt r)))) (id⊢ 𝓤 _) $ await ! tt $ pick ! (λ r.
         split ! $ move ! (1 ∷ []) $ use1 W (raw (fact 𝓤 (r ≡ After 𝓤 H A mem run (s .at) c))) (next-said 𝓤 H A mem run (s .at) c r) $ heard ! (r ≡ After 𝓤 H A mem run (s .at) c) (λ d. split ! $ drop ! $
         peeks ! Ck.the-row (Is Ck.the-row) (shows 𝓤 H A Ck.the-row) r (w ∷ []) (λ isr.
-        let s′ : State = record { at = r; checks = subst (Checks ys) (sym d) (next ys (s .checks) less (from-on ys (s .at .passed) none here)); sound = subst (Is Ck.the-row r) (spelled r w isr) isr } in
+        let s′ : State = record { at = r; checks = subst (CardsChecked ys) (sym d) (next ys (s .checks) less (from-on ys (s .at .passed) none here)); is-lowered = subst (Is Ck.the-row r) (spelled r w isr) isr } in
         land-last ! (from ! (stop !)) (store ! 15 refl (LL.lawful Ck.the-type Ck′.the-laws 𝓤 H A W .typed r _ isr .0)) $ rewrite ! 15 (λ (u : Val). ‵ (fat fullShare (τ 2) l₂ 0 u)) (ap only (spelled r w isr)) refl $ drop ! $
         forget ! 12 refl $ forget ! 8 refl $ forget ! 6 refl $ forget ! 4 refl $ forget ! 2 refl $
         again ! Nearer At s s′ (subst (λ (t : Checking). t .due - t .passed < s .at .due - s .at .passed) (sym d) (fewer (s .at) c (checkCard (s .at .due) (s .at .passed + 1) c) less))))))))
@@ -245,7 +245,7 @@ module _ {M : Type 1} (𝓤 : URA M) (H : Heap 𝓤) (A : Atoms 𝓤) (W : Given
       use1 W (later (some (λ (r : Checking). (‵ ftrue ⊛ ‵ (Ck.the-row .own r (w ∷ []))) ⊛ raw (ensured 𝓤 H A start.ended (start.clauses 𝓤 H A mem run) tt (n, tt) tt r)))) (id⊢ 𝓤 _) $ await ! tt $ pick ! (λ r.
       split ! $ move ! (1 ∷ []) $ use1 W (raw (fact 𝓤 (r ≡ startChecking n))) (start-said 𝓤 H A mem run n r) $ heard ! (r ≡ startChecking n) (λ d. split ! $ drop ! $
       peeks ! Ck.the-row (Is Ck.the-row) (shows 𝓤 H A Ck.the-row) r (w ∷ []) (λ isr.
-      let s : State = record { at = r; checks = subst (Checks ys) (sym d) (starts ys); sound = subst (Is Ck.the-row r) (spelled r w isr) isr } in
+      let s : State = record { at = r; checks = subst (CardsChecked ys) (sym d) (starts ys); is-lowered = subst (Is Ck.the-row r) (spelled r w isr) isr } in
       land ! (from ! (stop !)) (init ! 15 refl (LL.lawful Ck.the-type Ck′.the-laws 𝓤 H A W .typed r _ isr .0)) $ rewrite ! 15 (λ (u : Val). ‵ (fat fullShare (τ 2) l₂ 0 u)) (ap only (spelled r w isr)) refl $ drop ! $
       first ! $ blocks ! $ loops ! 𝓣 Nearer Nearer-wf (At 𝓣 known l₀ l₁ l₂ l₃ l₄ l₅ l₆ l₇ l₈) (turns 𝓣 known l₀ l₁ l₂ l₃ l₄ l₅ l₆ l₇ l₈) s)))))))))))))
 

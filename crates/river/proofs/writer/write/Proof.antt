@@ -1,4 +1,4 @@
--- `river::writer::write` meets its contract: a walk of its MIR, by hand. The lent cards are checked (`check_all`), the header is put (`head`), and in a loop each lent card is read and handed by value to `put_next` with the buffer. All that the proof knows of the functions that are called is that each meets its contract.
+-- `river::writer::write` meets its contract: a walk of its MIR, by hand. The lent cards are checked (`check_all`), the header is put (`put_start`), and in a loop each lent card is read and handed by value to `put_next` with the buffer. All that the proof knows of the functions that are called is that each meets its contract.
 -- What the loop carries is what is put so far, as facts (`Puts`). The lent slice is Copy: of a copy of what it owns one card is looked at and put back. For each call the buffer is lent again, for a lifetime of that call, and comes back (`Again.antt`).
 -- Assumes nothing.
 use mathlib.Core.Path.{_≡_, refl, sym, ap, subst, _∙_}
@@ -45,7 +45,7 @@ use denote.Triple.Walked.{says, Stays, stay-none-slice, stay-slice, walkOf, goes
 use denote.Exit.{yes}
 use denote.Triple.Clauses.{ensured, lasts}
 use Rattle.river.specs.Write.{Writes}
-use Rattle.river.specs.Writer.{ChecksAll, Heads, PutsNext}
+use Rattle.river.specs.Writer.{ChecksAll, PutsStart, PutsNext}
 use Rattle.river.specs.declared.card.Card.{Card}
 use Rattle.river.specs.declared.write.Written.{Written}
 use Rattle.river.specs.declared.writer.Checking.{Checking}
@@ -65,10 +65,10 @@ use Rattle.river.proofs.writer.check_all as check-all
 use Rattle.river.proofs.writer.check_all.Symbol as check-all-def
 use Rattle.river.proofs.writer.check_all.Symbol.{name as #river·check-all}
 use Rattle.river.proofs.writer.check_all.Met as check-all-thm
-use Rattle.river.proofs.writer.head as head
-use Rattle.river.proofs.writer.head.Symbol as head-def
-use Rattle.river.proofs.writer.head.Symbol.{name as #river·head}
-use Rattle.river.proofs.writer.head.Met as head-thm
+use Rattle.river.proofs.writer.put_start as put-start
+use Rattle.river.proofs.writer.put_start.Symbol as put-start-def
+use Rattle.river.proofs.writer.put_start.Symbol.{name as #river·put-start}
+use Rattle.river.proofs.writer.put_start.Met as put-start-thm
 use Rattle.river.proofs.writer.put_next as put-next
 use Rattle.river.proofs.writer.put_next.Symbol as put-next-def
 use Rattle.river.proofs.writer.put_next.Symbol.{name as #river·put-next}
@@ -96,8 +96,8 @@ module _ {M : Type 1} (𝓤 : URA M) (H : Heap 𝓤) (A : Atoms 𝓤) (mem : Mem
   abbrev CheckAll : Contract 𝓤
   CheckAll = tripleOf 𝓤 H A check-all.signature (check-all.spec 𝓤 H A mem run)
 
-  abbrev Head : Contract 𝓤
-  Head = tripleOf 𝓤 H A head.signature (head.spec 𝓤 H A mem run)
+  abbrev PutStart : Contract 𝓤
+  PutStart = tripleOf 𝓤 H A put-start.signature (put-start.spec 𝓤 H A mem run)
 
   abbrev PutNext : Contract 𝓤
   PutNext = tripleOf 𝓤 H A put-next.signature (put-next.spec 𝓤 H A mem run)
@@ -108,7 +108,7 @@ module _ {M : Type 1} (𝓤 : URA M) (H : Heap 𝓤) (A : Atoms 𝓤) (mem : Mem
   -- each callee's contract, at its entry of the table of calls
   record Known (C : Calls 𝓤 H) : Type 2 where
     checks : Triple 𝓤 (C #river·check-all) CheckAll
-    heads : Triple 𝓤 (C #river·head) Head
+    starts : Triple 𝓤 (C #river·put-start) PutStart
     puts : Triple 𝓤 (C #river·put-next) PutNext
     answers : Triple 𝓤 (C #river·answer) Answer
 
@@ -158,13 +158,13 @@ module _ {M : Type 1} (𝓤 : URA M) (H : Heap 𝓤) (A : Atoms 𝓤) (W : Given
   Post = walkOf 𝓤 H A write.ended stayed (write.clauses 𝓤 H A mem run) .post (((κ, (κ′, tt)), (q, (q′, tt)), tt, a, vals), tt)
 
   -- what is put, at its machine value
-  abbrev Sound : Putting → Type 0
-  Sound p = Is Pt.the-row p (Pt′.lowered p ∷ [])
+  abbrev IsLowered : Putting → Type 0
+  IsLowered p = Is Pt.the-row p (Pt′.lowered p ∷ [])
 
   spelled : (p : Putting) (w : Val) → Is Pt.the-row p (w ∷ []) → w ∷ [] ≡ Pt′.lowered p ∷ []
   spelled p w is = Pt′.lowers .val-is p (w ∷ []) is
 
-  typed : (p : Putting) → Sound p → Holds (hasTy Pt′.mir (Pt′.lowered p)) × WT (Pt′.lowered p)
+  typed : (p : Putting) → IsLowered p → Holds (hasTy Pt′.mir (Pt′.lowered p)) × WT (Pt′.lowered p)
   typed p ok = LL.lawful Pt.the-type Pt′.the-laws 𝓤 H A W .typed p _ ok .0
 
   -- ---- what each call is passed, and what it asks
@@ -180,19 +180,19 @@ module _ {M : Type 1} (𝓤 : URA M) (H : Heap 𝓤) (A : Atoms 𝓤) (W : Given
   check-said : (s : Checking) → ent 𝓤 (ensured 𝓤 H A check-all.ended (check-all.clauses 𝓤 H A mem run) (κ, tt) (x, tt) tt s) (fact 𝓤 (ChecksAll ys s))
   check-said s = exE 𝓤 _ (λ ws. snd∗ 𝓤 (sem 𝓤 H A (lasts check-all.ended (κ, tt) (x, tt) ws)) (fact 𝓤 (ChecksAll ys s)))
 
-  abbrev to-head : ℕ → GName → List ℕ → Checking → Head 𝓤 H A mem run .Ghost
-  to-head ν δ l s = (((ν ∷ [], tt), (fullShare, tt), tt, (s, (y δ l, tt)), (Ck′.lowered s ∷ [], (v′ (length l) ∷ [], tt))), tt)
+  abbrev to-start : ℕ → GName → List ℕ → Checking → PutStart 𝓤 H A mem run .Ghost
+  to-start ν δ l s = (((ν ∷ [], tt), (fullShare, tt), tt, (s, (y δ l, tt)), (Ck′.lowered s ∷ [], (v′ (length l) ∷ [], tt))), tt)
 
-  goes-head : (ν : ℕ) (δ : GName) (l : List ℕ) (s : Checking) → Is Ck.the-row s (Ck′.lowered s ∷ []) → (s .due ≤ 128) × (headerBytes ≤ s .length)
-      → ent 𝓤 (⋆ 𝓤 H A (‵ (flft (ν ∷ []) fullShare) ∷ ‵ (Lent ν δ l) ∷ [])) (Head 𝓤 H A mem run .pre (to-head ν δ l s))
-  goes-head ν δ l s ok pre =
+  goes-start : (ν : ℕ) (δ : GName) (l : List ℕ) (s : Checking) → Is Ck.the-row s (Ck′.lowered s ∷ []) → (s .due ≤ 128) × (headerBytes ≤ s .length)
+      → ent 𝓤 (⋆ 𝓤 H A (‵ (flft (ν ∷ []) fullShare) ∷ ‵ (Lent ν δ l) ∷ [])) (PutStart 𝓤 H A mem run .pre (to-start ν δ l s))
+  goes-start ν δ l s ok pre =
       qed W (‵ (flft (ν ∷ []) fullShare) ∷ ‵ (Lent ν δ l) ∷ []) ∵ says ! pre $ nothing ! $ move ! (1 ∷ 0 ∷ []) $ join ! $ frame ! $ nothing ! $ move ! (1 ∷ 0 ∷ []) $ fjoin ! $
       owned ! Ck.the-row (Is Ck.the-row) (LL.makes Ck.the-type Ck′.the-plain 𝓤 H A) s (Ck′.lowered s ∷ []) ok $ fjoin ! $ done !
 
   abbrev to-put : ℕ → GName → List ℕ → Putting → Card → PutNext 𝓤 H A mem run .Ghost
   to-put ν δ l p c = (((ν ∷ [], tt), (fullShare, tt), tt, (p, (c, (y δ l, tt))), (Pt′.lowered p ∷ [], (Cd′.lowered c ∷ [], (v′ (length l) ∷ [], tt)))), tt)
 
-  goes-put : (ν : ℕ) (δ : GName) (l : List ℕ) (p : Putting) (c : Card) → Sound p → Is Cd.the-row c (Cd′.lowered c ∷ []) → (p .put < p .due) × (p .next + sizeOf c ≤ length l)
+  goes-put : (ν : ℕ) (δ : GName) (l : List ℕ) (p : Putting) (c : Card) → IsLowered p → Is Cd.the-row c (Cd′.lowered c ∷ []) → (p .put < p .due) × (p .next + sizeOf c ≤ length l)
       → ent 𝓤 (⋆ 𝓤 H A (‵ (flft (ν ∷ []) fullShare) ∷ ‵ (Lent ν δ l) ∷ [])) (PutNext 𝓤 H A mem run .pre (to-put ν δ l p c))
   goes-put ν δ l p c ok is pre =
       qed W (‵ (flft (ν ∷ []) fullShare) ∷ ‵ (Lent ν δ l) ∷ []) ∵ says ! pre $ nothing ! $ move ! (1 ∷ 0 ∷ []) $ join ! $ frame ! $ nothing ! $ move ! (1 ∷ 0 ∷ []) $ fjoin ! $
@@ -202,7 +202,7 @@ module _ {M : Type 1} (𝓤 : URA M) (H : Heap 𝓤) (A : Atoms 𝓤) (W : Given
   abbrev to-answer : Putting → Answer 𝓤 H A mem run .Ghost
   to-answer p = ((tt, tt, tt, (p, tt), (Pt′.lowered p ∷ [], tt)), tt)
 
-  goes-answer : (p : Putting) → Sound p → ent 𝓤 (emp 𝓤) (Answer 𝓤 H A mem run .pre (to-answer p))
+  goes-answer : (p : Putting) → IsLowered p → ent 𝓤 (emp 𝓤) (Answer 𝓤 H A mem run .pre (to-answer p))
   goes-answer p ok = qed W [] ∵ nothing ! $ owned ! Pt.the-row (Is Pt.the-row) (LL.makes Pt.the-type Pt′.the-plain 𝓤 H A) p (Pt′.lowered p ∷ []) ok $ fjoin ! $ nothing ! $ join ! $ frame ! $ done !
 
   exits : (r : Written) (w : Val) (l : List ℕ) → Writes n ys zs r l → length l ≡ length zs
@@ -221,7 +221,7 @@ module _ {M : Type 1} (𝓤 : URA M) (H : Heap 𝓤) (A : Atoms 𝓤) (W : Given
     buffer : List ℕ
     puts : Puts ys zs at buffer
     same : length buffer ≡ length zs
-    sound : Sound at
+    is-lowered : IsLowered at
 
   abbrev Nearer : State → State → Type 0
   Nearer s t = s .at .due - s .at .put < t .at .due - t .at .put
@@ -260,7 +260,7 @@ module _ {M : Type 1} (𝓤 : URA M) (H : Heap 𝓤) (A : Atoms 𝓤) (W : Given
     over s e le =
         assigns ! (bin ! (of-field ! 24 refl tt) (of-field ! 24 refl tt) tt) (from ! (stop !)) (init ! 14 refl (tt, tt)) $
         rewrite ! 14 (λ (t : Bool). ‵ (fat fullShare (τ 8) l₈ 0 (vbool t))) e refl $ leaves-loop ! (of-local ! 14 refl) $ exec ! C Λ En mir′.t-6 (atRet En Post) $
-        use0 W (raw (Answer 𝓤 H A mem run .pre (to-answer (s .at)))) (goes-answer (s .at) (s .sound)) $
+        use0 W (raw (Answer 𝓤 H A mem run .pre (to-answer (s .at)))) (goes-answer (s .at) (s .is-lowered)) $
         calls-at ! fm (Answer 𝓤 H A mem run) (known .answers) (to-answer (s .at)) (and-then ! (of-local ! 25 refl) (no-more !)) (λ w.
         use1 W (later (some (λ (r : Written). (‵ ftrue ⊛ ‵ (Wr.the-row .own r (w ∷ []))) ⊛ raw (ensured 𝓤 H A answer.ended (answer.clauses 𝓤 H A mem run) tt (s .at, tt) tt r)))) (id⊢ 𝓤 _) $ await ! tt $ pick ! (λ r.
         split ! $ move ! (1 ∷ []) $ use1 W (raw (fact 𝓤 (r ≡ s .at .answer))) (answer-said 𝓤 H A mem run (s .at) r) $ heard ! (r ≡ s .at .answer) (λ d. split ! $ drop ! $
@@ -278,7 +278,7 @@ module _ {M : Type 1} (𝓤 : URA M) (H : Heap 𝓤) (A : Atoms 𝓤) (W : Given
         let c = getD ys (s .at .put) none in
         let l = s .buffer in
         let on = from-on ys (s .at .put) none here in
-        let fits = typed (s .at) (s .sound) .1 .1 .1 .0 in
+        let fits = typed (s .at) (s .is-lowered) .1 .1 .1 .0 in
         assigns ! (bin ! (of-field ! 24 refl tt) (of-field ! 24 refl tt) tt) (from ! (stop !)) (init ! 14 refl (tt, tt)) $
         rewrite ! 14 (λ (t : Bool). ‵ (fat fullShare (τ 8) l₈ 0 (vbool t))) e refl $ stays ! (of-local ! 14 refl) $
         assigns ! (of-opd ! (of-field ! 24 refl tt)) (from ! (stop !)) (init ! 22 refl (tt, fits)) $
@@ -299,7 +299,7 @@ module _ {M : Type 1} (𝓤 : URA M) (H : Heap 𝓤) (A : Atoms 𝓤) (W : Given
         -- the buffer is lent again for a lifetime ν of the call
         lft-new ! tt (λ ν. move ! (4 ∷ 2 ∷ []) $
         use2 W (later (some (λ (δ : GName). ‵ (Lent ν δ l) ⊛ ‵ (Kept ν δ l)))) (lends-again u8 κ′ (ν ∷ []) q′ γ′ b′ o′ 𝓤 H A W (named 1) (named 0) l) $ await ! tt $ pick ! (λ δ. split ! $
-        move ! (2 ∷ 0 ∷ []) $ use2 W (raw (PutNext 𝓤 H A mem run .pre (to-put ν δ l (s .at) c))) (goes-put ν δ l (s .at) c (s .sound) is (less, room ys zs (s .puts) less on)) $
+        move ! (2 ∷ 0 ∷ []) $ use2 W (raw (PutNext 𝓤 H A mem run .pre (to-put ν δ l (s .at) c))) (goes-put ν δ l (s .at) c (s .is-lowered) is (less, room ys zs (s .puts) less on)) $
         -- [what the callee asks; what is kept of the buffer; the token; what the slice owns; _13; …; _0; …]
         calls-at-last ! fm (PutNext 𝓤 H A mem run) (known .puts) (to-put ν δ l (s .at) c) (and-then ! (of-local ! 24 refl) (and-then ! (of-local ! 8 refl) (and-then ! (of-local ! 4 refl) (no-more !)))) (λ w.
         use1 W (later (some (λ (r : Putting). ((‵ (flft (ν ∷ []) fullShare) ⊛ ‵ ftrue) ⊛ ‵ (Pt.the-row .own r (w ∷ []))) ⊛ raw (ensured 𝓤 H A put-next.ended (put-next.clauses 𝓤 H A mem run) (ν ∷ [], tt) (s .at, (c, (y δ l, tt))) tt r)))) (id⊢ 𝓤 _) $ await ! tt $ pick ! (λ r.
@@ -307,7 +307,7 @@ module _ {M : Type 1} (𝓤 : URA M) (H : Heap 𝓤) (A : Atoms 𝓤) (W : Given
         split ! $ move ! (1 ∷ []) $ heard ! (PutsNext (s .at) c l r (us .1 .1 .0)) (λ d. fsplit ! $ drop ! $ fsplit ! $ drop ! $ fsplit ! $ fsplit ! $ move ! (1 ∷ []) $ feqL ! (λ long. move ! (1 ∷ []) $ drop ! $
         -- [the last list; the token of ν and the result; what is kept; the token; what the slice owns; _13; …; _0; …]
         move ! (1 ∷ []) $ split ! $ move ! (1 ∷ []) $ peeks ! Pt.the-row (Is Pt.the-row) (shows 𝓤 H A Pt.the-row) r (w ∷ []) (λ isr.
-        let s′ : State = record { at = r; buffer = us .1 .1 .0; puts = one-more ys zs (s .puts) less on d long; same = long ∙ s .same; sound = subst (Is Pt.the-row r) (spelled r w isr) isr } in
+        let s′ : State = record { at = r; buffer = us .1 .1 .0; puts = one-more ys zs (s .puts) less on d long; same = long ∙ s .same; is-lowered = subst (Is Pt.the-row r) (spelled r w isr) isr } in
         -- the lifetime is ended, and the buffer comes back at that list
         move ! (1 ∷ []) $ split ! $ lft-end ! tt $ move ! (0 ∷ 4 ∷ 3 ∷ []) $
         use3 W (later (‵ (OwnO (us .1 .1 .0) (length l)) ⊛ ‵ (flft κ′ q′))) (comes-back u8 κ′ (ν ∷ []) q′ γ′ b′ o′ 𝓤 H A W (named 1) (named 0) l δ (us .1 .1 .0) (subst (Room u8) (sym (s .same)) room′) long) $ await ! tt $ split ! $
@@ -348,15 +348,15 @@ module _ {M : Type 1} (𝓤 : URA M) (H : Heap 𝓤) (A : Atoms 𝓤) (W : Given
       -- the buffer is lent again for a lifetime ν of the call
       lft-new ! tt (λ ν. move ! (3 ∷ 4 ∷ []) $
       use2 W (later (some (λ (δ : GName). ‵ (Lent ν δ zs) ⊛ ‵ (Kept ν δ zs)))) (lends-again u8 κ′ (ν ∷ []) q′ γ′ b′ o′ 𝓤 H A W (named 1) (named 0) zs) $ await ! tt $ pick ! (λ δ. split ! $
-      move ! (2 ∷ 0 ∷ []) $ use2 W (raw (Head 𝓤 H A mem run .pre (to-head ν δ zs s))) (goes-head ν δ zs s (subst (Is Ck.the-row s) sp is) (e .few, e .long)) $
+      move ! (2 ∷ 0 ∷ []) $ use2 W (raw (PutStart 𝓤 H A mem run .pre (to-start ν δ zs s))) (goes-start ν δ zs s (subst (Is Ck.the-row s) sp is) (e .few, e .long)) $
       -- [what the callee asks; what is kept of the buffer; the token; what the slice owns; _13; …; _0; …]
-      calls-at ! fm (Head 𝓤 H A mem run) (known .heads) (to-head ν δ zs s) (and-then ! (of-local ! 20 refl) (and-then ! (of-local ! 16 refl) (no-more !))) (λ w.
-      use1 W (later (some (λ (r : Putting). ((‵ (flft (ν ∷ []) fullShare) ⊛ ‵ ftrue) ⊛ ‵ (Pt.the-row .own r (w ∷ []))) ⊛ raw (ensured 𝓤 H A head.ended (head.clauses 𝓤 H A mem run) (ν ∷ [], tt) (s, (y δ zs, tt)) tt r)))) (id⊢ 𝓤 _) $ await ! tt $ pick ! (λ r.
-      split ! $ move ! (1 ∷ []) $ use1 W (some (λ (us : Unit {0} × (List ℕ × Unit {0})). ‵ (lasts head.ended (ν ∷ [], tt) (s, (y δ zs, tt)) us) ⊛ raw (fact 𝓤 (Heads s zs r (us .1 .0))))) (id⊢ 𝓤 _) $ pick ! (λ us.
-      split ! $ move ! (1 ∷ []) $ heard ! (Heads s zs r (us .1 .0)) (λ d. fsplit ! $ drop ! $ fsplit ! $ fsplit ! $ move ! (1 ∷ []) $ feqL ! (λ long. move ! (1 ∷ []) $ drop ! $
+      calls-at ! fm (PutStart 𝓤 H A mem run) (known .starts) (to-start ν δ zs s) (and-then ! (of-local ! 20 refl) (and-then ! (of-local ! 16 refl) (no-more !))) (λ w.
+      use1 W (later (some (λ (r : Putting). ((‵ (flft (ν ∷ []) fullShare) ⊛ ‵ ftrue) ⊛ ‵ (Pt.the-row .own r (w ∷ []))) ⊛ raw (ensured 𝓤 H A put-start.ended (put-start.clauses 𝓤 H A mem run) (ν ∷ [], tt) (s, (y δ zs, tt)) tt r)))) (id⊢ 𝓤 _) $ await ! tt $ pick ! (λ r.
+      split ! $ move ! (1 ∷ []) $ use1 W (some (λ (us : Unit {0} × (List ℕ × Unit {0})). ‵ (lasts put-start.ended (ν ∷ [], tt) (s, (y δ zs, tt)) us) ⊛ raw (fact 𝓤 (PutsStart s zs r (us .1 .0))))) (id⊢ 𝓤 _) $ pick ! (λ us.
+      split ! $ move ! (1 ∷ []) $ heard ! (PutsStart s zs r (us .1 .0)) (λ d. fsplit ! $ drop ! $ fsplit ! $ fsplit ! $ move ! (1 ∷ []) $ feqL ! (λ long. move ! (1 ∷ []) $ drop ! $
       -- [the last list; the token of ν and the result; what is kept; the token; what the slice owns; _13; …; _0; …]
       move ! (1 ∷ []) $ split ! $ move ! (1 ∷ []) $ peeks ! Pt.the-row (Is Pt.the-row) (shows 𝓤 H A Pt.the-row) r (w ∷ []) (λ isr.
-      let t : State = record { at = r; buffer = us .1 .0; puts = begins ys zs e d long; same = long; sound = subst (Is Pt.the-row r) (spelled r w isr) isr } in
+      let t : State = record { at = r; buffer = us .1 .0; puts = begins ys zs e d long; same = long; is-lowered = subst (Is Pt.the-row r) (spelled r w isr) isr } in
       -- the lifetime is ended, and the buffer comes back at that list
       move ! (1 ∷ []) $ split ! $ lft-end ! tt $ move ! (0 ∷ 4 ∷ 3 ∷ []) $
       use3 W (later (‵ (OwnO (us .1 .0) (length zs)) ⊛ ‵ (flft κ′ q′))) (comes-back u8 κ′ (ν ∷ []) q′ γ′ b′ o′ 𝓤 H A W (named 1) (named 0) zs δ (us .1 .0) room′ long) $ await ! tt $ split ! $
@@ -384,7 +384,7 @@ write-spec 𝓤 H 𝓜 𝓖 𝓡 =
     (write-meets 𝓤 H (𝓖 .A) (givenOf 𝓤 H 𝓜 𝓖) (𝓜 .mem) (𝓡 .run) (tablesOf 𝓤 H 𝓜 (tables 𝓤 H 𝓜 𝓡 code.env))
     (record {
       checks = cited 𝓤 H (CheckAll 𝓤 H (𝓖 .A) (𝓜 .mem) (𝓡 .run)) 𝓜 𝓡 code.env #river·check-all check-all-def.routine code.calls-river·writer·check-all (check-all-thm.met 𝓤 H 𝓜 𝓖 𝓡);
-      heads = cited 𝓤 H (Head 𝓤 H (𝓖 .A) (𝓜 .mem) (𝓡 .run)) 𝓜 𝓡 code.env #river·head head-def.routine code.calls-river·writer·head (head-thm.met 𝓤 H 𝓜 𝓖 𝓡);
+      starts = cited 𝓤 H (PutStart 𝓤 H (𝓖 .A) (𝓜 .mem) (𝓡 .run)) 𝓜 𝓡 code.env #river·put-start put-start-def.routine code.calls-river·writer·put-start (put-start-thm.met 𝓤 H 𝓜 𝓖 𝓡);
       puts = cited 𝓤 H (PutNext 𝓤 H (𝓖 .A) (𝓜 .mem) (𝓡 .run)) 𝓜 𝓡 code.env #river·put-next put-next-def.routine code.calls-river·writer·put-next (put-next-thm.met 𝓤 H 𝓜 𝓖 𝓡);
       answers = cited 𝓤 H (Answer 𝓤 H (𝓖 .A) (𝓜 .mem) (𝓡 .run)) 𝓜 𝓡 code.env #river·answer answer-def.routine code.calls-river·writer·answer (answer-thm.met 𝓤 H 𝓜 𝓖 𝓡);
     }))

@@ -1,4 +1,4 @@
--- `river::writer::head` meets its contract: nothing is put after a refusal or into a short buffer, else the header.
+-- `river::writer::put_start` meets its contract: nothing is put after a refusal or into a short buffer, else the header.
 -- Assumes nothing.
 use mathlib.Core.Path.{_≡_, refl, sym, ap, _∙_}
 use native.Mathlib.Omega.{arith}
@@ -7,8 +7,8 @@ use Rattle.river.specs.declared.write.Check.{Check}
 use Rattle.river.specs.declared.write.Written.{Written}
 use Rattle.river.proofs.Answers.{clash}
 use borrow.Author.Needs.{needs}
-use Rattle.river.proofs.writer.head.Statement.{statement}
-use Rattle.river.proofs.writer.head.Tie as tie
+use Rattle.river.proofs.writer.put_start.Statement.{statement}
+use Rattle.river.proofs.writer.put_start.Tie as tie
 
 not-both : {P : Type 0} {k : Check} {r : Refusal} → k ≡ Check.Passed → k ≡ Check.Refused r → P
 not-both e f = clash (cc)
@@ -45,8 +45,8 @@ returns-3 c =
       begins = λ e l. record { answer = refl; due = refl; header = c .before .before .put-header .ensures };
     }
 
-pub head-spec : {M : Type 1} → statement M
-head-spec =
+pub put-start-spec : {M : Type 1} → statement M
+put-start-spec =
     tie.close
     (tie.spec
     (λ enum-known-check. search needs)
