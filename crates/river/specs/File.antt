@@ -11,6 +11,7 @@ use Rattle.river.specs.Refusal.{Answer, outcomeOf}
 use Rattle.river.specs.Read.{readFile}
 use Rattle.river.specs.Write.{encode}
 
+-- the answer that a reading of the program stands for
 abbrev pub answerOf : Reading → Answer (List Card)
 answerOf r = outcomeOf (r .outcome) (river (r .cards))
 

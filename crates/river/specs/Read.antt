@@ -56,7 +56,7 @@ readReaches n i (suc m) s =
 unfoldable pub readFile : List ℕ → Answer (List Card)
 readFile s = after (readHeader s) (λ n. readReaches n 1 n (drop headerBytes s))
 
--- the answers of the program, case by case: the header's, a dam's, a reach's at a position, and the whole file's
+-- the answers of the program, case by case: the header's, a dam's, and a reach's at a position
 abbrev pub headerOf : Answer ℕ → Header
 headerOf (accepted n) = Header.Count n headerBytes
 headerOf (refused r) = Header.Refused r

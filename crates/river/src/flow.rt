@@ -66,6 +66,7 @@ pub(crate) fn feeder_sum<'a>(
     sum
 }
 
+// The larger of two depths.
 fn larger(a: u8, b: u8) -> u8
     ensures { λ r. ⌜ r ≡ max a b ⌝ }
 {

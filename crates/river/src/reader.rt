@@ -1,4 +1,5 @@
-// The reader: it holds the file and how far it has read. Thin functions over those that take slice and number.
+// The reader: it holds the file and how far it has read. A loop moves it on from reach to reach, and each reach is read by the functions that
+// take a slice and a position.
 ghost use mathlib.Core.Path.{_≡_};
 ghost use Prim.Native.Nat.{_<_, _≤_};
 ghost use lib.ListN.{drop};

@@ -1,4 +1,5 @@
-// The writer: it is lent the cards, one for each reach. Thin functions over those that take a card by value.
+// The writer: it is lent the cards, one for each reach. It goes through them once to check them and once to put their file, and hands each
+// card by value to the functions that check and put one.
 ghost use mathlib.Core.Path.{_≡_};
 ghost use Prim.Native.Nat.{_+_, _*_, _≤_, _<_};
 ghost use lib.ListN.{length, take};
@@ -47,7 +48,7 @@ fn stopped(r: Refusal) -> Checking
     }
 }
 
-// So many cards are due, or 3.
+// The start of checking: all n cards are due, or the count is out of range, which is refusal 3.
 fn start(n: usize) -> Checking
     ensures { λ s. ⌜ s ≡ startChecking n ⌝ }
 {
@@ -62,7 +63,7 @@ fn start(n: usize) -> Checking
     }
 }
 
-// One card more.
+// One card more is checked: it has passed, or its refusal is the answer and no card is due.
 fn check_next(s: Checking, c: Card) -> Checking
     requires { ⌜ (s .passed < s .due) × (s .due ≤ 128) × (s .length ≤ headerBytes + longestCard * s .passed) ⌝ }
     ensures { λ t. ⌜ t ≡ nextChecking (checkCard (s .due) (s .passed + 1) c) s c ⌝ }
@@ -117,7 +118,7 @@ fn put_start(s: Checking, out: &mut [u8]) -> Putting
     }
 }
 
-// One card more.
+// One card more is put, behind those that are put already.
 fn put_next(p: Putting, c: Card, out: &mut [u8]) -> Putting
     requires { ⌜ (p .put < p .due) × (p .next + sizeOf c ≤ length (now out)) ⌝ }
     ensures { λ r. ⌜ PutsNext p c (now (out .entry)) r (now (out .exit)) ⌝ }
@@ -142,7 +143,7 @@ fn answer(p: Putting) -> Written
     p.answer
 }
 
-// The lent cards, card after card.
+// The lent cards are checked, card after card.
 fn check_all(cards: &[Card]) -> Checking
     ensures { λ s. ⌜ ChecksAll (now (cards .entry)) s ⌝ }
 {
