@@ -1,6 +1,6 @@
 -- How the program stores oxygen: as its units plus 2^31, so that no stored number is below zero.
 use mathlib.Core.Path.{_≡_}
-use Prim.Native.Nat.{ℕ, _+_, _*_, _<_, _-_}
+use Prim.Native.Nat.{ℕ, suc, _+_, _*_, _≤_, _-_}
 use lib.IntN.{ℤ, subℕ, pos, negsuc}
 
 -- the number that stores zero, 2^31
@@ -22,9 +22,9 @@ oxygenSumOf Qu sum = subℕ sum (storedZero * Qu)
 -- the number that stores this oxygen
 unfoldable pub storedOf : ℤ → ℕ
 storedOf (pos n) = n + storedZero
-storedOf (negsuc n) = 2_147_483_647 - n
+storedOf (negsuc n) = storedZero - suc n
 
 -- a stored number stands for this oxygen, and fits in four bytes
 pub record Stores (stored : ℕ) (oxygen : ℤ) : Type 0 where
   pub is : oxygenOf stored ≡ oxygen
-  pub fits : stored < 4_294_967_296
+  pub fits : stored ≤ storedLimit

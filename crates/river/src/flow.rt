@@ -231,11 +231,8 @@ fn check_next(cards: Cards, flows: FlowTable, i: usize) -> Checked
 pub fn reach_count(cards: Cards) -> usize
     ensures { λ r. ⌜ r ≡ length (river cards) ⌝ }
 {
-    if 128 < cards.count {
-        128
-    } else {
-        cards.count as usize
-    }
+    let count = cards.count as usize;
+    if REACHES < count { REACHES } else { count }
 }
 
 // The tables of no reach.

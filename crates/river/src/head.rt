@@ -60,7 +60,7 @@ pub fn saturation_of(card: Card) -> u32
 // A long division goes on by 16 bits.
 const CHUNK: u32 = 65_536;
 
-const CHUNK_WIDE: u64 = 65_536;
+const CHUNK_WIDE: u64 = CHUNK as u64;
 
 // The floor of a * b / d by long division in two chunks of 16 bits of a.
 fn share_of(a: u32, b: u64, d: u64) -> u64

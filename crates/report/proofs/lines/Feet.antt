@@ -38,7 +38,7 @@ unfolding oxygenOf storedOf
 stored-back (pos n) h = sub-pos (n + storedZero) storedZero (omega arith) ∙ ap pos (omega arith)
 stored-back (negsuc n) h =
     let l : n ≤ 1_000_000_383 = leb→le _ _ (h .le) in
-    sub-neg (2_147_483_647 - n) storedZero (omega arith) ∙ ap negsuc (omega arith)
+    sub-neg (storedZero - suc n) storedZero (omega arith) ∙ ap negsuc (omega arith)
 
 pub stored-of : (n : ℕ) → storedOf (oxygenOf n) ≡ n
 unfolding oxygenOf storedOf

@@ -10,8 +10,8 @@ returns c = all-reaches (c .before .before .args .cards) (simp length-map at (c 
 
 returns-2 : tie.Need-returns-2
 returns-2 c =
-    let start = c .before .before .before in
-    count-reaches (start .args .cards) (simp length-map at (start .good .0 .1 .1 .0 .1 .0 .1)) (c .before .if1 .left)
+    let start = c .before .before in
+    count-reaches (start .args .cards) (simp length-map at (start .good .0 .1 .1 .0 .1 .0 .1)) (c .if1 .left)
 
 pub reach-count-spec : {M : Type 1} → statement M
-reach-count-spec = tie.close (tie.spec (λ cast-result. search needs) returns returns-2)
+reach-count-spec = tie.close (tie.spec (λ cast-count. search needs) returns returns-2)
