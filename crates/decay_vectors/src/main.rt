@@ -2,7 +2,6 @@
 // rates, no volume, the longest travel time that check 11 passes, the smallest and the largest flow.
 use decay::factors::Factors;
 use decay::step::Step;
-ghost use Prim.Native.Nat.{_≤_};
 ghost use Rattle.decay.specs.Step.{RatesPass};
 ghost use Rattle.decay.specs.Factors.{SoundStep, AreShares};
 

@@ -20,7 +20,7 @@ use Rattle.river.specs.Card.{Lawful, river, blank}
 use Rattle.river.specs.Refusal.{accepted, refused, outcomeOf}
 use Rattle.river.specs.Read.{readFile}
 use Rattle.river.specs.Write.{encode}
-use Rattle.river.specs.Flow.{above, feedersAmong, joinedIf, Flows, flowCheck}
+use Rattle.river.specs.Flow.{above, feedersAmong, joinedIf, flowCheck}
 use Rattle.river.specs.Accept.{Accepts, AcceptedFile, acceptFile}
 use Rattle.river.proofs.Answers.{no-refusal, after-accepted, after-refused, went}
 use Rattle.river.proofs.Files.{reads-lawful, reads-only-lawful}

@@ -7,7 +7,7 @@ use lib.ListN.{take, drop}
 use Rattle.river.specs.declared.card.Card.{Card}
 use Rattle.river.specs.declared.card.Dam.{Dam}
 use Rattle.river.specs.declared.card.Dam.the-variants.{Absent, Aerating}
-use Rattle.river.specs.Refusal.{accepted, refused, refuse, need, choose, after}
+use Rattle.river.specs.Refusal.{refused, refuse, need, choose, after}
 use Rattle.river.specs.Card.{countOk, inRange, outletOk, damInRange}
 use Rattle.river.specs.Optional.{readOptional, readOptionals, optionalsInRange}
 use Rattle.river.specs.Read.{readHeader, readReach, readReaches, readFile, cardAt}

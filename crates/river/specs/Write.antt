@@ -5,13 +5,12 @@ use Prim.Native.Nat.{ℕ, suc, _≤_, _<_}
 use lib.ListN.{length, drop}
 use lib.Dec.{leb}
 use Rattle.river.specs.declared.card.Card.{Card}
-use Rattle.river.specs.declared.refusal.Refusal.{Refusal}
 use Rattle.river.specs.declared.write.Check.{Check}
 use Rattle.river.specs.declared.write.Written.{Written}
 use Rattle.river.specs.Bytes.{twoBytes, fourBytes, markBytes}
 use Rattle.river.specs.Card.{Lawful, RV, RE, optional, optionalOf, countOk, inRange, outletOk}
 use Rattle.river.specs.Optional.{encodeOptionals, optionalsInRange}
-use Rattle.river.specs.Refusal.{Answer, accepted, refused, refuse, need, after}
+use Rattle.river.specs.Refusal.{Answer, accepted, refused, need, after}
 
 -- the `RE` record of a card
 abbrev pub encodeReach : Card → List ℕ

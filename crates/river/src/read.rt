@@ -4,7 +4,7 @@ ghost use Prim.Native.Nat.{_<_, _^_};
 ghost use lib.ListN.{drop};
 ghost use Rattle.river.specs.Card.{reachBytes, damRecord, optional};
 ghost use Rattle.river.specs.Optional.{readOptional, readOptionals};
-ghost use Rattle.river.specs.Refusal.{Answer, accepted, after};
+ghost use Rattle.river.specs.Refusal.{accepted, after};
 ghost use Rattle.river.specs.Read.{readHeader, headerOf, headerRefusal, cardAt, damOf, readReach, reachOf, reachRefusal};
 use crate::bytes::behind;
 use crate::bytes::byte_at;

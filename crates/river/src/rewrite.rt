@@ -1,5 +1,4 @@
 // A file that is read and written back, and cards that are written and read back.
-ghost use Prim.Native.Nat.{_≤_};
 ghost use lib.ListN.{length, take};
 ghost use Rattle.river.specs.Read.{readFile};
 ghost use Rattle.river.specs.Refusal.{after};

@@ -7,14 +7,12 @@ use mathlib.Core.List.{List, [], _∷_}
 use Prim.Native.Nat.{ℕ, zero, suc, _/_, _%_, _<_}
 use native.Mathlib.Omega.{arith}
 use lib.Dec.{lit<}
-use lib.ListN.{length, drop}
 use Rattle.river.specs.declared.card.Card.{Card}
 use Rattle.river.specs.Refusal.{Answer, accepted, refused, refuse, need, choose, after}
 use Rattle.river.specs.Optional.{Kind, readOptional, readOptionals}
 use Rattle.river.specs.Read.{readHeader, readReach, readReaches, readFile}
 use Rattle.river.specs.Flow.{reachChecks, checksFrom, flowCheck}
 use Rattle.report.specs.Report.{roomAnswer, reportAnswer, resultOf}
-use Rattle.river.specs.Card.{reachBytes, optional, sizeOf}
 use Rattle.river.specs.Accept.{acceptFile}
 use Rattle.river.specs.Rewrite.{rewriteAnswer}
 

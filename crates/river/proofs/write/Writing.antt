@@ -15,7 +15,7 @@ use Rattle.river.specs.declared.card.Card.{Card}
 use Rattle.river.specs.declared.refusal.Refusal.{Refusal}
 use Rattle.river.specs.declared.write.Check.{Check}
 use Rattle.river.specs.declared.write.Written.{Written}
-use Rattle.river.proofs.Answers.{need-true, need-false, after-accepted, after-refused}
+use Rattle.river.proofs.Answers.{need-true, need-false, after-accepted}
 use Rattle.river.proofs.write.Passes.{passed-check}
 use Rattle.river.proofs.bytes.Puts.{put-at-start}
 
