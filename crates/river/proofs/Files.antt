@@ -1,16 +1,16 @@
--- Reading yields cards exactly for the files of lawful cards; so each river has one file.
+-- Reading yields cards exactly for the files of lawful cards; so each river has one file, of at most so many bytes.
 -- Assumes nothing.
-use Prim.Native.Nat.{ℕ, zero, suc, _≤_}
+use Prim.Native.Nat.{ℕ, zero, suc, _*_, _≤_}
 use mathlib.Core.Logic.{_↔_}
 use mathlib.Core.Path.{_≡_, refl, ap, sym, subst, _∙_}
 use mathlib.Core.List.{List, [], _∷_, _++_}
 use mathlib.Core.Bool.{true}
 use native.Mathlib.Nat.{div-add-mod'}
 use native.Mathlib.Omega.{arith}
-use lib.ListN.{length, drop}
+use lib.ListN.{length, drop, length-append}
 use borrow.Author.Tests.{le-leb, leb-true, eqb-true}
 use Rattle.river.specs.Bytes.{AreBytes, twoAt}
-use Rattle.river.specs.Card.{Lawful, LawfulFrom, RV, optional, sizeOf}
+use Rattle.river.specs.Card.{Lawful, LawfulFrom, RV, optional, sizeOf, longestCard, longestFile}
 use Rattle.river.specs.File.{IsFile}
 use Rattle.river.specs.Read.{readHeader, readReaches, readFile}
 use Rattle.river.specs.Refusal.{accepted}
@@ -21,6 +21,7 @@ use Rattle.river.proofs.Answers.{need-true, after-accepted, passed, wen
 use Rattle.river.proofs.bytes.Numbers.{are-bytes-drop, true-marked, twoBytes-twoAt, leads-spelled}
 use Rattle.river.proofs.range.Ranges.{countOk-true, true-countOk}
 use Rattle.river.proofs.card.Optional.{unmarked}
+use Rattle.river.proofs.card.Rows.{length-encodeCard, size-small}
 use Rattle.river.proofs.read.Records.{readReach-encode, drop-encodeCard, readReach-is}
 
 -- Reading what was encoded.
@@ -146,3 +147,14 @@ one-river cs ds p q e =
 -- THEOREM: a dam makes another card than no dam, whatever its numbers
 pub dam-or-none : {share generating : ℕ} (c d : Card) → c .dam ≡ Absent → d .dam ≡ Aerating share generating → c ≡ d → ⊥
 dam-or-none c d p q e = let z : _≡_ {A = ℕ} 0 1 = cc (ap (λ (x : Card). x .dam) e) in omega arith
+
+-- each card's records are at most as long as the longest card's
+cards-length : (cs : List Card) → length (encodeCards cs) ≤ longestCard * length cs
+cards-length [] = omega arith
+cards-length (c ∷ cs) =
+    omega (arith, length-append (encodeCard c) (encodeCards cs), length-encodeCard c, size-small c, cards-length cs)
+
+-- THEOREM: the file of lawful cards is at most as long as the longest file
+pub file-length : (cs : List Card) → Lawful cs → length (encode cs) ≤ longestFile
+unfolding encode
+file-length cs h = omega (arith, cards-length cs, h .few)

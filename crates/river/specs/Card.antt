@@ -3,7 +3,7 @@ use mathlib.Core.Path.{_≡_}
 use mathlib.Core.Bool.{Bool, true, _&&_, cond}
 use mathlib.Core.List.{List, [], _∷_, _++_}
 use Prim.Native.Char.{code}
-use Prim.Native.Nat.{ℕ, suc, _+_, _≤_, _<_}
+use Prim.Native.Nat.{ℕ, suc, _+_, _*_, _≤_, _<_}
 use lib.ListN.{length, take}
 use lib.Dec.{leb, ltb, eqb}
 use Rattle.river.specs.declared.card.Card.{Card}
@@ -143,3 +143,7 @@ sizeOf c = reachBytes + length (encodeOptionals optional (optionalOf c))
 
 abbrev pub longestCard : ℕ
 longestCard = reachBytes + sizes optional
+
+-- the length of the longest file: the header, and 128 of the longest cards
+abbrev pub longestFile : ℕ
+longestFile = headerBytes + 128 * longestCard
