@@ -5,7 +5,7 @@ use Prim.Native.Nat.{ℕ, suc, _≤_, _<_}
 use lib.ListN.{length, drop}
 use lib.Dec.{leb}
 use Rattle.river.specs.declared.card.Card.{Card}
-use Rattle.river.specs.declared.write.Check.{Check}
+use Rattle.river.specs.declared.refusal.Outcome.{Outcome}
 use Rattle.river.specs.declared.write.Written.{Written}
 use Rattle.river.specs.Bytes.{twoBytes, fourBytes, markBytes}
 use Rattle.river.specs.Card.{Lawful, RV, RE, optional, optionalOf, countOk, inRange, outletOk}
@@ -64,9 +64,9 @@ bufferWritten (accepted l) cs before = encode cs ++ drop l before
 bufferWritten (refused r) cs before = before
 
 -- the answers of the program, case by case: a check's, and that of writing
-abbrev pub checkOf : Answer Unit → Check
-checkOf (accepted u) = Check.Passed
-checkOf (refused r) = Check.Refused r
+abbrev pub checkOf : Answer Unit → Outcome
+checkOf (accepted u) = Outcome.Accepted
+checkOf (refused r) = Outcome.Refused r
 
 abbrev pub writtenOf : Written → Answer ℕ
 writtenOf (Written.Length l) = accepted l

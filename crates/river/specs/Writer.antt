@@ -5,7 +5,7 @@ use Prim.Native.Nat.{ℕ, _+_, _≤_, _<_}
 use lib.ListN.{length}
 use Rattle.river.specs.declared.card.Card.{Card}
 use Rattle.river.specs.declared.refusal.Refusal.{Refusal}
-use Rattle.river.specs.declared.write.Check.{Check}
+use Rattle.river.specs.declared.refusal.Outcome.{Outcome}
 use Rattle.river.specs.declared.write.Written.{Written}
 use Rattle.river.specs.declared.writer.Checking.{Checking}
 use Rattle.river.specs.declared.writer.Putting.{Putting}
@@ -16,16 +16,16 @@ use Rattle.river.specs.Write.{encode, encodeCard, encodeHeader, checkFro
 
 -- a refusal, after which no card is due
 abbrev pub stoppedAt : Refusal → Checking
-stoppedAt r = record { check = Check.Refused r; due = 0; passed = 0; length = headerBytes }
+stoppedAt r = record { check = Outcome.Refused r; due = 0; passed = 0; length = headerBytes }
 
 -- a card that is checked: one more has passed, or a refusal
 abbrev pub nextChecking : Answer Unit → Checking → Card → Checking
-nextChecking (accepted u) s c = record { check = Check.Passed; due = s .due; passed = s .passed + 1; length = s .length + sizeOf c }
+nextChecking (accepted u) s c = record { check = Outcome.Accepted; due = s .due; passed = s .passed + 1; length = s .length + sizeOf c }
 nextChecking (refused r) s c = stoppedAt r
 
 -- the start of checking n cards: 3 for a count out of range
 abbrev pub startFrom : Answer Unit → ℕ → Checking
-startFrom (accepted u) n = record { check = Check.Passed; due = n; passed = 0; length = headerBytes }
+startFrom (accepted u) n = record { check = Outcome.Accepted; due = n; passed = 0; length = headerBytes }
 startFrom (refused r) n = stoppedAt r
 
 abbrev pub startChecking : ℕ → Checking
@@ -36,8 +36,8 @@ pub record ChecksAll (cs : List Card) (s : Checking) : Type 0 where
   pub check : s .check ≡ checkOf (need (countOk (length cs)) 3 0 (checkFrom (length cs) 1 cs))
   pub few : s .due ≤ 128
   pub long : headerBytes ≤ s .length
-  pub due : s .check ≡ Check.Passed → s .due ≡ length cs
-  pub size : s .check ≡ Check.Passed → s .length ≡ length (encode cs)
+  pub due : s .check ≡ Outcome.Accepted → s .due ≡ length cs
+  pub size : s .check ≡ Outcome.Accepted → s .length ≡ length (encode cs)
 
 -- the start of putting: nothing after a refusal, 12 where the buffer is short, else the header
 pub record Unput (p : Putting) (r : Refusal) (before left : List ℕ) : Type 0 where
@@ -52,9 +52,9 @@ pub record HeaderPut (s : Checking) (before : List ℕ) (p : Putting) (left : Li
 
 pub record PutsStart (s : Checking) (before : List ℕ) (p : Putting) (left : List ℕ) : Type 0 where
   pub none : p .put ≡ 0
-  pub stops : {r : Refusal} → s .check ≡ Check.Refused r → Unput p r before left
-  pub short : s .check ≡ Check.Passed → length before < s .length → Unput p (refuse 12 0) before left
-  pub begins : s .check ≡ Check.Passed → s .length ≤ length before → HeaderPut s before p left
+  pub stops : {r : Refusal} → s .check ≡ Outcome.Refused r → Unput p r before left
+  pub short : s .check ≡ Outcome.Accepted → length before < s .length → Unput p (refuse 12 0) before left
+  pub begins : s .check ≡ Outcome.Accepted → s .length ≤ length before → HeaderPut s before p left
 
 -- one card more is put
 pub record PutsNext (p : Putting) (c : Card) (buffer : List ℕ) (q : Putting) (left : List ℕ) : Type 0 where

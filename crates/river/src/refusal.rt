@@ -8,7 +8,7 @@ pub struct Refusal {
     pub reach: u8,
 }
 
-// The outcome of reading, and of the flow check.
+// The outcome of reading, of the check of cards that are to be written, and of the flow check.
 pub enum Outcome {
     Accepted,
     Refused(Refusal),

@@ -5,14 +5,9 @@ use crate::card::Card;
 use crate::range::in_range;
 use crate::range::optionals_in_range;
 use crate::range::outlet_ok;
+use crate::refusal::Outcome;
 use crate::refusal::Refusal;
 use crate::refusal::refuse;
-
-// Whether cards may be written.
-pub enum Check {
-    Passed,
-    Refused(Refusal),
-}
 
 // What writing answers: the file's length, or a refusal.
 pub enum Written {
@@ -21,17 +16,17 @@ pub enum Written {
 }
 
 // The card of reach i of n: refusals 4 and 5, then 4 for the records that follow its `RE` record.
-pub fn check_card(c: Card, n: u8, i: u8) -> Check
+pub fn check_card(c: Card, n: u8, i: u8) -> Outcome
     ensures { λ r. ⌜ r ≡ checkOf (checkCard n i c) ⌝ }
 {
     if !in_range(c) {
-        return Check::Refused(refuse(4, i));
+        return Outcome::Refused(refuse(4, i));
     }
     if !outlet_ok(n, i, c.outlet) {
-        return Check::Refused(refuse(5, i));
+        return Outcome::Refused(refuse(5, i));
     }
     if !optionals_in_range(c) {
-        return Check::Refused(refuse(4, i));
+        return Outcome::Refused(refuse(4, i));
     }
-    Check::Passed
+    Outcome::Accepted
 }

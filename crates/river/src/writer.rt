@@ -14,15 +14,15 @@ use crate::card::size_of;
 use crate::put::put_card;
 use crate::put::put_header;
 use crate::range::count_ok;
+use crate::refusal::Outcome;
 use crate::refusal::Refusal;
 use crate::refusal::refuse;
-use crate::write::Check;
 use crate::write::Written;
 use crate::write::check_card;
 
 // What checking the lent cards has come to: a refusal, or how many of those due have passed, and the length of their file.
 pub struct Checking {
-    pub check: Check,
+    pub check: Outcome,
     pub due: usize,
     pub passed: usize,
     pub length: usize,
@@ -41,7 +41,7 @@ fn stopped(r: Refusal) -> Checking
     ensures { λ s. ⌜ s ≡ stoppedAt r ⌝ }
 {
     Checking {
-        check: Check::Refused(r),
+        check: Outcome::Refused(r),
         due: 0,
         passed: 0,
         length: HEADER_BYTES,
@@ -56,7 +56,7 @@ fn start(n: usize) -> Checking
         return stopped(refuse(3, 0));
     }
     Checking {
-        check: Check::Passed,
+        check: Outcome::Accepted,
         due: n,
         passed: 0,
         length: HEADER_BYTES,
@@ -71,10 +71,10 @@ fn check_next(s: Checking, c: Card) -> Checking
     let due = s.due;
     let passed = s.passed;
     match check_card(c, due as u8, (passed + 1) as u8) {
-        Check::Refused(r) => stopped(r),
-        Check::Passed => {
+        Outcome::Refused(r) => stopped(r),
+        Outcome::Accepted => {
             Checking {
-                check: Check::Passed,
+                check: Outcome::Accepted,
                 due,
                 passed: passed + 1,
                 length: s.length + size_of(c),
@@ -92,13 +92,13 @@ fn put_start(s: Checking, out: &mut [u8]) -> Putting
     let due = s.due;
     let length = s.length;
     match check {
-        Check::Refused(r) => Putting {
+        Outcome::Refused(r) => Putting {
             answer: Written::Refused(r),
             due: 0,
             put: 0,
             next: 0,
         },
-        Check::Passed => {
+        Outcome::Accepted => {
             if out.len() < length {
                 return Putting {
                     answer: Written::Refused(refuse(12, 0)),

@@ -12,7 +12,7 @@ use Rattle.river.specs.Refusal.{Answer, accepted, refused}
 use Rattle.river.specs.Write.{encode, encodeCard, encodeCards, encodeHeader, checkCard, checkFrom, checkOf}
 use Rattle.river.specs.declared.card.Card.{Card}
 use Rattle.river.specs.declared.refusal.Refusal.{Refusal}
-use Rattle.river.specs.declared.write.Check.{Check}
+use Rattle.river.specs.declared.refusal.Outcome.{Outcome}
 use Rattle.river.proofs.Answers.{clash, after-accepted, after-refused}
 use Rattle.river.proofs.bytes.Puts.{chain}
 use Rattle.river.proofs.card.Rows.{length-encodeCard, size-small}
@@ -20,11 +20,11 @@ use Rattle.river.specs.Card.{headerBytes, longestCard, sizeOf}
 
 -- Checking.
 
-pub passed-check : (x : Answer Unit) → checkOf x ≡ Check.Passed → x ≡ accepted tt
+pub passed-check : (x : Answer Unit) → checkOf x ≡ Outcome.Accepted → x ≡ accepted tt
 passed-check (accepted u) e = refl
 passed-check (refused r) e = clash (cc)
 
-pub refused-check : (x : Answer Unit) {r : Refusal} → checkOf x ≡ Check.Refused r → x ≡ refused r
+pub refused-check : (x : Answer Unit) {r : Refusal} → checkOf x ≡ Outcome.Refused r → x ≡ refused r
 refused-check (accepted u) e = clash (cc)
 refused-check (refused r) e = cc
 
@@ -38,7 +38,7 @@ module _ (n : ℕ) (cs : List Card) where
   check-start = record { most = omega arith; rest = refl }
 
   module _ {i : ℕ} (p : FirstPassed n cs i) where
-    pub check-more : {c : Card} {a : Check} → i < n → drop i cs ≡ c ∷ drop (i + 1) cs → a ≡ checkOf (checkCard n (i + 1) c) → a ≡ Check.Passed
+    pub check-more : {c : Card} {a : Outcome} → i < n → drop i cs ≡ c ∷ drop (i + 1) cs → a ≡ checkOf (checkCard n (i + 1) c) → a ≡ Outcome.Accepted
         → FirstPassed n cs (i + 1)
     unfolding checkFrom
     check-more {c} less e f g =
@@ -51,8 +51,8 @@ module _ (n : ℕ) (cs : List Card) where
               ap (λ (k : ℕ). checkFrom n k (drop (i + 1) cs)) (sym (add-one (i + 1)));
         }
 
-    pub check-stop : {c : Card} {a : Check} {r : Refusal} → drop i cs ≡ c ∷ drop (i + 1) cs → a ≡ checkOf (checkCard n (i + 1) c)
-        → a ≡ Check.Refused r → a ≡ checkOf (checkFrom n 1 cs)
+    pub check-stop : {c : Card} {a : Outcome} {r : Refusal} → drop i cs ≡ c ∷ drop (i + 1) cs → a ≡ checkOf (checkCard n (i + 1) c)
+        → a ≡ Outcome.Refused r → a ≡ checkOf (checkFrom n 1 cs)
     unfolding checkFrom
     check-stop {c} {a} {r} e f g =
         let all : checkFrom n 1 cs ≡ refused r =
@@ -60,7 +60,7 @@ module _ (n : ℕ) (cs : List Card) where
         in
         g ∙ sym (ap checkOf all)
 
-    pub check-end : n ≤ i → length cs ≡ n → Check.Passed ≡ checkOf (checkFrom n 1 cs)
+    pub check-end : n ≤ i → length cs ≡ n → Outcome.Accepted ≡ checkOf (checkFrom n 1 cs)
     unfolding checkFrom
     check-end h l =
         let done : length cs ≤ i = omega arith in

@@ -13,7 +13,7 @@ use Rattle.river.specs.Refusal.{accepted, refused, refuse}
 use Rattle.river.specs.Write.{encode, checkFrom, checkOf, writeAnswer, bufferWritten, Writes}
 use Rattle.river.specs.declared.card.Card.{Card}
 use Rattle.river.specs.declared.refusal.Refusal.{Refusal}
-use Rattle.river.specs.declared.write.Check.{Check}
+use Rattle.river.specs.declared.refusal.Outcome.{Outcome}
 use Rattle.river.specs.declared.write.Written.{Written}
 use Rattle.river.proofs.Answers.{need-true, need-false, after-accepted}
 use Rattle.river.proofs.write.Passes.{passed-check}
@@ -29,8 +29,8 @@ module _ (n : ℕ) (cs : List Card) (before : List ℕ) where
   unfolding writeAnswer
   refuses-count p = refuses (sym (need-false _ _ _ _ p))
 
-  module _ {a : Check} (p : countOk n ≡ true) (e : a ≡ checkOf (checkFrom n 1 cs)) where
-    module _ {k : ℕ} (f : a ≡ Check.Passed) (size : k ≡ length (encode cs)) where
+  module _ {a : Outcome} (p : countOk n ≡ true) (e : a ≡ checkOf (checkFrom n 1 cs)) where
+    module _ {k : ℕ} (f : a ≡ Outcome.Accepted) (size : k ≡ length (encode cs)) where
       pub refuses-room : length before < k → Writes n cs before (Written.Refused (refuse 12 0)) before
       unfolding writeAnswer
       refuses-room h =

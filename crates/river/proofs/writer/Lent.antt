@@ -18,7 +18,7 @@ use Rattle.river.specs.Write.{encode, encodeHeader, checkCard, checkFrom
 use Rattle.river.specs.Writer.{startFrom, startChecking, nextChecking, ChecksAll, Unput, PutsStart, PutsNext}
 use Rattle.river.specs.declared.card.Card.{Card}
 use Rattle.river.specs.declared.refusal.Refusal.{Refusal}
-use Rattle.river.specs.declared.write.Check.{Check}
+use Rattle.river.specs.declared.refusal.Outcome.{Outcome}
 use Rattle.river.specs.declared.write.Written.{Written}
 use Rattle.river.specs.declared.writer.Checking.{Checking}
 use Rattle.river.specs.declared.writer.Putting.{Putting}
@@ -73,9 +73,9 @@ record Stopped (cs : List Card) (s : Checking) (r : Refusal) : Type 0 where
   due : s .due ≡ 0
   answer : checkAll cs ≡ refused r
 
-abbrev CheckedAs : Check → List Card → Checking → Type 0
-CheckedAs Check.Passed cs s = PassedSoFar cs s
-CheckedAs (Check.Refused r) cs s = Stopped cs s r
+abbrev CheckedAs : Outcome → List Card → Checking → Type 0
+CheckedAs Outcome.Accepted cs s = PassedSoFar cs s
+CheckedAs (Outcome.Refused r) cs s = Stopped cs s r
 
 -- the cards that are checked so far, and those still due
 pub record CardsChecked (cs : List Card) (s : Checking) : Type 0 where
@@ -85,7 +85,7 @@ pub record CardsChecked (cs : List Card) (s : Checking) : Type 0 where
   so-far : CheckedAs (s .check) cs s
 
 module _ (cs : List Card) where
-  halted : {r : Refusal} → checkAll cs ≡ refused r → CardsChecked cs (record { check = Check.Refused r; due = 0; passed = 0; length = headerBytes })
+  halted : {r : Refusal} → checkAll cs ≡ refused r → CardsChecked cs (record { check = Outcome.Refused r; due = 0; passed = 0; length = headerBytes })
   halted e = record { few = omega arith; within = omega arith; long = omega arith; so-far = record { due = refl; answer = e } }
 
   starts-as : (b : Bool) → countOk (length cs) ≡ b → CardsChecked cs (startChecking (length cs))
@@ -105,9 +105,9 @@ module _ (cs : List Card) where
 
   module _ {s : Checking} (g : CardsChecked cs s) where
     -- while a card is due no refusal is found
-    passing-as : (k : Check) → CheckedAs k cs s → s .passed < s .due → PassedSoFar cs s
-    passing-as Check.Passed p less = p
-    passing-as (Check.Refused r) p less = absurd (let z : ⊥ = omega (arith, p .due) in z)
+    passing-as : (k : Outcome) → CheckedAs k cs s → s .passed < s .due → PassedSoFar cs s
+    passing-as Outcome.Accepted p less = p
+    passing-as (Outcome.Refused r) p less = absurd (let z : ⊥ = omega (arith, p .due) in z)
 
     passing : s .passed < s .due → PassedSoFar cs s
     passing less = passing-as (s .check) (g .so-far) less
@@ -142,8 +142,8 @@ module _ (cs : List Card) where
         → CardsChecked cs (nextChecking (checkCard (s .due) (s .passed + 1) c) s c)
     next {c} less f = next-as (checkCard (s .due) (s .passed + 1) c) refl less f
 
-    all-as : (k : Check) → s .check ≡ k → CheckedAs k cs s → s .due ≤ s .passed → ChecksAll cs s
-    all-as Check.Passed e p done =
+    all-as : (k : Outcome) → s .check ≡ k → CheckedAs k cs s → s .due ≤ s .passed → ChecksAll cs s
+    all-as Outcome.Accepted e p done =
         record {
           check = e ∙ check-end (length cs) cs (p .checked) (omega (arith, p .due)) refl ∙ sym (ap checkOf (need-true _ _ _ _ (p .counted)));
           few = g .few;
@@ -151,7 +151,7 @@ module _ (cs : List Card) where
           due = λ _. p .due;
           size = λ _. measure-end cs (p .measured) (omega (arith, p .due));
         }
-    all-as (Check.Refused r) e p done =
+    all-as (Outcome.Refused r) e p done =
         record {
           check = e ∙ sym (ap checkOf (p .answer));
           few = g .few;
@@ -172,7 +172,7 @@ fewer s c (refused r) less = omega arith
 
 record Going (cs : List Card) (before : List ℕ) (p : Putting) (l : ℕ) (buffer : List ℕ) : Type 0 where
   counted : countOk (length cs) ≡ true
-  checked : Check.Passed ≡ checkOf (checkFrom (length cs) 1 cs)
+  checked : Outcome.Accepted ≡ checkOf (checkFrom (length cs) 1 cs)
   due : p .due ≡ length cs
   size : l ≡ length (encode cs)
   fits : l ≤ length before
@@ -209,21 +209,21 @@ module _ (cs : List Card) (before : List ℕ) where
       }
 
   module _ {s : Checking} {p : Putting} {left : List ℕ} (g : ChecksAll cs s) (h : PutsStart s before p left) (same : length left ≡ length before) where
-    passed-all : (b : Bool) → countOk (length cs) ≡ b → s .check ≡ Check.Passed → (countOk (length cs) ≡ true) × (Check.Passed ≡ checkOf (checkFrom (length cs) 1 cs))
+    passed-all : (b : Bool) → countOk (length cs) ≡ b → s .check ≡ Outcome.Accepted → (countOk (length cs) ≡ true) × (Outcome.Accepted ≡ checkOf (checkFrom (length cs) 1 cs))
     passed-all true e f = (e, sym f ∙ g .check ∙ ap checkOf (need-true _ _ _ _ e))
     passed-all false e f =
-        let z : Check.Passed ≡ Check.Refused (refuse 3 0) = sym f ∙ g .check ∙ ap checkOf (need-false _ _ _ _ e) in
+        let z : Outcome.Accepted ≡ Outcome.Refused (refuse 3 0) = sym f ∙ g .check ∙ ap checkOf (need-false _ _ _ _ e) in
         clash (cc)
 
-    begins-as : (k : Check) → s .check ≡ k → (length before < s .length) ⊎ (s .length ≤ length before) → Puts cs before p left
+    begins-as : (k : Outcome) → s .check ≡ k → (length before < s .length) ⊎ (s .length ≤ length before) → Puts cs before p left
     unfolding writeAnswer
-    begins-as (Check.Refused r) e f =
+    begins-as (Outcome.Refused r) e f =
         let is : checkAll cs ≡ refused r = refused-check (checkAll cs) (sym (g .check) ∙ e) in
         put-stops (h .stops e) (sym (need-after _ _ _ _ _ is))
-    begins-as Check.Passed e (inl less) =
+    begins-as Outcome.Accepted e (inl less) =
         let p = passed-all (countOk (length cs)) refl e in
         put-stops (h .short e less) (refuses-room (length cs) cs before (p .0) (p .1) refl (g .size e) less .answer)
-    begins-as Check.Passed e (inr room) =
+    begins-as Outcome.Accepted e (inr room) =
         let c = passed-all (countOk (length cs)) refl e in
         let b = h .begins e room in
         let d = b .due ∙ g .due e in

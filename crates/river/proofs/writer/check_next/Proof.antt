@@ -6,7 +6,7 @@ use native.Mathlib.Omega.{arith}
 use Rattle.river.specs.Refusal.{Answer}
 use Rattle.river.specs.Write.{checkCard}
 use Rattle.river.specs.Writer.{nextChecking}
-use Rattle.river.specs.declared.write.Check.{Check}
+use Rattle.river.specs.declared.refusal.Outcome.{Outcome}
 use Rattle.river.specs.declared.writer.Checking.{Checking}
 use Rattle.river.proofs.write.Passes.{passed-check, refused-check}
 use Rattle.river.proofs.card.Rows.{size-small}
@@ -15,7 +15,7 @@ use Rattle.river.proofs.writer.check_next.Statement.{statement}
 use Rattle.river.proofs.writer.check_next.Tie as tie
 
 abbrev made : Checking → ℕ → Checking
-made s k = record { check = Check.Passed; due = s .due; passed = s .passed + 1; length = s .length + k }
+made s k = record { check = Outcome.Accepted; due = s .due; passed = s .passed + 1; length = s .length + k }
 
 add-t14 : tie.Need-add-t14
 add-t14 c =

@@ -3,17 +3,17 @@
 use mathlib.Core.Path.{_≡_, refl, sym, ap, _∙_}
 use native.Mathlib.Omega.{arith}
 use Rattle.river.specs.declared.refusal.Refusal.{Refusal}
-use Rattle.river.specs.declared.write.Check.{Check}
+use Rattle.river.specs.declared.refusal.Outcome.{Outcome}
 use Rattle.river.specs.declared.write.Written.{Written}
 use Rattle.river.proofs.Answers.{clash}
 use borrow.Author.Needs.{needs}
 use Rattle.river.proofs.writer.put_start.Statement.{statement}
 use Rattle.river.proofs.writer.put_start.Tie as tie
 
-not-both : {P : Type 0} {k : Check} {r : Refusal} → k ≡ Check.Passed → k ≡ Check.Refused r → P
+not-both : {P : Type 0} {k : Outcome} {r : Refusal} → k ≡ Outcome.Accepted → k ≡ Outcome.Refused r → P
 not-both e f = clash (cc)
 
-same-refusal : {r x : Refusal} → Check.Refused r ≡ Check.Refused x → r ≡ x
+same-refusal : {r x : Refusal} → Outcome.Refused r ≡ Outcome.Refused x → r ≡ x
 same-refusal e = cc
 
 returns : tie.Need-returns
