@@ -66,22 +66,29 @@ static int is_all(const uint8_t *bytes, size_t length, uint8_t value)
     return 1;
 }
 
-/*
- * Wanted are the same bytes, with the rest of the buffer kept, or reading's refusal, which reporting gives
- * too, with nothing written.
- */
-static enum verdict rewrite(const struct river *river, uint32_t reported)
+/* Rewrites the file to a buffer of so many bytes: the result, and whether only the file's bytes were written, or nothing after a refusal. */
+static int rewritten(const struct river *river, size_t room, uint32_t *result)
 {
     static uint8_t out[XYLANDREO_MAX_FILE + 64];
     const uint8_t pattern = 0xa5;
     memset(out, pattern, sizeof out);
-    uint32_t result = xylandreo_rewrite(river->bytes, river->length, out, sizeof out);
-    size_t written = result == 0 ? river->length : 0;
-    if (!is_all(out + written, sizeof out - written, pattern) || memcmp(out, river->bytes, written))
+    *result = xylandreo_rewrite(river->bytes, river->length, out, room < sizeof out ? room : sizeof out);
+    size_t written = *result == 0 ? river->length : 0;
+    return is_all(out + written, sizeof out - written, pattern) && !memcmp(out, river->bytes, written);
+}
+
+/*
+ * Wanted are the same bytes, and 12 from a buffer one byte too short; or reading's refusal, which reporting
+ * gives too.
+ */
+static enum verdict rewrite(const struct river *river, uint32_t reported)
+{
+    uint32_t result, too_short;
+    if (!rewritten(river, SIZE_MAX, &result))
         return DIFFERS;
-    if (result == 0)
-        return SAME;
-    return result == reported ? NOTHING : DIFFERS;
+    if (result != 0)
+        return result == reported ? NOTHING : DIFFERS;
+    return rewritten(river, river->length - 1, &too_short) && too_short == 12 ? SAME : DIFFERS;
 }
 
 /* Whether NAME.report is what is printed now for NAME.river. One that cannot be read is not. */

@@ -29,6 +29,7 @@ use Rattle.report.specs.Ties.{Tied}
 use Rattle.report.specs.Lines.{Ready}
 use Rattle.report.proofs.Lowest.{lowest-first}
 use Rattle.report.proofs.Bounds.{Range}
+use Rattle.report.proofs.Orders.{reporting-order}
 use Rattle.report.proofs.River.{IsRiver, river-of-file, head-in-range, instant-in-range, reach-tied, reach-within-allowance}
 use Rattle.report.proofs.record.Encoding.{Writable, record-length, read-back}
 use Rattle.report.proofs.record.Rows.{Begins, stands}

@@ -8,6 +8,7 @@ pub mod Locality
 pub mod Accuracy
 pub mod Demand3
 pub mod River
+pub mod Orders
 pub mod Entry
 pub mod Reported
 pub mod Rewrite

@@ -6,16 +6,12 @@ use lib.ListN.{length, take}
 use lib.Seq.{take-at}
 use Rattle.river.specs.declared.card.Card.{Card}
 use Rattle.report.specs.Program.{figuresAt}
-use Rattle.report.specs.Record.{encodeRecord, recordSize, recordAt}
+use Rattle.report.specs.Record.{encodeRecord, recordSize}
 use Rattle.report.specs.Locality.{SameReach, Agree}
-use Rattle.report.specs.Report.{recordOf, Accepted, Reports}
+use Rattle.report.specs.Report.{recordOf, bytesRead, Accepted, Reports}
 use Rattle.report.proofs.record.Encoding.{record-length}
 use Rattle.report.proofs.Entry.{record-stands}
 use Rattle.report.proofs.Locality.{same-figures, agreed-reach}
-
--- the bytes of reach i + 1
-abbrev pub bytesRead : List Card → (buffer : List ℕ) → ℕ → List ℕ
-bytesRead cards buffer i = take (recordSize cards) (recordAt (recordSize cards) buffer i)
 
 module _ {file before after : List ℕ} {result : ℕ} (call : Reports file before after result) (river : Accepted file (length before)) (i : ℕ) (l : i < length (river .cards)) where
   -- the bytes of a reach

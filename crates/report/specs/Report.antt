@@ -4,7 +4,7 @@ use mathlib.Core.Logic.{_↔_}
 use mathlib.Core.List.{List, [], _++_}
 use Prim.Native.Nat.{ℕ, zero, suc, _*_, _/_, _%_, _≤_, _<_}
 use lib.Dec.{leb}
-use lib.ListN.{length, drop}
+use lib.ListN.{length, take, drop}
 use Rattle.river.specs.declared.card.Card.{Card}
 use Rattle.river.specs.Refusal.{Answer, accepted, refused, refuse, need, after, codeOf}
 use Rattle.river.specs.Flow.{cardOf, above, depthAt, flowAt}
@@ -57,6 +57,10 @@ pub record Accepted (file : List ℕ) (room : ℕ) : Type 0 where
 -- the figures read back from the bytes of reach i + 1
 abbrev pub figuresRead : List Card → (buffer : List ℕ) → ℕ → Figures
 figuresRead cards buffer i = readRecord (recordAt (recordSize cards) buffer i)
+
+-- the bytes of reach i + 1 themselves
+abbrev pub bytesRead : List Card → (buffer : List ℕ) → ℕ → List ℕ
+bytesRead cards buffer i = take (recordSize cards) (recordAt (recordSize cards) buffer i)
 
 -- a call on a file, with the report buffer before and after, that returns the result
 pub record Reports (file before after : List ℕ) (result : ℕ) : Type 0 where

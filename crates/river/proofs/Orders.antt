@@ -12,6 +12,7 @@ use Rattle.river.specs.Card.{countOk, inRange, outletOk, damInRange}
 use Rattle.river.specs.Optional.{readOptional, readOptionals, optionalsInRange}
 use Rattle.river.specs.Read.{readHeader, readReach, readReaches, readFile, cardAt}
 use Rattle.river.specs.Write.{encode, encodeCard, encodeHeader, checkCard, checkFrom, writeAnswer}
+use Rattle.river.specs.Rewrite.{rewriteAnswer}
 use Rattle.river.specs.Flow.{fed, flowOf, massOf, feedersAmong, joinedIf, damFits, flowCheck, checksFrom, reachChecks}
 
 -- a reach by the fields that break a rule
@@ -61,6 +62,8 @@ pub record Writing : Type 0 where
   pub range-and-outlet : writeAnswer 1 (reach 9 36 0 1 0 Absent ∷ []) 0 ≡ refused (refuse 4 1)
   pub outlet-and-dam : writeAnswer 1 (reach 9 20 0 1 0 weir-out ∷ []) 0 ≡ refused (refuse 5 1)
   pub dam-and-room : writeAnswer 1 (reach 0 20 0 1 0 weir-out ∷ []) 0 ≡ refused (refuse 4 1)
+  -- rewriting: a rule of reading, then 12
+  pub cut-and-room : rewriteAnswer (88 ∷ 86 ∷ 0 ∷ []) 0 ≡ refused (refuse 1 0)
 
 pub record Flowing : Type 0 where
   -- 7, 8, 9, 10, 11, each with the next rule that the same reach can break
@@ -68,7 +71,8 @@ pub record Flowing : Type 0 where
   pub flow-and-dam : flowCheck (reach 0 20 0 100_000_001 0 weir ∷ []) ≡ refused (refuse 8 1)
   pub dam-and-load : flowCheck (reach 0 20 0 1 1_001 weir ∷ []) ≡ refused (refuse 9 1)
   pub load-and-rate : flowCheck (reach 0 20 346 1 1_001 Absent ∷ []) ≡ refused (refuse 10 1)
-  pub rate : flowCheck (reach 0 20 346 1 0 Absent ∷ []) ≡ refused (refuse 11 1)
+  -- and 11 of a reach before 10 of the next
+  pub rate-and-next : flowCheck (reach 2 20 346 1 0 Absent ∷ reach 0 20 0 1 2_001 Absent ∷ []) ≡ refused (refuse 11 1)
 
 -- THEOREM: whoever breaks two rules of reading gets the earlier one's number
 pub reading-order : Reading
@@ -85,15 +89,16 @@ reading-order =
       dam-and-more = refl;
     }
 
--- THEOREM: the same for writing
+-- THEOREM: the same for writing and rewriting
 pub writing-order : Writing
-unfolding writeAnswer checkFrom checkCard encode countOk inRange outletOk damInRange optionalsInRange need after
+unfolding rewriteAnswer readFile readHeader writeAnswer checkFrom checkCard encode countOk inRange outletOk damInRange optionalsInRange need after
 writing-order =
     record {
       count-and-range = refl;
       range-and-outlet = refl;
       outlet-and-dam = refl;
       dam-and-room = refl;
+      cut-and-room = refl;
     }
 
 -- THEOREM: the same for the flow check
@@ -105,5 +110,5 @@ flow-order =
       flow-and-dam = refl;
       dam-and-load = refl;
       load-and-rate = refl;
-      rate = refl;
+      rate-and-next = refl;
     }

@@ -11,19 +11,6 @@ use Rattle.river.proofs.file.finish.Statement.{statement}
 use Rattle.river.specs.Refusal.{outcomeOf}
 use Rattle.river.proofs.file.finish.Tie as tie
 
-returns : tie.Need-returns
-returns c =
-    let long = c .before .before in
-    let told = long .before .before in
-    let start = told .before .before .before in
-    rw (too-long (now (start .args .file)) (start .pre .goes) (start .pre .none-due) (told .enum-told .given .1) (long .if1 .taken), ← c .before .refuse .ensures) (c .refused2 .ensures)
-
-returns-2 : tie.Need-returns-2
-returns-2 c =
-    let known = c .before .before in
-    let start = known .before .before .before in
-    rw (was-refused (now (start .args .file)) (start .pre .goes) (known .outcome .given .1)) (c .refused .ensures)
-
 returns-3 : tie.Need-returns-3
 returns-3 c =
     let end = c .before in
@@ -37,6 +24,19 @@ returns-3 c =
       few = start .pre .goes .few;
       none = λ f. no-refusal (sym is ∙ f);
     }
+
+returns : tie.Need-returns
+returns c =
+    let long = c .before .before in
+    let told = long .before .before in
+    let start = told .before .before .before in
+    rw (too-long (now (start .args .file)) (start .pre .goes) (start .pre .none-due) (told .enum-told .given .1) (long .if1 .taken), ← c .before .refuse .ensures) (c .refused2 .ensures)
+
+returns-2 : tie.Need-returns-2
+returns-2 c =
+    let known = c .before .before in
+    let start = known .before .before .before in
+    rw (was-refused (now (start .args .file)) (start .pre .goes) (known .outcome .given .1)) (c .refused .ensures)
 
 pub finish-spec : {M : Type 1} → statement M
 finish-spec = tie.close (tie.spec (λ enum-known-outcome. search needs) (λ refused-requires. search needs) (λ enum-told. search needs) (λ refuse-requires κs. search needs) (λ refused-requires-2 κs. search needs) returns returns-2 returns-3)

@@ -1,5 +1,7 @@
 -- `river::range::outlet_ok` meets its contract: each return follows from the comparisons before it.
 -- Assumes nothing.
+use native.Mathlib.Omega.{arith}
+use borrow.Author.Tests.{ne-eqb, le-ltb}
 use Rattle.river.specs.Card.{outletOk}
 use Rattle.river.proofs.Tests.{tests}
 use Rattle.river.proofs.range.outlet_ok.Statement.{statement}
@@ -11,7 +13,9 @@ returns c = search tests
 
 returns-2 : tie.Need-returns-2
 unfolding outletOk
-returns-2 c = search tests
+returns-2 c =
+    let a = c .before .before .args in
+    rw (ne-eqb _ _ (c .before .if1 .left), le-ltb (a .i) (a .outlet) (omega arith))
 
 returns-3 : tie.Need-returns-3
 unfolding outletOk

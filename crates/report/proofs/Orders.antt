@@ -1,0 +1,23 @@
+-- The order of refusals in reporting: a rule of reading or of the flow check, then the length of the buffer.
+-- Computed from the definitions, and named by the laws of the entry, so that these rows are checked first.
+use mathlib.Core.Path.{_≡_, refl}
+use mathlib.Core.List.{[], _∷_}
+use Rattle.river.specs.Refusal.{refused, refuse, need, choose, after}
+use Rattle.river.specs.Card.{blank, countOk, inRange, outletOk}
+use Rattle.river.specs.Optional.{readOptional, readOptionals}
+use Rattle.river.specs.Read.{readHeader, readReach, readReaches, readFile, cardAt}
+use Rattle.river.specs.Write.{encode}
+use Rattle.river.specs.Flow.{flowOf, massOf, feedersAmong, joinedIf, flowCheck, checksFrom, reachChecks}
+use Rattle.river.specs.Accept.{acceptFile}
+use Rattle.report.specs.Report.{reportAnswer, roomAnswer}
+
+pub record Reporting : Type 0 where
+  -- an empty file
+  pub file-and-room : reportAnswer [] 0 ≡ refused (refuse 1 0)
+  -- a reach without water
+  pub flow-and-room : reportAnswer (encode (blank ∷ [])) 0 ≡ refused (refuse 7 1)
+
+-- THEOREM: who breaks a rule of reading or of the flow check gets its number, not 12
+pub reporting-order : Reporting
+unfolding reportAnswer acceptFile readFile readHeader readReaches readReach readOptionals readOptional cardAt encode countOk inRange outletOk need after choose flowCheck checksFrom reachChecks flowOf massOf feedersAmong joinedIf
+reporting-order = record { file-and-room = refl; flow-and-room = refl }
