@@ -23,7 +23,7 @@ pub extern "C" fn xylandreo_report(file: &[u8], report: &mut [u8]) -> u32
             let cards = river.cards;
             let size = record::report_size(cards);
             if report.len() < size {
-                return 12;
+                return refusal::code(refusal::refuse(12, 0));
             }
             let flows = river.flows;
             lines::report_all(cards, flows, report);

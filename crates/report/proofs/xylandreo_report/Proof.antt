@@ -1,8 +1,9 @@
 -- `report::xylandreo_report` meets its contract, by the outcome of reading and flow check and by the length of the buffer.
 -- Assumes nothing.
-use mathlib.Core.Path.{refl}
+use mathlib.Core.Path.{ap, _∙_}
 use native.Mathlib.Omega.{arith}
 use Rattle.river.specs.Bytes.{AreBytes}
+use Rattle.river.specs.Refusal.{codeOf}
 use Rattle.report.proofs.Entry.{reports-refusal, reports-river, file-refused, file-short, file-held, file-ready}
 use borrow.Author.Needs.{needs}
 use Rattle.report.proofs.xylandreo_report.Statement.{statement}
@@ -18,10 +19,11 @@ are-bytes c = record { below = λ k. c .shared-slice-known .given k .fits }
 
 returns : tie.Need-returns
 returns c =
-    let a = c .before .before .before .before .before in
+    let t = c .before .before in
+    let a = t .before .before .before .before .before in
     reports-refusal (are-bytes (a .before .before))
-    (file-short (a .accept .ensures) _ (c .before .before .before .enum-told .given .1) (omega (arith, c .if1 .taken, c .before .report-size .ensures)))
-    refl
+    (file-short (a .accept .ensures) _ (t .before .before .before .enum-told .given .1) (omega (arith, t .if1 .taken, t .before .report-size .ensures)))
+    (c .code2 .ensures ∙ ap codeOf (c .before .refuse .ensures))
 
 report-all-requires : tie.Need-report-all-requires
 report-all-requires c κs =
@@ -52,6 +54,8 @@ xylandreo-report-spec =
     (λ code-requires. search needs)
     (λ enum-told. search needs)
     report-size-requires
+    (λ refuse-requires. search needs)
+    (λ code-requires-2. search needs)
     returns
     report-all-requires
     returns-2
