@@ -1,12 +1,13 @@
 -- The `RP` record of a reach: its figures as bytes, its size, and the figures read back from bytes.
 use mathlib.Core.Bool.{cond}
 use mathlib.Core.List.{List, _∷_, _++_}
+use Prim.Native.Char.{code}
 use Prim.Native.Nat.{ℕ, _*_, _-_}
 use lib.Dec.{ltb}
 use lib.IntN.{ℤ, pos, negsuc}
 use lib.ListN.{drop}
 use Rattle.river.specs.declared.card.Card.{Card}
-use Rattle.river.specs.Bytes.{twoBytes, fourBytes, byteAt, twoAt, fourAt}
+use Rattle.river.specs.Bytes.{Mark, mark, markBytes, twoBytes, fourBytes, byteAt, twoAt, fourAt}
 use Rattle.river.specs.Stored.{oxygenOf}
 use Rattle.report.specs.declared.record.Line.{Line}
 
@@ -43,11 +44,14 @@ complement (negsuc n) = 4_294_967_295 - n
 unfoldable pub fromComplement : ℕ → ℤ
 fromComplement n = cond (ltb n 2_147_483_648) (pos n) (negsuc (4_294_967_295 - n))
 
+-- the mark of an `RP` record
+abbrev pub RP : Mark
+RP = mark (code "R") (code "P")
+
 -- the bytes of a reach's record: mark; depth; Q; head BOD; foot BOD; head oxygen; critical instant; critical oxygen; foot oxygen
 unfoldable pub encodeRecord : Figures → List ℕ
 encodeRecord f =
-    82 ∷
-    80 ∷
+    markBytes RP ++
     f .depth ∷
     fourBytes (f .flow) ++
     fourBytes (f .head-bod) ++

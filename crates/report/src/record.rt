@@ -7,10 +7,10 @@ ghost use mathlib.Core.Path.{_≡_};
 ghost use mathlib.Core.List.{_∷_, _++_};
 ghost use Prim.Native.Nat.{_+_, _*_, _≤_, _<_};
 ghost use lib.ListN.{length};
-ghost use Rattle.river.specs.Bytes.{Put, twoBytes, fourBytes, fourAt};
+ghost use Rattle.river.specs.Bytes.{Put, markBytes, twoBytes, fourBytes, fourAt};
 ghost use Rattle.river.specs.Card.{river};
 ghost use Rattle.river.specs.Stored.{oxygenOf};
-ghost use Rattle.report.specs.Record.{complement, fromComplement, encodeRecord, recordSize, recordAt, readRecord, figuresIn};
+ghost use Rattle.report.specs.Record.{complement, fromComplement, RP, encodeRecord, recordSize, recordAt, readRecord, figuresIn};
 ghost use Rattle.report.specs.Report.{reportSize};
 
 // How many bytes an `RP` record has.
@@ -66,7 +66,7 @@ fn put_complement(report: &mut [u8], at: usize, oxygen: u32) -> usize
 // The start of a record: mark, depth, Q, head and foot BOD.
 fn put_flows(report: &mut [u8], at: usize, line: Line) -> usize
     requires { ⌜ at + 15 ≤ length (now report) ⌝ }
-    ensures { λ r. ⌜ Put (now (report .entry)) at (82 ∷ 80 ∷ line .depth ∷ fourBytes (line .flow) ++ fourBytes (line .«head_bod») ++ fourBytes (line .«foot_bod»)) (now (report .exit)) r ⌝ }
+    ensures { λ r. ⌜ Put (now (report .entry)) at (markBytes RP ++ line .depth ∷ fourBytes (line .flow) ++ fourBytes (line .«head_bod») ++ fourBytes (line .«foot_bod»)) (now (report .exit)) r ⌝ }
 {
     let next = bytes::put_pair(report, at, b'R', b'P');
     let next = bytes::put_byte(report, next, line.depth);
