@@ -54,7 +54,7 @@ unfolding stepUnits
 units-cover cards = record { added = omega arith; few = omega arith }
 
 module _ (N : ℕ) (long : 40 ≤ N) where
-  -- a reach over an accepted forest lies within its allowance by water
+  -- THEOREM: a reach over an accepted forest lies within its allowance by water
   pub within-water : {units : ℕ} {card : Card} {up : Feeders} → Covers units → AcceptedReach card up → AllAccepted up → reachDepth up ≤ 128 → WithinAllowance N card up (figuresOf card up) (waterAllowance units card up)
   unfolding figuresOf bodAt oxygenAt
   within-water {units} {card} {up} covers own above shallow =
@@ -71,7 +71,7 @@ module _ (N : ℕ) (long : 40 ≤ N) where
         nowhere-lower = λ m l. not-lower (ofℤ (lowest (oxygenAt card up) foot .oxygen)) (ofℤ-mono (c .least m l)) (at m l);
       }
 
-  -- every reach of an accepted river lies within the distance allowed, which is that by depth
+  -- THEOREM: every reach of an accepted river lies within the distance allowed, which is that by depth
   pub demand-3 : (cards : List Card) → Lawful cards → Flows cards → (i : ℕ) → i < length cards → WithinAllowance N (cardOf cards (suc i)) (above cards (suc i)) (figuresAt cards (suc i)) (allowanceAt cards (suc i))
   demand-3 cards lawful flows i l =
       let own = reach-accepted cards lawful flows i l in

@@ -36,7 +36,7 @@ module _ (units : ℕ) where
   pub brought-by-depth : {card : Card} {up : Feeders} → AcceptedReach card up → AllAccepted up → broughtAllowance units card up ≼ ofℕ (units * deepest up)
   brought-by-depth own above = mean-by-depth own (sum-by-depth above)
 
-  -- and its allowance
+  -- THEOREM: the allowance of a reach by water is at most that by depth
   pub water-by-depth : {card : Card} {up : Feeders} → AcceptedReach card up → AllAccepted up → waterAllowance units card up ≼ allowance units up
   water-by-depth {card} {up} own above =
       certify (broughtAllowance units card up ∷ ofℕ units ∷ ofℕ (deepest up) ∷ []) (slack (brought-by-depth own above)) (search quote depth 40 fits 9999) tt
