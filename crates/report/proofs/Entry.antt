@@ -17,7 +17,7 @@ use Rattle.river.specs.Bytes.{AreBytes}
 use Rattle.river.specs.Card.{river}
 use Rattle.river.specs.Refusal.{Answer, accepted, refused, refuse, after, codeOf, outcomeOf}
 use Rattle.river.specs.Flow.{cardOf, above}
-use Rattle.river.specs.Stored.{storedZero}
+use Rattle.river.specs.Stored.{storedZero, storedLimit}
 use Rattle.river.specs.Accept.{Accepts, acceptFile}
 use Rattle.river.proofs.Acceptance.{accepts-exactly}
 use Rattle.river.proofs.Answers.{passed, went, need-true, need-false, after-accepted, after-refused}
@@ -43,7 +43,7 @@ complement-back (pos n) r =
     rw (lt-ltb n storedZero (omega arith))
 complement-back (negsuc n) r =
     let h : n ≤ 1_000_000_383 = leb→le n 1_000_000_383 (r .oxygen-low .le) in
-    rw (le-ltb (4_294_967_295 - n) storedZero (omega arith)) (ap negsuc (omega arith))
+    rw (le-ltb (storedLimit - n) storedZero (omega arith)) (ap negsuc (omega arith))
 
 writable : {cards : List Card} → IsRiver cards → (i : ℕ) → i < length cards → Writable (figuresAt cards (suc i))
 unfolding figuresOf oxygenAt

@@ -5,6 +5,7 @@ use lib.IntN.{ℤ}
 use Rattle.decay.specs.Factors.{factorsAt}
 use Rattle.decay.specs.declared.step.Step.{Step}
 use Rattle.river.specs.Stored.{oxygenOf, Stores}
+use Rattle.river.specs.HeadTable.{demandLimit}
 use Rattle.report.specs.Program.{bodWith, oxygenWith, foot, lowest}
 use Rattle.report.specs.declared.profile.Start.{Start}
 use Rattle.report.specs.declared.profile.Walk.{Walk}
@@ -12,7 +13,7 @@ use Rattle.report.specs.declared.profile.Profile.{Profile}
 
 -- the ranges in which no number of a reach leaves four bytes
 pub record StartInRange (start : Start) : Type 0 where
-  pub bod : start .bod ≤ 1_000_000_000
+  pub bod : start .bod ≤ demandLimit
   pub low : 1_000_000_000 ≤ start .oxygen
   pub high : start .oxygen < 4_294_967_296
   pub saturation : start .saturation ≤ 1_000_000_000

@@ -8,7 +8,7 @@ use lib.IntN.{ℤ, pos, negsuc}
 use lib.ListN.{drop}
 use Rattle.river.specs.declared.card.Card.{Card}
 use Rattle.river.specs.Bytes.{Mark, mark, markBytes, twoBytes, fourBytes, byteAt, twoAt, fourAt}
-use Rattle.river.specs.Stored.{oxygenOf}
+use Rattle.river.specs.Stored.{storedZero, storedLimit, oxygenOf}
 use Rattle.report.specs.declared.record.Line.{Line}
 
 -- the figures of a record, in file order
@@ -39,10 +39,10 @@ figuresIn l =
 -- oxygen in two's complement, as the whole number in its four bytes, and back
 unfoldable pub complement : ℤ → ℕ
 complement (pos n) = n
-complement (negsuc n) = 4_294_967_295 - n
+complement (negsuc n) = storedLimit - n
 
 unfoldable pub fromComplement : ℕ → ℤ
-fromComplement n = cond (ltb n 2_147_483_648) (pos n) (negsuc (4_294_967_295 - n))
+fromComplement n = cond (ltb n storedZero) (pos n) (negsuc (storedLimit - n))
 
 -- the mark of an `RP` record
 abbrev pub RP : Mark

@@ -24,11 +24,12 @@ ghost use Rattle.report.specs.Lines.{Ready, FeetOf, LineOf};
 ghost use Rattle.report.specs.Report.{recordOf, reportOf, reportSize};
 ghost use Rattle.river.specs.Saturation.{SaturationInRange};
 ghost use Rattle.river.specs.Stored.{oxygenOf};
+ghost use Rattle.river.specs.HeadTable.{demandLimit};
 
 // The figures of a reach with this card, flow and depth, below this head.
 pub fn line_of(card: Card, flow: u32, depth: u8, head: Head) -> Line
     requires { ⌜ RatesPass (card .k1) (card .k2) (card .volume) flow × SaturationInRange card ⌝ }
-    requires { ⌜ (head .bod ≤ 1_000_000_000) × (1_000_000_000 ≤ head .oxygen) ⌝ }
+    requires { ⌜ (head .bod ≤ demandLimit) × (1_000_000_000 ≤ head .oxygen) ⌝ }
     ensures { λ r. ⌜ figuresIn r ≡ figuresBelow card depth flow (head .bod) (oxygenOf (head .oxygen)) ⌝ }
 {
     let step = step::step_of(card.k1, card.k2, card.volume, flow);

@@ -30,7 +30,7 @@ use Rattle.report.specs.Lines.{Ready, FeetOf, LineOf}
 use Rattle.report.proofs.Forest.{rates-pass, reach-accepted}
 use Rattle.report.proofs.River.{IsRiver, head-in-range, instant-in-range, reach-tied}
 use Rattle.river.specs.Stored.{storedZero, oxygenOf, storedOf}
-use Rattle.river.specs.HeadTable.{HeadInput, HeadOf}
+use Rattle.river.specs.HeadTable.{demandLimit, HeadInput, HeadOf}
 
 -- stored oxygen is back where it was
 pub stored-back : (z : ℤ) → negsuc 1_000_000_383 ≤ℤ z → oxygenOf (storedOf z) ≡ z
@@ -114,7 +114,7 @@ module _ {cards : List Card} {flows : FlowTable} {feet : FootTable} {i : ℕ} (r
         (oxygen-of-feeders oxygen-adds oxygen-table (suc i))
 
     -- the head is in the ranges that a profile asks
-    pub head-small : h .bod ≤ 1_000_000_000
+    pub head-small : h .bod ≤ demandLimit
     head-small = rw head-bod-is (head-in-range (is-river ready) i l .bod-range)
 
     pub head-low : 1_000_000_000 ≤ h .oxygen

@@ -19,11 +19,12 @@ use Rattle.report.specs.declared.profile.Start.{Start}
 use Rattle.report.specs.declared.profile.Profile.{Profile}
 use Rattle.report.proofs.Lowest.{lowest-first}
 use Rattle.river.specs.Stored.{oxygenOf}
+use Rattle.river.specs.HeadTable.{demandLimit}
 
 -- the ranges of a start, and the shares of its step
 pub start-range :
     {bod oxygen saturated : ℕ} (card : Card) →
-    bod ≤ 1_000_000_000 →
+    bod ≤ demandLimit →
     1_000_000_000 ≤ oxygen →
     oxygen < 4_294_967_296 →
     SaturationInRange card →
