@@ -34,9 +34,9 @@ fn print_reach(line: Line) {
 fn print_result(name: &[u8], result: u32) {
     io::write_all(1, name);
     io::write_all(1, b": ");
-    io::print_decimal(1, (result % 256) as u64);
+    io::print_decimal(1, report::refusal_number(result) as u64);
     io::write_all(1, b" at ");
-    io::print_decimal(1, (result / 256) as u64);
+    io::print_decimal(1, report::refusal_reach(result) as u64);
     io::write_all(1, b"\n");
 }
 

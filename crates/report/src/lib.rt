@@ -7,8 +7,24 @@ use river::accept;
 use river::refusal;
 use river::refusal::Outcome;
 use river::rewrite;
+ghost use mathlib.Core.Path.{_≡_};
+ghost use Prim.Native.Nat.{_/_, _%_};
 ghost use Rattle.report.specs.Report.{Reports};
 ghost use Rattle.report.specs.Rewrite.{Rewrites};
+
+// The number of the refusal in a result.
+pub fn refusal_number(result: u32) -> u32
+    ensures { λ r. ⌜ r ≡ result % 256 ⌝ }
+{
+    result % 256
+}
+
+// The reach that the refusal in a result is about.
+pub fn refusal_reach(result: u32) -> u32
+    ensures { λ r. ⌜ r ≡ result / 256 ⌝ }
+{
+    result / 256
+}
 
 // The report of a river file: 0, or the number and 256 times the reach of a refusal.
 #[no_mangle]

@@ -64,6 +64,10 @@ pub fn render(file: &[u8], out: &mut [u8; TEXT]) -> usize
     if result == 0 {
         put_lines(out, &report, RP_SIZE, two_at(file, 2) as usize)
     } else {
-        put_refusal(out, result % 256, result / 256)
+        put_refusal(
+            out,
+            report::refusal_number(result),
+            report::refusal_reach(result),
+        )
     }
 }

@@ -1,9 +1,9 @@
 -- `text::render` meets its contract, by that of reporting. Assumes nothing.
-use mathlib.Core.Path.{_≡_, refl, ap}
+use mathlib.Core.Path.{_≡_, refl, ap, ap₂}
 use native.Mathlib.Omega.{arith}
 use borrow.Author.Needs.{needs}
 use Rattle.river.specs.Bytes.{AreBytes}
-use Rattle.text.specs.Text.{linesOf}
+use Rattle.text.specs.Text.{linesOf, refusalLine}
 use Rattle.text.proofs.Rendering.{counted, lines-are, refusal-is, renders}
 use Rattle.text.proofs.put.Puts.{reworded}
 use Rattle.text.proofs.render.Statement.{statement}
@@ -33,10 +33,12 @@ returns c =
 returns-2 : tie.Need-returns-2
 returns-2 c =
     let l = c .put-refusal in
-    let t = c .before .before in
+    let n = c .before .before in
+    let t = n .before .before in
     let x = t .before .before in
     let file = are-bytes (x .before .before) in
-    renders (l .ensures) (refusal-is file refl (x .xylandreo-report .ensures) (t .if1 .left)) (omega arith) (l .kept .0)
+    let e = ap₂ refusalLine (n .refusal-number .ensures) (c .before .refusal-reach .ensures) in
+    renders (reworded e (l .ensures)) (refusal-is file refl (x .xylandreo-report .ensures) (t .if1 .left)) (omega arith) (l .kept .0)
 
 pub render-spec : {M : Type 1} → statement M
 render-spec =
@@ -48,6 +50,8 @@ render-spec =
     (λ two-at-requires. search needs)
     (λ cast-put-lines. search needs)
     put-lines-requires
+    (λ refusal-number-requires. search needs)
+    (λ refusal-reach-requires. search needs)
     (λ put-refusal-requires. search needs)
     returns
     returns-2)
