@@ -1,8 +1,8 @@
 -- What `render` puts is the text for its file, by the contract of reporting. Assumes nothing.
 use mathlib.Core.Path.{_≡_, refl, sym, ap, ap₂, _∙_}
 use mathlib.Core.List.{List, _++_}
-use Prim.Native.Nat.{ℕ, zero, suc, _/_, _%_, _≤_, _<_}
-use native.Mathlib.Nat.{div-add-mod'}
+use Prim.Native.Nat.{ℕ, zero, suc, _*_, _/_, _%_, _≤_, _<_}
+use native.Mathlib.Nat.{div-add-mod', mul-comm, mul-le-mul-left}
 use native.Mathlib.Omega.{arith}
 use lib.ListN.{length, drop}
 use lib.Seq.{length-take-le}
@@ -36,21 +36,21 @@ module _ {file : List ℕ} (bytes : AreBytes file) where
       let a = accepts-exactly file cards bytes .0 e in
       (ap (λ (s : List ℕ). twoAt s 2) (a .bytes) ∙ div-add-mod' (length cards) 256, a .lawful .few)
 
-  module _ {before after : List ℕ} {result : ℕ} (long : length before ≡ 3712) (reports : Reports file before after result) where
+  module _ {before after : List ℕ} {result size : ℕ} (sized : (cards : List Card) → recordSize cards ≡ size) (long : length before ≡ 128 * size) (reports : Reports file before after result) where
     -- a result of 0: the lines of the records are those of the river
-    pub lines-are : result ≡ 0 → linesOf (recorded 29 after) (twoAt file 2) ≡ textOf (acceptFile file)
-    unfolding textOf recordSize
+    pub lines-are : result ≡ 0 → linesOf (recorded size after) (twoAt file 2) ≡ textOf (acceptFile file)
+    unfolding textOf
     lines-are z =
         let river = reports .accepts z in
-        ap (linesOf (recorded 29 after)) (counted (river .passes) .0)
-        ∙ same-lines (recorded 29 after) (figuresAt (river .cards)) (length (river .cards)) (reports .figures river)
+        ap (linesOf (recorded size after)) (counted (river .passes) .0)
+        ∙ same-lines (recorded size after) (figuresAt (river .cards)) (length (river .cards)) (rw (sized (river .cards)) at (reports .figures river))
         ∙ sym (ap textOf (river .passes))
 
     -- any other: its number and reach are the refusal's
     refusal-of : (x : Answer (List Card)) → acceptFile file ≡ x → (result ≡ 0 → ⊥) → refusalLine (result % 256) (result / 256) ≡ textOf x
-    unfolding textOf reportAnswer recordSize
+    unfolding textOf reportAnswer
     refusal-of (accepted cards) e h =
-        absurd (h (reports .zero (record { cards = cards; passes = e; holds = omega (arith, counted e .1) })))
+        absurd (h (reports .zero (record { cards = cards; passes = e; holds = rw (sized cards, long, mul-comm 128 size) (mul-le-mul-left size (counted e .1)) })))
     refusal-of (refused r) e h =
         let same : refuse (result % 256) (result / 256) ≡ r = cc (reports .refuses h, after-refused (acceptFile file) _ e) in
         ap (λ (x : Refusal). refusalLine (x .number) (x .reach)) same
