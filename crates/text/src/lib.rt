@@ -20,6 +20,9 @@ ghost use Rattle.text.specs.Held.{longestLine, recorded, PutWithin};
 // One byte past the longest lawful file, so that a longer one is seen to be too long.
 pub const FILE: usize = LONGEST_FILE + 1;
 
+// Where the reach count stands in a file: behind the header's mark.
+const COUNT_AT: usize = 2;
+
 // The longest report: 128 records.
 const REPORT: usize = REACHES * RP_SIZE;
 
@@ -62,7 +65,7 @@ pub fn render(file: &[u8], out: &mut [u8; TEXT]) -> usize
     let mut report = [0u8; REPORT];
     let result = report::xylandreo_report(file, &mut report);
     if result == 0 {
-        put_lines(out, &report, RP_SIZE, two_at(file, 2) as usize)
+        put_lines(out, &report, RP_SIZE, two_at(file, COUNT_AT) as usize)
     } else {
         put_refusal(
             out,
