@@ -3,6 +3,7 @@ use river::card::Card;
 use river::card::Cards;
 use river::card::Dam;
 use river::card::LONGEST_FILE;
+use river::card::REACHES;
 use river::card::blank;
 use river::file::read_file;
 use river::refusal::Outcome;
@@ -70,7 +71,7 @@ fn card(c: Card) {
 fn cards(river: Cards) {
     let at = river.at;
     let mut i: usize = 0;
-    while i < 128 {
+    while i < REACHES {
         if i < river.count as usize {
             card(at[i]);
         }
@@ -129,13 +130,13 @@ pub fn show(file: &[u8]) {
 
 // Writing of a river of one reach.
 pub fn wrote(c: Card, out: &mut [u8]) {
-    let at = [c; 128];
+    let at = [c; REACHES];
     written(Cards { at, count: 1 }, out);
 }
 
 // Writing of a river of two reaches.
 pub fn wrote_two(c: Card, d: Card, out: &mut [u8]) {
-    let mut at = [d; 128];
+    let mut at = [d; REACHES];
     at[0] = c;
     written(Cards { at, count: 2 }, out);
 }
@@ -144,7 +145,7 @@ pub fn wrote_two(c: Card, d: Card, out: &mut [u8]) {
 fn link(i: usize, n: usize) -> Card {
     let mut c = blank();
     if i < n {
-        if i < 128 {
+        if i < REACHES {
             c.outlet = i as u8 + 1;
         }
     }
@@ -154,9 +155,9 @@ fn link(i: usize, n: usize) -> Card {
 // A chain of n reaches.
 fn chain(n: u8) -> Cards {
     let none = blank();
-    let mut at = [none; 128];
+    let mut at = [none; REACHES];
     let mut i: usize = 0;
-    while i < 128 {
+    while i < REACHES {
         at[i] = link(i + 1, n as usize);
         i = i + 1;
     }
