@@ -1,87 +1,73 @@
-// Rivers of 128 reaches, made byte by byte: a chain, and a star of 127 feeders.
+// Rivers of as many reaches as there may be: a chain, and a star whose last reach all others feed.
 ghost use Prim.Native.Nat.{_<_};
 use crate::shown::show;
+use river::card::Card;
+use river::card::Cards;
+use river::card::Dam;
 use river::card::HEADER_BYTES;
 use river::card::REACH_BYTES;
+use river::card::REACHES;
+use river::card::blank;
+use river::write::Written;
+use river::writer::write_cards;
 
-// The length of a file of 128 reaches with no dam.
-const MANY: usize = HEADER_BYTES + 128 * REACH_BYTES;
-
-// The record of a reach. Its outlet, its temperature and the last byte of its inflow are put for each reach.
-const RECORD: [u8; REACH_BYTES] = [
-    b'R',
-    b'E',
-    0,
-    0,
-    0,
-    100,
-    0,
-    200,
-    0,
-    0,
-    0,
-    50,
-    0,
-    0,
-    11,
-    0,
-    0,
-    0,
-    7,
-    208,
-    31,
-    64,
-    0,
-    0,
-    0,
-    5,
-];
+// The length of a file of so many reaches with no dam.
+const MANY: usize = HEADER_BYTES + REACHES * REACH_BYTES;
 
 fn outlet(i: usize, star: bool) -> u8
     requires { ⌜ i < 128 ⌝ }
 {
-    if i == 127 {
+    if i == REACHES - 1 {
         0
     } else if star {
-        128
+        REACHES as u8
     } else {
         (i + 2) as u8
     }
 }
 
-// The file with the record of reach i + 1.
-fn with_reach(file: [u8; MANY], i: usize, outlet: u8) -> [u8; MANY]
+// The card of reach i + 1.
+fn card(i: usize, star: bool) -> Card
     requires { ⌜ i < 128 ⌝ }
 {
-    let mut next = file;
-    let start = HEADER_BYTES + REACH_BYTES * i;
-    let mut k: usize = 0;
-    while k < REACH_BYTES {
-        next[start + k] = RECORD[k];
-        k = k + 1;
+    Card {
+        outlet: outlet(i, star),
+        temperature: (i % 36) as u8,
+        k1: 100,
+        k2: 200,
+        volume: 50,
+        inflow: 2_816 + i as u32,
+        inflow_bod: 2_000,
+        inflow_oxygen: 8_000,
+        load: 5,
+        dam: Dam::Absent,
     }
-    next[start + 2] = outlet;
-    next[start + 3] = (i % 36) as u8;
-    next[start + 15] = i as u8;
-    next
 }
 
-fn river(star: bool) -> [u8; MANY] {
-    let mut file = [0u8; MANY];
-    file[0] = b'R';
-    file[1] = b'V';
-    file[3] = 128;
+fn river(star: bool) -> Cards {
+    let none = blank();
+    let mut at = [none; REACHES];
     let mut i: usize = 0;
-    while i < 128 {
-        file = with_reach(file, i, outlet(i, star));
+    while i < REACHES {
+        at[i] = card(i, star);
         i = i + 1;
     }
-    file
+    Cards {
+        at,
+        count: REACHES as u8,
+    }
+}
+
+// Prints what the file of a river yields.
+fn show_river(river: Cards, first: u32, step: u32) {
+    let mut file = [0u8; MANY];
+    match write_cards(river, &mut file) {
+        Written::Length(_) => show(&file, first, step),
+        Written::Refused(_) => {}
+    }
 }
 
 pub fn all() {
-    let chain = river(false);
-    show(&chain, 2_155_483_648, 1000);
-    let star = river(true);
-    show(&star, 2_147_000_000, 12_345);
+    show_river(river(false), 2_155_483_648, 1000);
+    show_river(river(true), 2_147_000_000, 12_345);
 }
