@@ -6,7 +6,12 @@ use report::record::Line;
 use report::record::RP_SIZE;
 use river::card::HEADER_BYTES;
 use river::card::REACH_BYTES;
+use river::card::REACHES;
+use river::card::blank;
+use river::card::size_of;
 use river::head::STORED_ZERO;
+use river::put::put_card;
+use river::put::put_header;
 
 // Prints stored oxygen.
 fn print_oxygen(stored: u32) {
@@ -89,21 +94,19 @@ fn errors(line: Line) -> u64 {
     distance(line.foot_bod, 3_678_794) + distance(line.foot_oxygen, STORED_ZERO + 10_973_206)
 }
 
-// Puts a byte at a place of a file.
-fn put(file: &mut [u8], at: usize, b: u8) {
-    if at < file.len() {
-        file[at] = b;
-    }
-}
-
-// Puts the card of reach i + 1: 20 degrees, inflow 1 and zeros.
+// Puts the card of reach i + 1 where the file has room for it: 20 degrees, inflow 1 and zeros.
 fn put_reach(file: &mut [u8], i: u8, outlet: u8) {
+    let mut card = blank();
+    card.outlet = outlet;
+    card.temperature = 20;
+    card.inflow = 1;
     let at = HEADER_BYTES + REACH_BYTES * (i as usize);
-    put(file, at, b'R');
-    put(file, at + 1, b'E');
-    put(file, at + 2, outlet);
-    put(file, at + 3, 20);
-    put(file, at + 15, 1);
+    let size = size_of(card);
+    if size <= file.len() {
+        if at <= file.len() - size {
+            put_card(file, at, card);
+        }
+    }
 }
 
 // The outlet of reach i + 1 of reaches in a row.
@@ -116,9 +119,10 @@ fn outlet_of(i: u8, count: u8) -> u8 {
 
 // Puts a river of reaches in a row.
 fn put_row(file: &mut [u8], count: u8) {
-    put(file, 0, b'R');
-    put(file, 1, b'V');
-    put(file, 3, count);
+    if file.len() < HEADER_BYTES {
+        return;
+    }
+    put_header(file, count as u16);
     let mut i: u8 = 0;
     while i < count {
         let outlet = outlet_of(i, count);
@@ -129,17 +133,17 @@ fn put_row(file: &mut [u8], count: u8) {
 
 // A row of 128 reaches passes, in a buffer of 3,712 bytes and no fewer, and one of 129 does not.
 fn rows() {
-    let mut report = [0u8; 128 * RP_SIZE];
-    let mut short = [0u8; 128 * RP_SIZE - 1];
-    let mut most = [0u8; HEADER_BYTES + 128 * REACH_BYTES];
-    put_row(&mut most, 128);
+    let mut report = [0u8; REACHES * RP_SIZE];
+    let mut short = [0u8; REACHES * RP_SIZE - 1];
+    let mut most = [0u8; HEADER_BYTES + REACHES * REACH_BYTES];
+    put_row(&mut most, REACHES as u8);
     print_result(b"128 reaches", report::xylandreo_report(&most, &mut report));
     print_result(
         b"128 reaches in 3,711 bytes",
         report::xylandreo_report(&most, &mut short),
     );
-    let mut more = [0u8; HEADER_BYTES + 129 * REACH_BYTES];
-    put_row(&mut more, 129);
+    let mut more = [0u8; HEADER_BYTES + (REACHES + 1) * REACH_BYTES];
+    put_row(&mut more, REACHES as u8 + 1);
     print_result(b"129 reaches", report::xylandreo_report(&more, &mut report));
 }
 

@@ -13,14 +13,8 @@ Inv-loop file₀ count i₀ file i = length file ≡ length file₀
 abbrev μ-loop : tie.MeasureT-loop
 μ-loop file₀ count i₀ file i = count - i
 
-put-requires : tie.Need-put-requires Inv-loop μ-loop
-put-requires c κs = tt
-
-put-requires-2 : tie.Need-put-requires-2 Inv-loop μ-loop
-put-requires-2 c κs = tt
-
-put-requires-3 : tie.Need-put-requires-3 Inv-loop μ-loop
-put-requires-3 c κs = tt
+put-header-requires : tie.Need-put-header-requires Inv-loop μ-loop
+put-header-requires c κs = omega arith
 
 loop-holds : tie.Need-loop-holds Inv-loop μ-loop
 loop-holds c = omega arith
@@ -40,15 +34,17 @@ same-length c = omega arith
 returns : tie.Need-returns Inv-loop μ-loop
 returns c = tt
 
+returns-2 : tie.Need-returns-2 Inv-loop μ-loop
+returns-2 c = tt
+
 pub put-row-spec : {M : Type 1} → statement M
 put-row-spec =
     tie.close
     (tie.spec
     Inv-loop
     μ-loop
-    put-requires
-    put-requires-2
-    put-requires-3
+    returns
+    put-header-requires
     loop-holds
     outlet-of-requires
     put-reach-requires
@@ -56,4 +52,4 @@ put-row-spec =
     (λ loop-less. omega arith)
     loop-again
     same-length
-    returns)
+    returns-2)
