@@ -15,6 +15,6 @@ pub use Normal.{var, con, _:+_, _:*_, :-_, LeftOver, nil, term, factor, unit, Qu
 pub use Rational.{Fraction-ring, ≈-refl, ≈-sym, ≈-trans, +ᶠ-cong, *ᶠ-cong, -ᶠ-cong, ofℤ-+, ofℤ-*, ofℤ-neg}
 pub use Identity.{quote, replaced, Read, ring, ring-by, Zeros, none, _&_, _⋅_}
 pub use Order.{≼-refl, ≼-of-≈, ≼-trans, ≼-antisym, ≼-total, ≼-by, ≼-computed, Nonneg, nonneg-num, num-nonneg, nonneg-by, slack, from-slack, number, _⊞_, _⊠_, square, difference-zero, multiple, certify, certify-by, certify-times}
-pub use Division.{_≺_, ≺→≼, ≼-≺-trans, ≺-≼-trans, Positive, positive-nonneg, positive-nonzero, positive-whole, positive-by, positive-sum, positive-product, nonneg-÷, certify-over, ÷-cancel, ÷-cancel-pos, ÷-zero, ÷-unique, ÷-cong, ÷-reciprocal, ÷-le, le-÷, ÷-nonneg, ÷-mono, ÷-positive, not-negative}
-pub use Distance.{Small, Within, small, within, sized, small-zero, small-minus, small-weaken, small-by, small-share, bound-nonneg, _⊞ˢ_, _⊠ˢ_, near, near-le, within-of, within-high, within-low, small-near, within-of-≈, within-sym, within-weaken, within-trans, within-sum, within-minus, within-scale, within-share, within-product, within-by, small-abs, abs-le, abs-small, within-distance, distance→within, within→distance}
-pub use Embedding.{ofℤ-mono, ofℤ-reflect, ofℕ-mono, ofℕ-reflect, ofℤ-≈, ofℕ-≈, ofℤ-injective, ofℕ-injective, ringℤ, ofℕ-+, ofℕ-*, ofℕ-suc, ofℕ-sub, ofℤ-negsuc, floor-times, floor-next, floorℤ-low, floorℤ-high, floorℤ-strict, floorℤ-within, floor-low, floor-high, floor-strict, floor-within}
+pub use Division.{_≺_, ≺→≼, Positive, positive-nonneg, positive-nonzero, positive-whole, positive-sum, positive-product, nonneg-÷, certify-over, ÷-cancel, ÷-cancel-pos, ÷-zero, ÷-unique, ÷-cong, ÷-reciprocal, ÷-le, le-÷, ÷-nonneg, ÷-mono, ÷-positive, not-negative}
+pub use Distance.{Small, Within, small, within, sized, small-zero, small-minus, small-weaken, small-by, bound-nonneg, _⊞ˢ_, _⊠ˢ_, near, within-of-≈, within-sym, within-weaken, within-trans, within-sum, within-scale, within-by, small-abs, abs-le, within-distance, distance→within, within→distance}
+pub use Embedding.{ofℤ-mono, ofℤ-reflect, ofℕ-mono, ofℕ-reflect, ofℤ-≈, ofℕ-≈, ofℤ-injective, ringℤ, ofℕ-+, ofℕ-*, ofℕ-suc, ofℕ-sub, ofℤ-negsuc, floor-times, floor-next, floorℤ-low, floorℤ-high, floor-low, floor-high}

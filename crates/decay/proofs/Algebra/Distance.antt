@@ -84,11 +84,6 @@ _⊠ˢ_ {x} {y} {e} {f} s t =
       low = certify-times 1 (x ∷ y ∷ e ∷ f ∷ []) (slack (s .high) ⊠ slack (t .high) ⊞ slack (s .low) ⊠ slack (t .low)) (search quote depth 40 fits 9999) tt;
     }
 
--- a factor from 0 to 1 does not enlarge
-pub small-share : {c x e : Fraction} → Nonneg c → c ≼ ofℕ 1 → Small x e → Small (c *ᶠ x) e
-small-share {c} {x} {e} h k s =
-    small-weaken (sized h ⊠ˢ s) (certify (c ∷ e ∷ []) (slack k ⊠ bound-nonneg s) (search quote depth 40 fits 9999) tt)
-
 -- ---- both inequalities of a distance from one bound: a − b is x, and e is x's bound with something not negative, both up to equations
 -- `near (a ∷ b ∷ []) none (small v ⊞ˢ small w) (number 1) (search quote depth 40 fits 9999) tt (search quote depth 40 fits 9999) tt`
 pub near : (vs : List Fraction) {zs : List Fraction} {a b e x f c : Fraction} → Zeros zs → Small x f → Nonneg c
@@ -100,34 +95,7 @@ near vs {zs} {a} {b} {e} {x} {f} {c} ks s h q t r u =
     enough : f ≼ e
     enough = certify-by (e ∷ f ∷ c ∷ []) (ofℕ 1 ⋅ ring-by vs ks r u & none) h (search quote depth 40 fits 9999) tt
 
--- the same with an inequality between the bounds
-pub near-le : (vs : List Fraction) {zs : List Fraction} {a b e x f : Fraction} → Zeros zs → Small x f → f ≼ e
-    → (q : Given Fraction-ring vs zs (a -ᶠ b) x) → Vanishes (rest Fraction-ring vs q) → Within a b e
-near-le vs ks s h q t = within (small-by (ring-by vs ks q t) (small-weaken s h))
-
 -- ---- the rules of distance
-
--- as a ≤ b + e and b ≤ a + e
-pub within-of : {a b e : Fraction} → a ≼ b +ᶠ e → b ≼ a +ᶠ e → Within a b e
-within-of {a} {b} {e} h k =
-    record {
-      high = certify (a ∷ b ∷ e ∷ []) (slack h) (search quote depth 40 fits 9999) tt;
-      low = certify (a ∷ b ∷ e ∷ []) (slack k) (search quote depth 40 fits 9999) tt;
-    }
-
-pub within-high : {a b e : Fraction} → Within a b e → a ≼ b +ᶠ e
-within-high {a} {b} {e} w = certify (a ∷ b ∷ e ∷ []) (slack (w .high)) (search quote depth 40 fits 9999) tt
-
-pub within-low : {a b e : Fraction} → Within a b e → b ≼ a +ᶠ e
-within-low {a} {b} {e} w = certify (a ∷ b ∷ e ∷ []) (slack (w .low)) (search quote depth 40 fits 9999) tt
-
--- what is near something bounded is bounded
-pub small-near : {a b e f : Fraction} → Within a b e → Small b f → Small a (f +ᶠ e)
-small-near {a} {b} {e} {f} w s =
-    record {
-      high = certify (a ∷ b ∷ e ∷ f ∷ []) (slack (w .high) ⊞ slack (s .high)) (search quote depth 40 fits 9999) tt;
-      low = certify (a ∷ b ∷ e ∷ f ∷ []) (slack (w .low) ⊞ slack (s .low)) (search quote depth 40 fits 9999) tt;
-    }
 
 pub within-of-≈ : {a b : Fraction} → a ≈ b → Within a b (ofℕ 0)
 within-of-≈ {a} {b} h =
@@ -147,24 +115,9 @@ pub within-sum : {a b c d e f : Fraction} → Within a b e → Within c d f → 
 within-sum {a} {b} {c} {d} {e} {f} v w =
     near (a ∷ b ∷ c ∷ d ∷ e ∷ f ∷ []) none (small v ⊞ˢ small w) (number 0) (search quote depth 40 fits 9999) tt (search quote depth 40 fits 9999) tt
 
-pub within-minus : {a b e : Fraction} → Within a b e → Within (-ᶠ a) (-ᶠ b) e
-within-minus {a} {b} {e} v =
-    near (a ∷ b ∷ e ∷ []) none (small-minus (small v)) (number 0) (search quote depth 40 fits 9999) tt (search quote depth 40 fits 9999) tt
-
 pub within-scale : {a b c e : Fraction} → Nonneg c → Within a b e → Within (c *ᶠ a) (c *ᶠ b) (c *ᶠ e)
 within-scale {a} {b} {c} {e} h v =
     near (a ∷ b ∷ c ∷ e ∷ []) none (sized h ⊠ˢ small v) (number 0) (search quote depth 40 fits 9999) tt (search quote depth 40 fits 9999) tt
-
--- a factor from 0 to 1 does not enlarge a distance
-pub within-share : {a b c e : Fraction} → Nonneg c → c ≼ ofℕ 1 → Within a b e → Within (c *ᶠ a) (c *ᶠ b) e
-within-share {a} {b} {c} {e} h k v =
-    near (a ∷ b ∷ c ∷ e ∷ []) none (small-share h k (small v)) (number 0) (search quote depth 40 fits 9999) tt (search quote depth 40 fits 9999) tt
-
--- |a × c − b × d| ≤ C × e + B × f, where |c| ≤ C and |b| ≤ B
-pub within-product : {a b c d e f B C : Fraction} → Small c C → Small b B → Within a b e → Within c d f
-    → Within (a *ᶠ c) (b *ᶠ d) (C *ᶠ e +ᶠ B *ᶠ f)
-within-product {a} {b} {c} {d} {e} {f} {B} {C} s t v w =
-    near (a ∷ b ∷ c ∷ d ∷ e ∷ f ∷ B ∷ C ∷ []) none (s ⊠ˢ small v ⊞ˢ t ⊠ˢ small w) (number 0) (search quote depth 40 fits 9999) tt (search quote depth 40 fits 9999) tt
 
 -- ---- absolute value and distance
 
@@ -195,9 +148,6 @@ abs-le {a} {e} s = go (abs-cases a (a .num) refl)
     go : Signed a → ∣ a ∣ᶠ ≼ e
     go (inl h) = ≼-trans (≼-of-≈ (h .0)) (s .high)
     go (inr h) = ≼-trans (≼-of-≈ (h .0)) (s .low)
-
-pub abs-small : {a e : Fraction} → ∣ a ∣ᶠ ≼ e → Small a e
-abs-small {a} h = small-weaken (small-abs a) h
 
 pub within-distance : (a b : Fraction) → Within a b (distance a b)
 unfolding distance

@@ -13,7 +13,7 @@ use Rattle.decay.proofs.Algebra.Normal.{var, con, _:*_, :-_, Given, res
 use Rattle.decay.proofs.Algebra.Whole.{solveℤ}
 use Rattle.decay.proofs.Algebra.Rational.{Fraction-ring, ≈-refl, ≈-sym, ≈-trans, *ᶠ-cong, zero-num, num-zero}
 use Rattle.decay.proofs.Algebra.Identity.{ring, ring-by, Zeros, none, _&_, _⋅_, quote}
-use Rattle.decay.proofs.Algebra.Order.{≼-refl, ≼-trans, ≼-antisym, ≼-of-≈, Nonneg, nonneg-num, num-nonneg, nonneg-by, slack, from-slack, number, _⊞_, _⊠_, certify, certify-by}
+use Rattle.decay.proofs.Algebra.Order.{≼-refl, ≼-antisym, ≼-of-≈, Nonneg, nonneg-num, num-nonneg, nonneg-by, slack, from-slack, number, _⊞_, _⊠_, certify, certify-by}
 
 -- ---- a < b
 
@@ -27,12 +27,6 @@ pub ≺→≼ : {a b : Fraction} → a ≺ b → a ≼ b
     go : ((a .num *ℤ pos (b .den)) ≤ℤ (b .num *ℤ pos (a .den))) ⊎ ((b .num *ℤ pos (a .den)) ≤ℤ (a .num *ℤ pos (b .den))) → a ≼ b
     go (inl k) = record { across = k }
     go (inr k) = absurd (h .below (record { across = k }))
-
-pub ≼-≺-trans : {a b c : Fraction} → a ≼ b → b ≺ c → a ≺ c
-≼-≺-trans h k = record { below = λ r. k .below (≼-trans r h) }
-
-pub ≺-≼-trans : {a b c : Fraction} → a ≺ b → b ≼ c → a ≺ c
-≺-≼-trans h k = record { below = λ r. h .below (≼-trans k r) }
 
 -- ---- positive fractions
 
@@ -68,9 +62,6 @@ positive-whole {n} h = record { below = λ r. not-below h (pos-reflect (nonpos-n
   where
     not-below : 0 < n → n ≤ 0 → ⊥
     not-below p q = omega arith
-
-pub positive-by : {a b : Fraction} → a ≈ b → Positive b → Positive a
-positive-by e h = ≺-≼-trans h (≼-of-≈ (≈-sym e))
 
 pub positive-sum : {a b : Fraction} → Positive a → Nonneg b → Positive (a +ᶠ b)
 positive-sum {a} {b} h k =

@@ -1,8 +1,8 @@
 -- Whole numbers as fractions: sums, products, order, and division rounded down. `quote` reads ofℕ (m + n) and ofℕ (m * n) as sums and products by itself.
 use mathlib.Core.Path.{_≡_, sym, _∙_, ap, subst, subst₂}
 use mathlib.Core.List.{List, [], _∷_}
-use Prim.Native.Nat.{ℕ, suc, _+_, _-_, _*_, _/_, _≤_, _<_, zero-le, suc-le-suc}
-use native.Mathlib.Nat.{le-antisymm, div-mul-le-self, lt-div-mul-add}
+use Prim.Native.Nat.{ℕ, suc, _+_, _-_, _*_, _/_, _≤_, _<_}
+use native.Mathlib.Nat.{div-mul-le-self, lt-div-mul-add}
 use native.Mathlib.Numerals.{add-one}
 use native.Mathlib.Omega.{arith}
 use lib.IntN.{ℤ, pos, negsuc}
@@ -10,11 +10,10 @@ use lib.Signed.{_≤ℤ_, shrZ}
 use Rattle.decay.specs.Fraction.{Fraction, _≈_, _≼_, ofℤ, ofℕ, _+ᶠ_, -ᶠ_, _-ᶠ_, _*ᶠ_, _÷_}
 use Rattle.decay.proofs.Algebra.Signed.{*ℤ-idr, pos-mono, pos-reflect}
 use Rattle.decay.proofs.Algebra.Normal.{Sides, gap, Vanishes}
-use Rattle.decay.proofs.Algebra.Rational.{Fraction-ring, ≈-refl, ≈-sym, ≈-trans, -ᶠ-cong, ofℤ-+, ofℤ-*, ofℤ-neg}
+use Rattle.decay.proofs.Algebra.Rational.{Fraction-ring, ≈-refl, ≈-trans, -ᶠ-cong, ofℤ-+, ofℤ-*, ofℤ-neg}
 use Rattle.decay.proofs.Algebra.Identity.{ring, ring-by, none, _&_, _⋅_, quote, replaced}
-use Rattle.decay.proofs.Algebra.Order.{≼-of-≈, slack, number, _⊞_, _⊠_, certify, certify-by}
-use Rattle.decay.proofs.Algebra.Division.{_≺_, positive-whole, ÷-le, le-÷, ÷-cancel-pos}
-use Rattle.decay.proofs.Algebra.Distance.{Within}
+use Rattle.decay.proofs.Algebra.Order.{slack, number, _⊞_, certify}
+use Rattle.decay.proofs.Algebra.Division.{positive-whole, ÷-le, le-÷}
 
 -- ---- order
 
@@ -41,9 +40,6 @@ ofℕ-≈ e = ofℤ-≈ (ap pos e)
 pub ofℤ-injective : (a b : ℤ) → ofℤ a ≈ ofℤ b → a ≡ b
 unfolding ofℤ
 ofℤ-injective a b h = sym (*ℤ-idr a) ∙ h .across ∙ *ℤ-idr b
-
-pub ofℕ-injective : (m n : ℕ) → ofℕ m ≈ ofℕ n → m ≡ n
-ofℕ-injective m n h = le-antisymm (ofℕ-reflect m n (≼-of-≈ h)) (ofℕ-reflect n m (≼-of-≈ (≈-sym h)))
 
 -- an identity of signed numbers, read as one of fractions: `ringℤ (ofℤ a ∷ ofℤ b ∷ []) (search quote depth 40 fits 9999) tt : a +ℤ b ≡ b +ℤ a`
 pub ringℤ : (vs : List Fraction) {a b : ℤ} (q : Sides Fraction-ring vs (ofℤ a) (ofℤ b)) → Vanishes (gap Fraction-ring vs q) → a ≡ b
@@ -105,27 +101,8 @@ pub floorℤ-high : (z : ℤ) {d : ℕ} → 0 < d → ofℤ z ÷ ofℕ d ≼ of�
 floorℤ-high z {d} h =
     ÷-le (positive-whole h) (certify (ofℤ z ∷ ofℕ d ∷ ofℤ (shrZ z d) ∷ []) (slack (floor-next z d h) ⊞ number 1) (search quote depth 40 fits 9999) tt)
 
-pub floorℤ-strict : (z : ℤ) {d : ℕ} → 0 < d → ofℤ z ÷ ofℕ d ≺ ofℤ (shrZ z d) +ᶠ ofℕ 1
-floorℤ-strict z {d} h =
-    record {
-      below = λ r. positive-whole {n = 1} (suc-le-suc zero-le) .below (certify-by (ofℤ z ∷ ofℕ d ∷ ofℤ (shrZ z d) ∷ (ofℤ z ÷ ofℕ d) ∷ []) (ofℕ 1 ⋅ ÷-cancel-pos (ofℤ z) (positive-whole h) & none) (slack (floor-next z d h) ⊞ slack r ⊠ number d) (search quote depth 40 fits 9999) tt);
-    }
-
-pub floorℤ-within : (z : ℤ) {d : ℕ} → 0 < d → Within (ofℤ (shrZ z d)) (ofℤ z ÷ ofℕ d) (ofℕ 1)
-floorℤ-within z {d} h =
-    record {
-      high = certify (ofℤ (shrZ z d) ∷ (ofℤ z ÷ ofℕ d) ∷ []) (slack (floorℤ-low z h) ⊞ number 1) (search quote depth 40 fits 9999) tt;
-      low = certify (ofℤ (shrZ z d) ∷ (ofℤ z ÷ ofℕ d) ∷ []) (slack (floorℤ-high z h)) (search quote depth 40 fits 9999) tt;
-    }
-
 pub floor-low : (n : ℕ) {d : ℕ} → 0 < d → ofℕ (n / d) ≼ ofℕ n ÷ ofℕ d
 floor-low n = floorℤ-low (pos n)
 
 pub floor-high : (n : ℕ) {d : ℕ} → 0 < d → ofℕ n ÷ ofℕ d ≼ ofℕ (n / d) +ᶠ ofℕ 1
 floor-high n = floorℤ-high (pos n)
-
-pub floor-strict : (n : ℕ) {d : ℕ} → 0 < d → ofℕ n ÷ ofℕ d ≺ ofℕ (n / d) +ᶠ ofℕ 1
-floor-strict n = floorℤ-strict (pos n)
-
-pub floor-within : (n : ℕ) {d : ℕ} → 0 < d → Within (ofℕ (n / d)) (ofℕ n ÷ ofℕ d) (ofℕ 1)
-floor-within n = floorℤ-within (pos n)
