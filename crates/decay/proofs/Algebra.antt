@@ -10,9 +10,10 @@ pub mod Order
 pub mod Division
 pub mod Distance
 pub mod Embedding
+pub use Signed.{nonneg-pos, pos-mono, ≤ℤ-neg, neg-*ℤ}
 pub use Whole.{solveℤ}
 pub use Normal.{var, con, _:+_, _:*_, :-_, LeftOver, nil, term, factor, unit, Quoted, QuotedAll, Sides, gap, Given, rest, Vanishes}
-pub use Rational.{Fraction-ring, ≈-refl, ≈-sym, ≈-trans, +ᶠ-cong, *ᶠ-cong, -ᶠ-cong, ofℤ-+, ofℤ-*, ofℤ-neg}
+pub use Rational.{Fraction-ring, ≈-refl, ≈-sym, ≈-trans, +ᶠ-cong, *ᶠ-cong, -ᶠ-cong, *ᶠ-comm, ofℤ-+, ofℤ-*, ofℤ-neg}
 pub use Identity.{quote, replaced, Read, ring, ring-by, Zeros, none, _&_, _⋅_}
 pub use Order.{≼-refl, ≼-of-≈, ≼-trans, ≼-antisym, ≼-total, ≼-by, ≼-computed, Nonneg, nonneg-num, num-nonneg, nonneg-by, slack, from-slack, number, _⊞_, _⊠_, square, difference-zero, multiple, certify, certify-by, certify-times}
 pub use Division.{_≺_, ≺→≼, Positive, positive-nonneg, positive-nonzero, positive-whole, positive-sum, positive-product, nonneg-÷, certify-over, ÷-cancel, ÷-cancel-pos, ÷-zero, ÷-unique, ÷-cong, ÷-reciprocal, ÷-le, le-÷, ÷-nonneg, ÷-mono, ÷-positive, not-negative}

@@ -14,8 +14,7 @@ use Rattle.decay.specs.Exact.{exponent, S, F}
 use Rattle.decay.specs.Fixed.{product}
 use Rattle.decay.specs.Promise.{share}
 use Rattle.decay.proofs.Accuracy.{accuracy}
-use Rattle.decay.proofs.Algebra.{quote, certify, slack, number, Nonneg, _⊞_, _⊠_, ≈-refl, ≈-trans, ≼-trans, +ᶠ-cong, ofℤ-+, ofℤ-*, ofℕ-mono, ofℕ-+, ofℕ-*, positive-whole, ÷-cancel-pos, ÷-nonneg, Small, Within, within-of-≈, within-by, within-sum, within-scale, within-distance, distance→within}
-use Rattle.decay.proofs.Algebra.Rational.{*ᶠ-comm}
+use Rattle.decay.proofs.Algebra.{quote, certify, slack, number, Nonneg, _⊞_, _⊠_, ≈-refl, ≈-trans, ≼-trans, +ᶠ-cong, *ᶠ-comm, ofℤ-+, ofℤ-*, ofℕ-mono, ofℕ-+, ofℕ-*, positive-whole, ÷-cancel-pos, ÷-nonneg, Small, Within, within-of-≈, within-by, within-sum, within-scale, within-distance, distance→within}
 use Rattle.river.specs.declared.card.Card.{Card}
 use Rattle.river.specs.Flow.{Feeders, more, fed, flowOf, reachFlow, deepest, reachDepth}
 use Rattle.river.specs.Saturation.{saturationOf}

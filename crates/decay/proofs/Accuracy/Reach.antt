@@ -9,8 +9,7 @@ use Rattle.decay.specs.Exact.{power, factorial, exponent, S, F}
 use Rattle.decay.specs.Fixed.{small}
 use Rattle.decay.specs.Step.{RatesPass, exponentOf, stepOf}
 use Rattle.decay.specs.Promise.{share}
-use Rattle.decay.proofs.Algebra.{≈-sym, ≈-trans, ring-by, _⋅_, _&_, none, quote, ≼-of-≈, ≼-trans, Nonneg, slack, number, _⊞_, _⊠_, multiple, certify, certify-times, positive-whole, ÷-cancel-pos, ofℕ-≈, Within}
-use Rattle.decay.proofs.Algebra.Identity.{replaced}
+use Rattle.decay.proofs.Algebra.{≈-sym, ≈-trans, ring-by, _⋅_, _&_, none, quote, replaced, ≼-of-≈, ≼-trans, Nonneg, slack, number, _⊞_, _⊠_, multiple, certify, certify-times, positive-whole, ÷-cancel-pos, ofℕ-≈, Within}
 use Rattle.decay.proofs.step.Shares.{exponent-small, step-sound}
 use Rattle.decay.proofs.Accuracy.Units.{eps, eps-nonneg, share-nonneg, share-mono, share-one, share-is, Below, exponent-below}
 use Rattle.decay.proofs.Accuracy.Step.{Exponents, ExactTerms, Sum, lost-near, used-near}

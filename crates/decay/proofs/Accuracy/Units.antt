@@ -10,9 +10,9 @@ use Rattle.decay.specs.Fraction.{Fraction, ofℕ, ofℤ, over, _+ᶠ_, _
 use Rattle.decay.specs.Fixed.{one, product, quotient}
 use Rattle.decay.specs.Step.{termOf, exponentOf}
 use Rattle.decay.specs.Promise.{share}
-use Rattle.decay.proofs.Algebra.Signed.{nonneg-pos}
-use Rattle.decay.proofs.Algebra.Identity.{replaced}
 use Rattle.decay.proofs.Algebra.{
+  nonneg-pos,
+  replaced,
   ≈-refl,
   ≈-sym,
   ≈-trans,

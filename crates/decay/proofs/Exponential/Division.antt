@@ -6,7 +6,7 @@ use lib.Dec.{lit≤}
 use lib.IntN.{ℤ, pos, negsuc, negℤ, _*ℤ_}
 use lib.Signed.{_≤ℤ_}
 use Rattle.decay.specs.Fraction.{ofℕ, ofℤ, over, -ᶠ_, _-ᶠ_, _*ᶠ_, _≈_, _≼_}
-use Rattle.decay.proofs.Algebra.Signed.{neg-*ℤ, pos-mono, ≤ℤ-neg}
+use Rattle.decay.proofs.Algebra.{neg-*ℤ, pos-mono, ≤ℤ-neg}
 
 -- k × (1 / k) = 1
 pub over-times : (k : ℕ) → 0 < k → ofℕ k *ᶠ over 1 (pos k) ≈ ofℕ 1

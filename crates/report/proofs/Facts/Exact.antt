@@ -4,8 +4,7 @@ use mathlib.Core.List.{[], _∷_}
 use Prim.Native.Nat.{ℕ, _+_, _*_, _-_, _<_}
 use lib.Dec.{lit<}
 use Rattle.decay.specs.Fraction.{Fraction, _≈_, _≼_, ofℕ, _+ᶠ_, -ᶠ_, _-ᶠ_, _*ᶠ_, _÷_}
-use Rattle.decay.proofs.Algebra.{ring, ring-by, quote, _⋅_, _&_, none as no-equations, ≈-trans, positive-whole, ÷-cancel-pos, ÷-reciprocal, floor-low, floor-high}
-use Rattle.decay.proofs.Algebra.Rational.{*ᶠ-comm}
+use Rattle.decay.proofs.Algebra.{ring, ring-by, quote, _⋅_, _&_, none as no-equations, ≈-trans, *ᶠ-comm, positive-whole, ÷-cancel-pos, ÷-reciprocal, floor-low, floor-high}
 use Rattle.river.specs.declared.card.Dam.{Dam}
 use Rattle.river.specs.declared.card.Dam.the-variants.{Absent, Aerating}
 use Rattle.river.specs.declared.card.Card.{Card}
