@@ -1,5 +1,5 @@
 -- The promise of the arithmetic layer. At instant m, BOD left and turned together are within 11 × m units of 2^-44 of the exact ones, and the
--- deficit left is within 5 × m. So all are within 2^-28 at every instant up to 1,024, and the exact ones are at most that much above one.
+-- deficit left is within 5 × m. So all are within 2^-28 at every instant up to 1,024.
 pub mod Units
 pub mod Series
 pub mod Step
@@ -12,17 +12,17 @@ use native.Mathlib.Omega.{arith}
 use native.Mathlib.Nat.{le-of-lt}
 use lib.Dec.{lit≤}
 use lib.Signed.{leZ-yes}
-use Rattle.decay.specs.Fraction.{Fraction, ofℕ, ofℤ, over, _+ᶠ_, _*ᶠ_, _÷_, _≈_, _≼_, ∣_∣ᶠ, distance}
+use Rattle.decay.specs.Fraction.{Fraction, ofℕ, ofℤ, over, _+ᶠ_, _*ᶠ_, _÷_, _≈_, _≼_, distance}
 use Rattle.decay.specs.Exact.{exponent, S, F}
 use Rattle.decay.specs.Fixed.{one}
 use Rattle.decay.specs.Step.{RatesPass, stepOf}
 use Rattle.decay.specs.Factors.{headFactors, factorsAt}
 use Rattle.decay.specs.Promise.{share, factorsOf, Accurate}
-use Rattle.decay.proofs.Algebra.{≈-sym, ≈-trans, ring, quote, replaced, ≼-trans, ≼-of-≈, Nonneg, slack, number, _⊞_, _⊠_, multiple, certify, ofℕ-mono, ofℕ-suc, Within, within-of-≈, within-weaken, within→distance, abs-le}
+use Rattle.decay.proofs.Algebra.{≈-sym, ≈-trans, ring, quote, replaced, ≼-trans, ≼-of-≈, Nonneg, slack, number, _⊞_, _⊠_, multiple, certify, ofℕ-mono, ofℕ-suc, Within, within-of-≈, within-weaken, within→distance}
 use Rattle.decay.proofs.step.Shares.{step-sound}
 use Rattle.decay.proofs.factors.Instants.{range}
 use Units.{eps, eps-nonneg, one-eps, share-is, share-nonneg, share-mono, share-sum, share-one}
-use Advance.{BodNear, bod-advance, deficit-advance, size}
+use Advance.{BodNear, bod-advance, deficit-advance}
 use Whole.{left-moves, turned-moves, kept-moves}
 use Reach.{step-near}
 use Rattle.decay.proofs.Exponential.{S-compose, F-compose, S-start, F-start}
@@ -41,10 +41,6 @@ shorter = record { across = leZ-yes tt }
 bod-figure : ofℕ 11264 *ᶠ eps ≼ ofℕ 1 ÷ ofℕ 268435456
 unfolding _÷_ _*ᶠ_ over ofℤ eps
 bod-figure = record { across = leZ-yes tt }
-
-exact-figure : ofℕ 11264 *ᶠ eps ≼ ofℕ 1 ÷ ofℕ 134217728
-unfolding _÷_ _*ᶠ_ over ofℤ eps
-exact-figure = record { across = leZ-yes tt }
 
 -- c × m units for c up to 11 and m up to 1,024 are few
 few : {c m : ℕ} → c ≤ 11 → m ≤ 1024 → ofℕ 20 *ᶠ (ofℕ (c * m) *ᶠ eps) ≼ ofℕ 1
@@ -139,7 +135,7 @@ module _ {N k1 k2 v Q : ℕ} (long : 40 ≤ N) (p : RatesPass k1 k2 v Q) where
 
 -- ---- the promise
 
--- two distances together, and the two exact factors together
+-- two distances together
 both-near : {p g s f e c : Fraction} → BodNear p g s f e → e ≼ c → distance p s +ᶠ distance g f ≼ c
 both-near {p} {g} {s} {f} {e} {c} b h =
     certify (distance p s ∷ distance g f ∷ b .u ∷ b .v ∷ e ∷ c ∷ [])
@@ -147,27 +143,12 @@ both-near {p} {g} {s} {f} {e} {c} b h =
     (search quote depth 40 fits 9999)
     tt
 
-both-sized : {p g s f e c : Fraction} → Nonneg p → Nonneg g → p +ᶠ g ≼ ofℕ 1 → BodNear p g s f e → e ≼ c → ∣ s ∣ᶠ +ᶠ ∣ f ∣ᶠ ≼ ofℕ 1 +ᶠ c
-both-sized {p} {g} {s} {f} {e} {c} hp hg one b h =
-    certify (∣ s ∣ᶠ ∷ ∣ f ∣ᶠ ∷ p ∷ g ∷ b .u ∷ b .v ∷ e ∷ c ∷ [])
-    (slack (abs-le (size hp (b .left-near))) ⊞ slack (abs-le (size hg (b .turned-near))) ⊞ slack one ⊞ slack (b .sum) ⊞ slack h)
-    (search quote depth 40 fits 9999)
-    tt
-
-one-sized : {r s e c : Fraction} → Nonneg r → r ≼ ofℕ 1 → Within r s e → e ≼ c → ∣ s ∣ᶠ ≼ ofℕ 1 +ᶠ c
-one-sized {r} {s} {e} {c} hr one w h =
-    certify (∣ s ∣ᶠ ∷ r ∷ e ∷ c ∷ []) (slack (abs-le (size hr w)) ⊞ slack one ⊞ slack h) (search quote depth 40 fits 9999) tt
-
 -- THEOREM: the factors are accurate for every series length from 40 up, every instant and every reach that check 11 lets through
 pub accuracy : {N k1 k2 volume Q m : ℕ} → 40 ≤ N → m ≤ 1024 → RatesPass k1 k2 volume Q → Accurate N k1 k2 volume Q m
 accuracy {N} {k1} {k2} {volume} {Q} {m} long h p =
-    let f = factorsOf k1 k2 volume Q m in
     let bod = bod-at long p m h in
     let deficit = deficit-at long p m h in
     record {
       bod-near = both-near bod (≼-trans (at-last (lit≤ tt) h) bod-figure);
       deficit-near = ≼-trans (within→distance deficit) (≼-trans (at-last (lit≤ tt) h) bod-figure);
-      bod-exact =
-          both-sized (share-nonneg (f .left)) (share-nonneg (f .turned)) (bod-range long p m) bod (≼-trans (at-last (lit≤ tt) h) exact-figure);
-      deficit-exact = one-sized (share-nonneg (f .kept)) (deficit-range long p m) deficit (≼-trans (at-last (lit≤ tt) h) exact-figure);
     }

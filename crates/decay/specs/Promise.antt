@@ -1,6 +1,6 @@
 -- The promise of the arithmetic layer: how far the factors of instant m lie from the river file paper's S and F.
 use Prim.Native.Nat.{ℕ}
-use Rattle.decay.specs.Fraction.{Fraction, ofℕ, _+ᶠ_, _÷_, _≼_, ∣_∣ᶠ, distance}
+use Rattle.decay.specs.Fraction.{Fraction, ofℕ, _+ᶠ_, _÷_, _≼_, distance}
 use Rattle.decay.specs.Exact.{exponent, S, F}
 use Rattle.decay.specs.Fixed.{one}
 use Rattle.decay.specs.Step.{stepOf}
@@ -16,7 +16,7 @@ abbrev pub factorsOf : (k1 k2 volume Q m : ℕ) → Factors
 factorsOf k1 k2 volume Q m = factorsAt (stepOf k1 k2 volume Q) m
 
 -- The factors of instant m, as shares of one, against the exact ones at the series length N: BOD left lies near S(x1), head BOD turned
--- to deficit near F, head deficit left near S(x2), and the exact ones themselves are little above one.
+-- to deficit near F, and head deficit left near S(x2).
 pub record Accurate (N k1 k2 volume Q m : ℕ) : Type 0 where
   pub bod-near :
       distance (share ((factorsOf k1 k2 volume Q m) .left)) (S N (exponent k1 volume Q m)) +ᶠ
@@ -24,6 +24,3 @@ pub record Accurate (N k1 k2 volume Q m : ℕ) : Type 0 where
       ofℕ 1 ÷ ofℕ 268_435_456
   pub deficit-near :
       distance (share ((factorsOf k1 k2 volume Q m) .kept)) (S N (exponent k2 volume Q m)) ≼ ofℕ 1 ÷ ofℕ 268_435_456
-  pub bod-exact :
-      ∣ S N (exponent k1 volume Q m) ∣ᶠ +ᶠ ∣ F N k1 k2 volume Q m ∣ᶠ ≼ ofℕ 1 +ᶠ ofℕ 1 ÷ ofℕ 134_217_728
-  pub deficit-exact : ∣ S N (exponent k2 volume Q m) ∣ᶠ ≼ ofℕ 1 +ᶠ ofℕ 1 ÷ ofℕ 134_217_728

@@ -4,7 +4,7 @@ use lib.IntN.{pos, negsuc}
 use Rattle.river.specs.declared.card.Dam.the-variants.{Absent}
 use Rattle.river.specs.Refusal.{accepted, refused, refuse}
 use Rattle.river.proofs.Bench.{two}
-use Rattle.report.proofs.Bench.{bench as report-bench}
+use Rattle.report.proofs.Bench.{bench}
 use Rattle.text.specs.Text.{ascii, digitsBy, decimal, number, signed, afterWord, line, numbersOf, linesOf, refusalLine, textOf}
 
 pub record Rows : Type 0 where
@@ -16,11 +16,12 @@ pub record Rows : Type 0 where
   pub below-zero : signed (negsuc 0) ≡ ascii "-1"
   pub large : signed (negsuc 1000000383) ≡ ascii "-1000000384"
 
-pub bench : Rows
+-- THEOREM: the worked example, a refusal and some numbers as they are printed, a row each
+pub text-bench : Rows
 unfolding textOf linesOf refusalLine line afterWord numbersOf signed number decimal digitsBy
-bench =
+text-bench =
     record {
-      example = rw (report-bench .line-1, report-bench .line-2);
+      example = rw (bench .line-1, bench .line-2);
       refusal = refl;
       zero = refl;
       ten = refl;
