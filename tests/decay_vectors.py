@@ -64,7 +64,8 @@ def make(write):
         if largest[name] > most:
             raise vectors.Failed(f"{path}: {name}s are off by up to {largest[name]} parts of 2^-44, above {most}")
     vectors.settle(path, text, write)
-    return f"decay vectors: {reaches} reaches, shares of a step within {largest['step']} parts of 2^-44, factors within {largest['instant']}"
+    step, instant = (reference.counted(largest[name], "part") for name in ("step", "instant"))
+    return f"decay vectors: {reaches} reaches, shares of a step within {step} of 2^-44, factors within {instant} of 2^-44"
 
 
 if __name__ == "__main__":

@@ -1,0 +1,163 @@
+#!/usr/bin/env python3
+"""Tests of ./run and of its pictures: tests/run_test.py
+
+Wrong uses get their message and status; reports, tables, collections and pictures of the examples come out, from any folder, through a link and
+from a pipe. ./run builds what is missing. The exit status is 1 where something fails.
+"""
+
+import glob
+import os
+import subprocess
+import sys
+import tempfile
+import xml.etree.ElementTree
+
+ROOT = os.path.dirname(os.path.dirname(os.path.realpath(__file__)))
+RUN = os.path.join(ROOT, "run")
+EXAMPLES = os.path.join(ROOT, "examples")
+ACCEPTED = sorted(glob.glob(os.path.join(EXAMPLES, "*.river")))
+TOWN = os.path.join(EXAMPLES, "town.river")
+
+
+def run(*words, given=None, program=RUN, folder=ROOT):
+    """Runs ./run: status, standard output, standard error."""
+    done = subprocess.run([program, *words], input=given, stdout=subprocess.PIPE, stderr=subprocess.PIPE, cwd=folder, check=False)
+    return done.returncode, done.stdout, done.stderr.decode()
+
+
+def contents(path):
+    with open(path, "rb") as source:
+        return source.read()
+
+
+def stored(path, data):
+    with open(path, "wb") as file:
+        file.write(data)
+    return path
+
+
+def expect(what, found, due):
+    if found != due:
+        raise AssertionError(f"{what}: {found}, due is {due}")
+
+
+def says(what, answer, status, *parts):
+    """An answer is this status, with all the parts on standard error, each of whose lines tells whose it is."""
+    found, _, said = answer
+    if found != status or not all(part in said for part in parts) or not all(line.startswith("run: ") for line in said.splitlines()):
+        raise AssertionError(f"{what}: status {found}, '{said}', due is status {status} and {parts}")
+
+
+def wrong_uses():
+    """What cannot be done at all, with status 2 and nothing on standard output."""
+    with tempfile.TemporaryDirectory() as folder:
+        kept, empty = stored(os.path.join(folder, "town.svg"), contents(TOWN)), os.path.join(folder, "empty")
+        os.mkdir(empty)
+        cases = (
+            ((), ("no file given", "--help")), (("none.river",), ("none.river", "no such file")), (("",), ("no such file",)), (("examples",), ("examples", "folder", "--collection")),
+            (("--tables", TOWN), ("unknown option --tables", "--help")), ((TOWN, TOWN), ("one at a time", "--table")), (("--table",), ("no file given",)),
+            (("--table", TOWN, "none.river"), ("none.river", "no such file")), (("--table", "--collection", "examples"), ("--table and --collection",)),
+            (("--limit", "5.0", TOWN), ("--limit goes with",)), (("--table", "--limit"), ("--limit needs",)), (("--table", "--limit", "5,0", TOWN), ("--limit takes", "5,0")),
+            (("--collection",), ("no folder given",)), (("--collection", "none"), ("none", "no such folder")), (("--collection", TOWN), (TOWN, "not a folder")),
+            (("--picture",), ("OUT.svg",)), (("--picture", TOWN, "town.svg"), (TOWN, ".svg")), (("--picture", os.path.join(folder, "none", "x.svg"), TOWN), ("cannot be written",)),
+            (("--picture", kept, kept), ("town.svg", "river file itself")))
+        for words, parts in cases:
+            answer = run(*words)
+            says(f"./run {' '.join(words)}", answer, 2, *parts)
+            expect(f"./run {' '.join(words)}, printed", answer[1], b"")
+        expect("the river file given as a picture is left", contents(kept), contents(TOWN))
+        expect("a folder without river files", run("--collection", empty)[0], 2)
+    return f"{len(cases)} wrong uses"
+
+
+def refusals():
+    """Files that are refused: the report's line, status 1, and the reason on standard error."""
+    town = contents(TOWN)
+    cases = (
+        ("empty", b"", "refused 1 reach 0", ("fewer bytes",)), ("text", contents(TOWN[:-5] + "txt"), "refused 2 reach 0", ("the mark RV", "looks like a text; tools/river make")),
+        ("trailing newline", town + b"\n", "refused 6 reach 0", ("bytes remain",)), ("cut", town[:-1], "refused 1 reach 5", ("reach 5", "fewer bytes")),
+        ("five megabytes", town + bytes(5_000_000), "refused 6 reach 0", ("bytes remain",)), ("zeros", bytes(5_000_000), "refused 2 reach 0", ("the mark RV",)))
+    with tempfile.TemporaryDirectory() as folder:
+        for name, data, line, parts in cases:
+            path, picture = stored(os.path.join(folder, f"{name}.river"), data), os.path.join(folder, "out.svg")
+            answer = run(path)
+            says(name, answer, 1, name, *parts)
+            expect(f"{name}, printed", answer[1].decode(), line + "\n")
+            says(f"picture of {name}", run("--picture", picture, path), 1, name, line, *parts)
+            status, table, _ = run("--table", path)
+            expect(f"table of {name}", (status, line in table.decode(), os.path.exists(picture)), (1, True, False))
+    for path in glob.glob(os.path.join(EXAMPLES, "refused", "*.river")):
+        expect(path, run(path)[:2], (1, contents(path[:-5] + "report")))
+    return f"{len(cases)} files refused"
+
+
+def reports():
+    """The reports of the examples, and of a river that comes through a pipe."""
+    for path in ACCEPTED:
+        expect(path, run(path), (0, contents(path[:-5] + "report"), ""))
+    due = contents(TOWN[:-5] + "report")
+    expect("a pipe", run("/dev/stdin", given=contents(TOWN)), (0, due, ""))
+    expect("another folder", run("town.river", folder=EXAMPLES), (0, due, ""))
+    expect("another folder, by a path from there", run("town.river", program=os.path.join("..", "run"), folder=EXAMPLES), (0, due, ""))
+    with tempfile.TemporaryDirectory() as folder:
+        link, odd = os.path.join(folder, "link"), stored(os.path.join(folder, "-a b\t.river"), contents(TOWN))
+        os.symlink(RUN, link)
+        expect("a link", run(TOWN, program=link, folder=folder), (0, due, ""))
+        expect("a table through a link", run("--table", TOWN, program=link, folder=folder)[0], 0)
+        expect("an odd name", run("--", os.path.basename(odd), folder=folder), (0, due, ""))
+    expect("--help", (run("--help")[0], b"--picture" in run("-h")[1]), (0, True))
+    return f"{len(ACCEPTED)} reports"
+
+
+def tables():
+    """A table for each river, and a line for each river of a folder."""
+    status, said, complaint = run("--table", "--limit", "5.0", *ACCEPTED)
+    expect("tables", (status, said.count(b"lowest oxygen"), complaint), (0, len(ACCEPTED), ""))
+    status, said, _ = run("--table", TOWN, os.path.join(EXAMPLES, "refused", "4-too-warm.river"))
+    expect("a table and a refusal", (status, b"temperature is 36, not from 0 to 35" in said), (1, True))
+    status, said, complaint = run("--collection", "examples")
+    expect("the collection of examples", (status, f"{len(ACCEPTED)} rivers: {len(ACCEPTED)} accepted, 0 refused".encode() in said, complaint), (0, True, ""))
+    status, said, complaint = run("--collection", "refused", folder=EXAMPLES)
+    expect("the collection of refused rivers", (status, b" 0 accepted, " in said, b"DIFFERS" in said, complaint), (1, True, False, ""))
+    return "tables, collections"
+
+
+def pictures():
+    """A picture of each example, and of a river that comes through a pipe, is well-formed and names its river."""
+    with tempfile.TemporaryDirectory() as folder:
+        out = os.path.join(folder, "out & out.svg")
+
+        def drawn(what, *words, name, given=None):
+            expect(what, run("--picture", out, *words, given=given), (0, b"", ""))
+            root = xml.etree.ElementTree.fromstring(contents(out))
+            expect(f"{what}: title", (root.tag, root[0].text), ("{http://www.w3.org/2000/svg}svg", name))
+            os.remove(out)
+            return "".join(root.itertext())
+
+        for path in ACCEPTED:
+            drawn(path, path, name=path)
+            drawn(f"{path} with a limit", path, "--limit", "8.4", name=path)
+        drawn("a pipe", "/dev/stdin", given=contents(TOWN), name="/dev/stdin")
+        odd = stored(os.path.join(folder, "a<b>&\"c\".river"), contents(TOWN))
+        text = drawn("an odd name", odd, "--limit", "7.0", name=odd)
+        expect("reaches below the limit are named", "2 of 5 below 7.0 mg/L: 4, 5" in text, True)
+    return f"{2 * len(ACCEPTED) + 2} pictures"
+
+
+TESTS = (wrong_uses, refusals, reports, tables, pictures)
+
+
+def main():
+    if len(sys.argv) > 1:
+        print(__doc__.strip())
+        return 0 if sys.argv[1:] in (["-h"], ["--help"]) else 2
+    try:
+        print("./run: " + ", ".join(test() for test in TESTS))
+        return 0
+    except AssertionError as problem:
+        print(f"run_test.py: {problem}", file=sys.stderr)
+        return 1
+
+
+if __name__ == "__main__":
+    sys.exit(main())
