@@ -2,16 +2,16 @@
 # Times the proved entry against a plain C program that computes the same report in double precision with exp(),
 # on the same files, both built for release. It needs the toolchain, a C compiler (CC, or else cc) and Python.
 set -eu
-cd "$(dirname "${BASH_SOURCE[0]}")"
+cd "$(dirname -- "$(readlink -f -- "${BASH_SOURCE[0]}")")"
 
-cc=${CC:-cc}
-for tool in "$cc" python3; do
+read -ra cc <<< "${CC:-cc}"    # CC may have options after the compiler's name
+for tool in "${cc[0]}" python3; do
     command -v "$tool" >/dev/null || { echo "benchmark: $tool is not on the PATH" >&2; exit 2; }
 done
 archive=$(../scripts/build archive)
 scratch=$(mktemp -d)
 trap 'rm -rf "$scratch"' EXIT
-"$cc" -std=c11 -O3 -Wall -Wextra -I../include bench.c plain.c "$archive" -lm -o "$scratch/bench"
+"${cc[@]}" -std=c11 -O3 -Wall -Wextra -I../include bench.c plain.c "$archive" -lm -o "$scratch/bench"
 
 # The first reaches of the chain, as rivers of their own: how the time grows.
 rivers=()

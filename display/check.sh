@@ -6,7 +6,7 @@
 # something is wrong, 2 where it cannot check.
 set -u
 unset CDPATH
-cd "$(dirname "${BASH_SOURCE[0]}")/../examples" || exit 2
+cd "$(dirname -- "$(readlink -f -- "${BASH_SOURCE[0]}")")/../examples" || exit 2
 
 display=$(../scripts/build display) || exit 2
 collection=$(../scripts/build collection) || exit 2
@@ -47,6 +47,9 @@ make_odd_files() {
     { cat town.river; echo; } > "$1/line-end-more.river"
     { cat chain.river; head -c 5000000 /dev/zero; } > "$1/long.river"
     cp town.txt "$1/text.river"
+    { head -c 4 town.river; printf 'RE\001'; tail -c +8 town.river; } > "$1/outlet-itself.river"
+    { head -c 4 two.river; printf 'RE\000'; tail -c +8 two.river; } > "$1/outlet-none.river"
+    { head -c 30 two.river; printf 'RE\002'; tail -c +34 two.river; } > "$1/outlet-of-last.river"
     : > "$1/empty.river"
 }
 
@@ -114,11 +117,18 @@ expect 2 "$display" missing.river
 expect 2 "$display" refused
 expect 1 "$display" two.river refused/4-too-warm.river town.river
 says 'reach 2: a field is out of range: temperature is 36, not from 0 to 35 degrees C'
+expect 1 "$display" refused/5-uphill.river "$scratch"/odd/outlet-*.river "$scratch/odd/text.river"
+says 'refused 5 reach 2: the outlet is wrong: outlet is 2, not 3$'
+says 'refused 5 reach 1: the outlet is wrong: outlet is 1, not from 2 to 5$'
+says 'refused 5 reach 1: the outlet is wrong: outlet is 0, not 2$'
+says 'refused 5 reach 2: the outlet is wrong: outlet is 2, not 0$'
+says 'refused 2 reach 0: .*; this looks like a text; tools/river make TEXT OUT makes a river file of it$'
 
 expect 0 "$collection" .
 expect 1 "$collection" refused
 expect 1 "$collection" "$scratch/odd"
-says '^9 rivers: 0 accepted, 9 refused; rewritten: 0 the same, 0 differ; reports beside them: 0 the same, 0 differ$'
+says '^text.river .*; this looks like a text; tools/river make'
+says '^12 rivers: 0 accepted, 12 refused; rewritten: 0 the same, 0 differ; reports beside them: 0 the same, 0 differ$'
 mkdir "$scratch/changed" "$scratch/none"
 cp two.river two.report "$scratch/changed"
 echo >> "$scratch/changed/two.report"

@@ -80,13 +80,36 @@ void show_refusal(FILE *to, const struct river *river, uint32_t result)
     show_reason(to, river, result);
 }
 
+/* An outlet has no unit, and may have one lawful value alone. */
+static void show_fault(FILE *to, const struct xylandreo_fault *fault, int is_outlet)
+{
+    fprintf(to, ": %s is %" PRIu64 ", not ", fault->field->name, fault->value);
+    if (fault->lowest < fault->highest)
+        fprintf(to, "from %" PRIu64 " to ", fault->lowest);
+    fprintf(to, "%" PRIu64 "%s%s", fault->highest, is_outlet ? "" : " ", is_outlet ? "" : fault->field->unit);
+}
+
+/* Whether a file begins not as a river file does but as a text: printable characters, or bytes of UTF-8. */
+static int looks_like_text(const struct river *river)
+{
+    if (river->length == 0 || (river->length >= 2 && !memcmp(river->bytes, "RV", 2)))
+        return 0;
+    for (size_t i = 0; i < river->length && i < 256; i++) {
+        uint8_t byte = river->bytes[i];
+        if (byte == 0x7f || (byte < 0x20 && byte != '\t' && byte != '\n' && byte != '\r'))
+            return 0;
+    }
+    return 1;
+}
+
 void show_reason(FILE *to, const struct river *river, uint32_t result)
 {
     fputs(xylandreo_reason(xylandreo_number(result)), to);
     struct xylandreo_fault fault = xylandreo_fault_of(river->bytes, river->length, result);
     if (fault.field)
-        fprintf(to, ": %s is %" PRIu64 ", not from %" PRIu64 " to %" PRIu64 " %s", fault.field->name, fault.value,
-                fault.field->lowest, fault.field->highest, fault.field->unit);
+        show_fault(to, &fault, xylandreo_number(result) == 5);
+    if (looks_like_text(river))
+        fputs("; this looks like a text; tools/river make TEXT OUT makes a river file of it", to);
 }
 
 /* Puts the line of one reach. */

@@ -52,7 +52,10 @@ struct text {
 };
 struct text milligrams(int64_t units);
 
-/* Shows the number, reach and reason of a refusal, and for 4 the field and its range. */
+/*
+ * Shows the number, reach and reason of a refusal, and for 4 and 5 the field and its range. Whoever gives the
+ * text of a river where its file is wanted is told of the composer, as by the script `run`.
+ */
 void show_refusal(FILE *to, const struct river *river, uint32_t result);
 void show_reason(FILE *to, const struct river *river, uint32_t result);
 

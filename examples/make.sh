@@ -3,7 +3,7 @@
 #   examples/make.sh           makes them anew
 #   examples/make.sh --check   changes nothing; says which are out of date
 set -eu
-cd "$(dirname "${BASH_SOURCE[0]}")"
+cd "$(dirname -- "$(readlink -f -- "${BASH_SOURCE[0]}")")"
 
 fail() {
     echo "make.sh: $1" >&2

@@ -149,21 +149,26 @@ static inline uint64_t xylandreo_value(const uint8_t *record, const struct xylan
     return value;
 }
 
-/* Which field a refusal with 4 is about, and the number that stands there. The field is null where there is none. */
+/*
+ * Which field a refusal with 4 or 5 is about, the number that stands there and the lawful range. The field
+ * is null where there is none.
+ */
 struct xylandreo_fault {
     const struct xylandreo_field *field;
-    uint64_t value;
+    uint64_t value, lowest, highest;
 };
 
 /* The first field of a record that is out of its range. */
 static inline struct xylandreo_fault xylandreo_fault_in(const uint8_t *record, const struct xylandreo_kind *kind)
 {
-    struct xylandreo_fault fault = {NULL, 0};
+    struct xylandreo_fault fault = {NULL, 0, 0, 0};
     for (size_t i = 0; kind->fields[i].name; i++) {
         uint64_t value = xylandreo_value(record, &kind->fields[i]);
         if (value < kind->fields[i].lowest || value > kind->fields[i].highest) {
             fault.field = &kind->fields[i];
             fault.value = value;
+            fault.lowest = kind->fields[i].lowest;
+            fault.highest = kind->fields[i].highest;
             break;
         }
     }
@@ -191,22 +196,40 @@ static inline size_t xylandreo_pass(const uint8_t *file, size_t file_len, size_t
     return at;
 }
 
-/* The field that a result with number 4 is about: the first out of range among the records of its reach. */
+/* The count of reaches of a river file, accepted or refused at a reach. */
+static inline uint32_t xylandreo_reaches(const uint8_t *file)
+{
+    return (uint32_t)file[2] << 8 | file[3];
+}
+
+/* The outlet in the record of a reach, counted from 1. The last reach has 0, another a reach after it. */
+static inline struct xylandreo_fault xylandreo_outlet_fault(const uint8_t *record, uint32_t reach, uint32_t count)
+{
+    const struct xylandreo_field *outlet = &xylandreo_kinds[1].fields[0];
+    struct xylandreo_fault fault = {outlet, xylandreo_value(record, outlet), 0, 0};
+    if (reach < count) {
+        fault.lowest = reach + 1;
+        fault.highest = count;
+    }
+    return fault;
+}
+
+/*
+ * The field that a result is about: with number 4 the first out of range among the records of its reach,
+ * with 5 the outlet.
+ */
 static inline struct xylandreo_fault xylandreo_fault_of(const uint8_t *file, size_t file_len, uint32_t result)
 {
     struct xylandreo_fault fault;
     size_t at = xylandreo_pass(file, file_len, 0, 0, &fault);
-    for (uint32_t reach = 1; reach <= xylandreo_reach(result); reach++)
+    for (uint32_t reach = 1; reach < xylandreo_reach(result); reach++)
         at = xylandreo_pass(file, file_len, at, 1, &fault);
-    if (xylandreo_number(result) != 4)
-        fault.field = NULL;
+    fault.field = NULL;
+    if (xylandreo_number(result) == 5 && file_len - at >= XYLANDREO_RE_BYTES)
+        fault = xylandreo_outlet_fault(file + at, xylandreo_reach(result), xylandreo_reaches(file));
+    if (xylandreo_number(result) == 4)
+        xylandreo_pass(file, file_len, at, 1, &fault);
     return fault;
-}
-
-/* The count of reaches of an accepted river file. */
-static inline uint32_t xylandreo_reaches(const uint8_t *file)
-{
-    return (uint32_t)file[2] << 8 | file[3];
 }
 
 /*

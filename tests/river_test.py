@@ -13,7 +13,7 @@ import tempfile
 import generate
 import reference
 
-ROOT = os.path.dirname(os.path.dirname(os.path.abspath(__file__)))
+ROOT = os.path.dirname(os.path.dirname(os.path.realpath(__file__)))
 TOOL = os.path.join(ROOT, "tools", "river")
 NINE = "0 20 0 0 1000 3000 2000 8000 0"
 

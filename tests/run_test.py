@@ -55,10 +55,11 @@ def wrong_uses():
         os.mkdir(empty)
         cases = (
             ((), ("no file given", "--help")), (("none.river",), ("none.river", "no such file")), (("",), ("no such file",)), (("examples",), ("examples", "folder", "--collection")),
-            (("--tables", TOWN), ("unknown option --tables", "--help")), ((TOWN, TOWN), ("one at a time", "--table")), (("--table",), ("no file given",)),
+            (("--tables", TOWN), ("unknown option --tables", "--help")), ((TOWN, TOWN), ("one file at a time", "--table")), (("--table",), ("no file given",)),
             (("--table", TOWN, "none.river"), ("none.river", "no such file")), (("--table", "--collection", "examples"), ("--table and --collection",)),
             (("--limit", "5.0", TOWN), ("--limit goes with",)), (("--table", "--limit"), ("--limit needs",)), (("--table", "--limit", "5,0", TOWN), ("--limit takes", "5,0")),
             (("--collection",), ("no folder given",)), (("--collection", "none"), ("none", "no such folder")), (("--collection", TOWN), (TOWN, "not a folder")),
+            (("--collection", "examples", "docs"), ("--collection takes one folder", "2 are given")), (("--picture", "x.svg", TOWN, TOWN), ("--picture takes", "2 files are given")),
             (("--picture",), ("OUT.svg",)), (("--picture", TOWN, "town.svg"), (TOWN, ".svg")), (("--picture", os.path.join(folder, "none", "x.svg"), TOWN), ("cannot be written",)),
             (("--picture", kept, kept), ("town.svg", "river file itself")))
         for words, parts in cases:
@@ -85,9 +86,11 @@ def refusals():
             expect(f"{name}, printed", answer[1].decode(), line + "\n")
             says(f"picture of {name}", run("--picture", picture, path), 1, name, line, *parts)
             status, table, _ = run("--table", path)
-            expect(f"table of {name}", (status, line in table.decode(), os.path.exists(picture)), (1, True, False))
+            expect(f"table of {name}", (status, line in table.decode(), b"looks like a text" in table, os.path.exists(picture)), (1, True, name == "text", False))
     for path in glob.glob(os.path.join(EXAMPLES, "refused", "*.river")):
         expect(path, run(path)[:2], (1, contents(path[:-5] + "report")))
+        number = int(os.path.basename(path).split("-")[0])
+        expect(f"{path}: a pointer at the table", "--table FILE" in run(path)[2], number in (4, 5))
     return f"{len(cases)} files refused"
 
 
