@@ -24,7 +24,9 @@ MOST_OFF = {"step": 10, "instant": 2_000}       # parts of 2^-44
 
 def off(printed, shares):
     """The largest distance of printed numbers from exact shares, in parts of 2^-44, rounded up."""
-    return max(math.ceil(abs(number - share * ONE)) for number, share in zip(printed, shares, strict=True))
+    if len(printed) != len(shares):
+        raise vectors.Failed(f"{len(printed)} numbers are printed where {len(shares)} are due")
+    return max(math.ceil(abs(number - share * ONE)) for number, share in zip(printed, shares))
 
 
 def distances(text):
