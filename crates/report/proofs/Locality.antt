@@ -139,8 +139,8 @@ flows-into : (cards : List Card) (n i : ℕ) → eqb ((getD cards n blank) .outl
 flows-into cards n i e = eqb→eq ((getD cards n blank) .outlet) (suc i) (subst T (sym e) tt)
 
 -- one card does not have two outlets
-clash {ℓ} : {X : Type ℓ} {c d : Card} (i : ℕ) → eqb (c .outlet) i ≡ true → eqb (d .outlet) i ≡ false → c ≡ d → X
-clash i e f same = absurd (let z : true ≡ false = cc in subst T z tt)
+other-card {ℓ} : {X : Type ℓ} {c d : Card} (i : ℕ) → eqb (c .outlet) i ≡ true → eqb (d .outlet) i ≡ false → c ≡ d → X
+other-card i e f same = absurd (let z : true ≡ false = cc in subst T z tt)
 
 same-but-outlet : {c d : Card} → c ≡ d → SameButOutlet c d
 same-but-outlet e = record { rest = ap (withOutlet 0) e }
@@ -153,9 +153,9 @@ module _ (here there : List Card) where
       let same = a .above-here n (feeds p) in
       alike (same-but-outlet same) (up (passes-on p (flows-into there n i f) same a)) rest
   same-joined n i a up rest true false e f =
-      clash (suc i) e f (a .above-here n (feeds (flows-into here n i e)))
+      other-card (suc i) e f (a .above-here n (feeds (flows-into here n i e)))
   same-joined n i a up rest false true e f =
-      clash (suc i) f e (sym (a .above-there n (feeds (flows-into there n i f))))
+      other-card (suc i) f e (sym (a .above-there n (feeds (flows-into there n i f))))
   same-joined n i a up rest false false e f = rest
 
   -- rivers that agree on a reach and above it have the same feeders there

@@ -36,7 +36,7 @@ figuresIn l =
       foot-oxygen = oxygenOf (l .«foot_oxygen»);
     }
 
--- oxygen in two's complement, as the whole number in its four bytes, and back
+-- oxygen in two's complement, as the whole number in its four bytes, and back; `storedZero` is 2^31 and `storedLimit` is 2^32 - 1
 unfoldable pub complement : ℤ → ℕ
 complement (pos n) = n
 complement (negsuc n) = storedLimit - n

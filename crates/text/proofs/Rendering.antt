@@ -19,14 +19,14 @@ use Rattle.river.proofs.bytes.Puts.{put-at-start}
 use Rattle.report.specs.Program.{figuresAt}
 use Rattle.report.specs.Record.{Figures, recordSize}
 use Rattle.report.specs.Report.{reportAnswer, Reports}
-use Rattle.text.specs.Text.{lineOf, linesOf, refusalLine, textOf, Renders}
+use Rattle.text.specs.Text.{reachLine, linesOf, refusalLine, textOf, Renders}
 use Rattle.text.specs.Held.{recorded, PutWithin}
 
 -- equal figures have equal lines
 same-lines : (f g : ℕ → Figures) (n : ℕ) → ((i : ℕ) → i < n → f (suc i) ≡ g (suc i)) → linesOf f n ≡ linesOf g n
 unfolding linesOf
 same-lines f g zero h = refl
-same-lines f g (suc n) h = ap₂ _++_ (same-lines f g n (λ i l. h i (omega arith))) (ap (lineOf (suc n)) (h n (omega arith)))
+same-lines f g (suc n) h = ap₂ _++_ (same-lines f g n (λ i l. h i (omega arith))) (ap (reachLine (suc n)) (h n (omega arith)))
 
 module _ {file : List ℕ} (bytes : AreBytes file) where
   -- the reach count of an accepted river stands in its file, and is at most 128

@@ -63,13 +63,13 @@ numbersOf reach f =
     f .head-oxygen ∷ pos (f .critical-instant) ∷ f .critical-oxygen ∷ f .foot-oxygen ∷ []
 
 -- the line of a reach
-abbrev pub lineOf : (reach : ℕ) → Figures → List ℕ
-lineOf reach f = line (map signed (numbersOf reach f))
+abbrev pub reachLine : (reach : ℕ) → Figures → List ℕ
+reachLine reach f = line (map signed (numbersOf reach f))
 
 -- the lines of the first n reaches, whose figures are given by reach number
 unfoldable pub linesOf : (ℕ → Figures) → ℕ → List ℕ
 linesOf figures zero = []
-linesOf figures (suc n) = linesOf figures n ++ lineOf (suc n) (figures (suc n))
+linesOf figures (suc n) = linesOf figures n ++ reachLine (suc n) (figures (suc n))
 
 -- the line of a refusal
 unfoldable pub refusalLine : (number reach : ℕ) → List ℕ

@@ -83,12 +83,13 @@ sound-from cards (suc m) i e j a b =
     (λ (k : i < j). sound-from cards m (suc i) (g .1) j k (omega arith))
     (eq-or-lt-of-le a)
 
--- THEOREM: the flow check accepts exactly the rivers that pass the flow rules
+-- THEOREM: a river that the flow check accepts passes the flow rules
 pub flows-of-accepted : {cards cs : List Card} → flowCheck cards ≡ accepted cs → Flows cards
 unfolding flowCheck
 flows-of-accepted {cards} e =
     record { each = λ i l. sound-from cards (length cards) 0 e i (omega arith) (omega arith) }
 
+-- THEOREM: and it accepts every river that does
 pub accepted-of-flows : {cards : List Card} → Flows cards → flowCheck cards ≡ accepted cards
 unfolding flowCheck checksFrom
 accepted-of-flows {cards} h =
