@@ -14,14 +14,10 @@ from fractions import Fraction
 import generate
 import reference
 from reference import BITS, INSTANTS, SERIES, Card, Dam, Point, Reach, Record, Refused, River
+from testing import expect, run_tests
 
 WORKED = [Card(2, 20, 0, 0, 1_000, 3_000, 2_000, 8_000, 0), Card(0, 20, 0, 0, 1_000, 1_000, 30_000, 2_000, 0)]
 WORKED_LINES = b"1 1 3000 2000000 2000000 8000000 0 8000000 8000000\n2 2 4000 9000000 9000000 6500000 0 6500000 6500000\n"
-
-
-def equal(what, found, due):
-    if found != due:
-        raise AssertionError(f"{what}: {found}, due is {due}")
 
 
 def answer_line(file):
@@ -65,9 +61,9 @@ def paper_agrees():
     with open(os.path.join(os.path.dirname(os.path.abspath(__file__)), "..", "docs", "RIVER-FILE.md"), encoding="utf-8") as file:
         text = file.read()
     kinds = (reference.HEADER, reference.REACH) + reference.AFTER_REACH
-    equal("records", [(row[0], int(row[1])) for row in table(text, "mark")], [(kind.mark.decode(), kind.size) for kind in kinds])
-    equal("fields", list(paper_fields(table(text, "record"))), list(our_fields(kinds)))
-    equal("the longest file", f"{reference.LONGEST:,} bytes" in text and f"at most {reference.LONGEST + 1:,} bytes" in text, True)
+    expect("records", [(row[0], int(row[1])) for row in table(text, "mark")], [(kind.mark.decode(), kind.size) for kind in kinds])
+    expect("fields", list(paper_fields(table(text, "record"))), list(our_fields(kinds)))
+    expect("the longest file", f"{reference.LONGEST:,} bytes" in text and f"at most {reference.LONGEST + 1:,} bytes" in text, True)
     return "tables of the paper"
 
 
@@ -75,12 +71,12 @@ def paper_agrees():
 
 def bench_values():
     """The bench values of the paper."""
-    equal("saturation", [math.floor(reference.saturation(T)) for T in (0, 10, 20, 25, 35)], [14_652_000, 11_271_126, 9_021_808, 8_175_656, 6_748_714])
-    equal("the worked example", is_right(reference.encode(River(WORKED)), WORKED_LINES), True)
+    expect("saturation", [math.floor(reference.saturation(T)) for T in (0, 10, 20, 25, 35)], [14_652_000, 11_271_126, 9_021_808, 8_175_656, 6_748_714])
+    expect("the worked example", is_right(reference.encode(River(WORKED)), WORKED_LINES), True)
     dammed = reference.flows(River([WORKED[0], WORKED[1]._replace(dam=Dam(500, 1_000))]))
     sums = 3_000 * 2_000_000, 3_000 * 8_000_000
-    equal("below the dam", reference.upstream(dammed[1], *sums, math.floor)[1], 8_340_602)
-    equal("at the head", reference.head(dammed[1], *sums, math.floor)[1], 6_755_451)
+    expect("below the dam", reference.upstream(dammed[1], *sums, math.floor)[1], 8_340_602)
+    expect("at the head", reference.head(dammed[1], *sums, math.floor)[1], 6_755_451)
 
     def one(**fields):
         return reference.encode(River([Card(0, 20, 1_000, 0, 0, 10_000, 0, 0, 0)._replace(**fields)]))
@@ -93,11 +89,11 @@ def bench_values():
             ("no inflow", one(inflow=0), "refused 7 reach 1"), ("an empty file", b"", "refused 1 reach 0"),
             ("128 reaches", chain(128), "accepted"), ("129 reaches", chain(129), "refused 3 reach 0"),
             ("36 degrees", one(temperature=36), "refused 4 reach 1"), ("outlet to itself", one(outlet=1), "refused 5 reach 1")):
-        equal(what, answer_line(file), due)
+        expect(what, answer_line(file), due)
     reaches = reference.accept(one(temperature=0, k2=1_000, volume=864_000, inflow_bod=10_000, inflow_oxygen=14_652))
     foot = reference.recurrence(reaches, 40)[1][1]
     off = sum(abs(Fraction(exact, foot.over) - figure) for exact, figure in zip(foot.figures, (3_678_794, 10_973_206)))
-    equal("the foot at equal rates is off by at most 2 units", off <= 2, True)
+    expect("the foot at equal rates is off by at most 2 units", off <= 2, True)
     return "bench values"
 
 
@@ -121,7 +117,7 @@ def bounds_hold():
             for m in (0, INSTANTS, rng.randint(1, INSTANTS - 1)):
                 point = reference.through(reference.along(reach, m, N), start)
                 distance = abs(oxygen[m] * point.over - (point.figures[1] << BITS))
-                equal(f"{style}: bounds at instant {m}", distance <= off * point.over and off < 2 ** 16, True)
+                expect(f"{style}: bounds at instant {m}", distance <= off * point.over and off < 2 ** 16, True)
                 tried += 1
     return f"bounds at {tried} instants"
 
@@ -129,14 +125,14 @@ def bounds_hold():
 def exact_values():
     """Points and S against plain fractions."""
     x = Fraction(355, 113)
-    equal("S", reference.S(x, 40), sum((-x) ** j / math.factorial(j) for j in range(40)))
-    equal("S and its terms", reference.S(x, 41), sum(reference.terms(x, 41)))
+    expect("S", reference.S(x, 40), sum((-x) ** j / math.factorial(j) for j in range(40)))
+    expect("S and its terms", reference.S(x, 41), sum(reference.terms(x, 41)))
     card = Card(0, 21, 301, 700, 90_000, 1_234, 5_678, 4_321, 99)
     reach = Reach(1, card, [])
     point = reference.through(reference.along(reach, 300, 40), Point(7, [11, -13]))
     S1, F, S2 = reference.factors(reach, 300, 40)
     L, C, Cs = Fraction(11, 7), Fraction(-13, 7), reach.saturation
-    equal("a point", [Fraction(figure, point.over) for figure in point.figures], [L * S1, Cs - F * L - S2 * (Cs - C)])
+    expect("a point", [Fraction(figure, point.over) for figure in point.figures], [L * S1, Cs - F * L - S2 * (Cs - C)])
     return "series and points"
 
 
@@ -195,17 +191,17 @@ def verdicts():
         file = reference.encode(River([reach.card for reach in reaches]))
         records = right_report(reaches)
         verdict = reference.check(file, text(records))
-        equal(f"{style}: a right report", verdict.wrong, [])
+        expect(f"{style}: a right report", verdict.wrong, [])
         for what, wrong in wrong_records(rng, reaches, records):
-            equal(f"{style}: {what} is found", is_right(file, text(wrong)), False)
+            expect(f"{style}: {what} is found", is_right(file, text(wrong)), False)
             found += 1
         for wrong in malformed(text(records)):
-            equal(f"{style}: {wrong[:60]} is found", is_right(file, wrong), False)
+            expect(f"{style}: {wrong[:60]} is found", is_right(file, wrong), False)
             found += 1
     file = reference.encode(River([WORKED[0]._replace(outlet=1), WORKED[1]]))
-    equal("a right refusal", is_right(file, b"refused 5 reach 1\n"), True)
+    expect("a right refusal", is_right(file, b"refused 5 reach 1\n"), True)
     for wrong in (b"refused 5 reach 2\n", b"refused 4 reach 1\n", b"refused 5 reach 1", b"refused 5 reach 1\n\n", b"Refused 5 reach 1\n", WORKED_LINES):
-        equal(f"{wrong} is found", is_right(file, wrong), False)
+        expect(f"{wrong} is found", is_right(file, wrong), False)
         found += 1
     return f"{found} wrong reports found"
 
@@ -219,11 +215,11 @@ def exact_limits():
         changed = records[:1] + [records[1]._replace(foot_oxygen=records[1].foot_oxygen + error)]
         judged = reference.Verdict("accepted")
         reference.distances(reaches, changed, 40, False, judged)
-        equal(f"an error of {error} units at depth 2", len(judged.wrong), verdict)
+        expect(f"an error of {error} units at depth 2", len(judged.wrong), verdict)
         changed = records[:1] + [records[1]._replace(critical=records[1].critical + error)]
         judged = reference.Verdict("accepted")
         reference.distances(reaches, changed, 40, False, judged)
-        equal(f"a critical oxygen {error} units too high at depth 2", bool(judged.wrong), bool(verdict))
+        expect(f"a critical oxygen {error} units too high at depth 2", bool(judged.wrong), bool(verdict))
     return "errors on the allowance"
 
 
@@ -234,7 +230,7 @@ def same_at_both_speeds():
         reaches = reaches[:1]
         file = reference.encode(River([reaches[0].card._replace(outlet=0)]))
         printed = text(right_report(reference.accept(file)))
-        equal(f"{style}: both speeds", reference.check(file, printed, full=True).wrong, [])
+        expect(f"{style}: both speeds", reference.check(file, printed, full=True).wrong, [])
     return "both speeds"
 
 
@@ -246,27 +242,15 @@ def every_kind():
     for name, file in generate.files(1, 300):
         names.add(name.split("-", 1)[1])
         answers.append(answer_line(file))
-    equal("kinds", len(names), len(generate.accepted_kinds()) + len(generate.refused_kinds()))
+    expect("kinds", len(names), len(generate.accepted_kinds()) + len(generate.refused_kinds()))
     numbers = {int(line.split()[1]) for line in answers if line != "accepted"}
-    equal("refusals", numbers, set(range(1, 12)))
-    equal("the odd ones are accepted", set(answers[::2]), {"accepted"})
+    expect("refusals", numbers, set(range(1, 12)))
+    expect("the odd ones are accepted", set(answers[::2]), {"accepted"})
     return f"{len(names)} kinds of generated files"
 
 
 TESTS = (paper_agrees, bench_values, exact_values, bounds_hold, exact_limits, verdicts, same_at_both_speeds, every_kind)
 
 
-def main():
-    if len(sys.argv) > 1:
-        print(__doc__.strip())
-        return 0 if sys.argv[1:] in (["-h"], ["--help"]) else 2
-    try:
-        print("reference: " + ", ".join(test() for test in TESTS))
-        return 0
-    except AssertionError as problem:
-        print(f"reference_test.py: {problem}", file=sys.stderr)
-        return 1
-
-
 if __name__ == "__main__":
-    sys.exit(main())
+    sys.exit(run_tests("reference", __doc__, TESTS))

@@ -12,6 +12,7 @@ import tempfile
 
 import generate
 import reference
+from testing import expect, run_tests
 
 ROOT = os.path.dirname(os.path.dirname(os.path.realpath(__file__)))
 TOOL = os.path.join(ROOT, "tools", "river")
@@ -22,11 +23,6 @@ def river(*words, given=b""):
     """Runs the tool: status, standard output, standard error."""
     done = subprocess.run([TOOL, *words], input=given, stdout=subprocess.PIPE, stderr=subprocess.PIPE, cwd=ROOT, check=False)
     return done.returncode, done.stdout, done.stderr.decode()
-
-
-def expect(what, found, due):
-    if found != due:
-        raise AssertionError(f"{what}: {found}, due is {due}")
 
 
 def one_line(what, answer, status, *parts):
@@ -152,17 +148,5 @@ def wrong_uses():
 TESTS = (examples_come_back, generated_come_back, texts, broken_files, wrong_uses)
 
 
-def main():
-    if len(sys.argv) > 1:
-        print(__doc__.strip())
-        return 0 if sys.argv[1:] in (["-h"], ["--help"]) else 2
-    try:
-        print("tools/river: " + ", ".join(test() for test in TESTS))
-        return 0
-    except AssertionError as problem:
-        print(f"river_test.py: {problem}", file=sys.stderr)
-        return 1
-
-
 if __name__ == "__main__":
-    sys.exit(main())
+    sys.exit(run_tests("tools/river", __doc__, TESTS))

@@ -12,6 +12,8 @@ import sys
 import tempfile
 import xml.etree.ElementTree
 
+from testing import expect, run_tests
+
 ROOT = os.path.dirname(os.path.dirname(os.path.realpath(__file__)))
 RUN = os.path.join(ROOT, "run")
 EXAMPLES = os.path.join(ROOT, "examples")
@@ -34,11 +36,6 @@ def stored(path, data):
     with open(path, "wb") as file:
         file.write(data)
     return path
-
-
-def expect(what, found, due):
-    if found != due:
-        raise AssertionError(f"{what}: {found}, due is {due}")
 
 
 def says(what, answer, status, *parts):
@@ -150,17 +147,5 @@ def pictures():
 TESTS = (wrong_uses, refusals, reports, tables, pictures)
 
 
-def main():
-    if len(sys.argv) > 1:
-        print(__doc__.strip())
-        return 0 if sys.argv[1:] in (["-h"], ["--help"]) else 2
-    try:
-        print("./run: " + ", ".join(test() for test in TESTS))
-        return 0
-    except AssertionError as problem:
-        print(f"run_test.py: {problem}", file=sys.stderr)
-        return 1
-
-
 if __name__ == "__main__":
-    sys.exit(main())
+    sys.exit(run_tests("./run", __doc__, TESTS))
