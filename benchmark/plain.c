@@ -9,9 +9,10 @@
 struct reach {
     uint32_t outlet, temperature, k1, k2, volume, inflow, inflow_bod, inflow_oxygen, load;
     int has_dam;
-    uint32_t share, generating;
-    /* Worked out: flow from above, flow, undecayed BOD, depth, and sums of flow times the feeders' foot values. */
-    uint64_t above, flow, mass;
+    uint32_t share, generating, take;
+    /* Worked out: flow from above, before and after the take, undecayed BOD, depth, and sums of flow times the
+       feeders' foot values. */
+    uint64_t above, mixed, flow, mass;
     uint32_t depth, feeders;
     double bod_above, oxygen_above;
 };
@@ -32,7 +33,36 @@ static void put(uint8_t *p, uint32_t value, int width)
     }
 }
 
-/* Reads one reach and its dam at *at, and moves *at past them. */
+static int follows(const uint8_t *file, size_t length, size_t at, const char *mark)
+{
+    return length - at >= 2 && file[at] == (uint8_t)mark[0] && file[at + 1] == (uint8_t)mark[1];
+}
+
+/* Reads the dam and the take at *at where they are there, and moves *at past them. */
+static uint32_t read_added(const uint8_t *file, size_t length, size_t *at, struct reach *r)
+{
+    if (follows(file, length, *at, "DM")) {
+        if (length - *at < 8)
+            return 1;
+        r->has_dam = 1;
+        r->share = number(file + *at + 2, 2);
+        r->generating = number(file + *at + 4, 4);
+        if (r->share > 1000 || r->generating > 100000000)
+            return 4;
+        *at += 8;
+    }
+    if (follows(file, length, *at, "WD")) {
+        if (length - *at < 6)
+            return 1;
+        r->take = number(file + *at + 2, 4);
+        if (r->take > 100000000)
+            return 4;
+        *at += 6;
+    }
+    return 0;
+}
+
+/* Reads one reach with its dam and its take at *at, and moves *at past them. */
 static uint32_t read_reach(const uint8_t *file, size_t length, size_t *at, uint32_t i, uint32_t n, struct reach *r)
 {
     const uint8_t *p = file + *at;
@@ -49,18 +79,7 @@ static uint32_t read_reach(const uint8_t *file, size_t length, size_t *at, uint3
     if (i == n ? r->outlet != 0 : r->outlet <= i || r->outlet > n)
         return 5;
     *at += 26;
-    p += 26;
-    if (length - *at >= 2 && p[0] == 'D' && p[1] == 'M') {
-        if (length - *at < 8)
-            return 1;
-        r->has_dam = 1;
-        r->share = number(p + 2, 2);
-        r->generating = number(p + 4, 4);
-        if (r->share > 1000 || r->generating > 100000000)
-            return 4;
-        *at += 8;
-    }
-    return 0;
+    return read_added(file, length, at, r);
 }
 
 static uint32_t read_river(const uint8_t *file, size_t length, struct reach *reaches, uint32_t *n)
@@ -86,16 +105,22 @@ static uint32_t check_flows(struct reach *reaches, uint32_t n)
     for (uint32_t i = 1; i <= n; i++) {
         struct reach *r = &reaches[i];
         uint64_t k = r->k1 > r->k2 ? r->k1 : r->k2;
-        r->flow = r->above + r->inflow;
+        r->mixed = r->above + r->inflow;
         r->mass += (uint64_t)r->inflow * r->inflow_bod + 1000ull * r->load;
-        if (r->flow == 0)
+        if (r->mixed == 0)
             return 7 + 256 * i;
-        if (r->flow > 100000000)
+        if (r->mixed > 100000000)
             return 8 + 256 * i;
         if (r->has_dam && (r->feeders == 0 || r->generating > r->above))
             return 9 + 256 * i;
-        if (r->mass > 1000000 * r->flow)
+        if (r->mass > 1000000 * r->mixed)
             return 10 + 256 * i;
+        if (r->take >= r->mixed)
+            return 13 + 256 * i;
+        r->flow = r->mixed - r->take;
+        r->mass -= r->take * (r->mass / r->mixed);
+        if (r->mass > 1000000 * r->flow)
+            r->mass = 1000000 * r->flow;
         if (k * r->volume > 345600 * r->flow)
             return 11 + 256 * i;
         if (r->outlet) {
@@ -113,7 +138,7 @@ static uint32_t check_flows(struct reach *reaches, uint32_t n)
 /* Works out one reach in units of 0.000001 mg/L and writes its record. */
 static void report_reach(struct reach *reaches, const struct reach *r, uint8_t *record)
 {
-    double t = r->temperature, above = (double)r->above, flow = (double)r->flow;
+    double t = r->temperature, above = (double)r->above, mixed = (double)r->mixed, flow = (double)r->flow;
     double saturation = 1e6 * (14.652 - 0.41022 * t + 0.007991 * t * t - 0.000077774 * t * t * t);
     double bod = 0, oxygen = 0;
     if (r->feeders) {
@@ -122,8 +147,8 @@ static void report_reach(struct reach *reaches, const struct reach *r, uint8_t *
         if (r->has_dam)
             oxygen += (saturation - oxygen) * r->share * (above - r->generating) / (1000 * above);
     }
-    bod = (above * bod + 1e3 * r->inflow * r->inflow_bod + 1e6 * r->load) / flow;
-    oxygen = (above * oxygen + 1e3 * r->inflow * r->inflow_oxygen) / flow;
+    bod = (above * bod + 1e3 * r->inflow * r->inflow_bod + 1e6 * r->load) / mixed;
+    oxygen = (above * oxygen + 1e3 * r->inflow * r->inflow_oxygen) / mixed;
 
     double x1 = (double)r->k1 * r->volume / (86400 * flow), x2 = (double)r->k2 * r->volume / (86400 * flow);
     double ratio = r->k1 == r->k2 ? 0 : (double)r->k1 / ((double)r->k2 - r->k1);

@@ -44,6 +44,9 @@ make_odd_files() {
     head -c -1 town.river > "$1/dam-cut.river"
     { printf 'XV'; tail -c +3 town.river; } > "$1/header-mark.river"
     { head -c 30 town.river; printf 'RX'; tail -c +33 town.river; } > "$1/reach-mark.river"
+    head -c 35 two-take.river > "$1/take-cut.river"
+    { head -c 36 two-take.river; tail -c +31 two-take.river; } > "$1/take-twice.river"
+    { head -c 32 two-take.river; printf '\377\377\377\377'; tail -c +37 two-take.river; } > "$1/take-too-large.river"
     { cat town.river; echo; } > "$1/line-end-more.river"
     { cat chain.river; head -c 5000000 /dev/zero; } > "$1/long.river"
     cp town.txt "$1/text.river"
@@ -117,6 +120,11 @@ expect 2 "$display" missing.river
 expect 2 "$display" refused
 expect 1 "$display" two.river refused/4-too-warm.river town.river
 says 'reach 2: a field is out of range: temperature is 36, not from 0 to 35 degrees C'
+expect 1 "$display" "$scratch"/odd/take-*.river refused/13-canal.river
+says 'take-cut.river: refused 1 reach 1: fewer bytes'
+says 'take-twice.river: refused 2 reach 2: the mark'
+says 'take-too-large.river: refused 4 reach 1: a field is out of range: take is 4294967295, not from 0 to 100000000 L/s$'
+says 'refused 13 reach 1: the take is not below the flow at the head$'
 expect 1 "$display" refused/5-uphill.river "$scratch"/odd/outlet-*.river "$scratch/odd/text.river"
 says 'refused 5 reach 2: the outlet is wrong: outlet is 2, not 3$'
 says 'refused 5 reach 1: the outlet is wrong: outlet is 1, not from 2 to 5$'
@@ -128,7 +136,7 @@ expect 0 "$collection" .
 expect 1 "$collection" refused
 expect 1 "$collection" "$scratch/odd"
 says '^text.river .*; this looks like a text; tools/river make'
-says '^12 rivers: 0 accepted, 12 refused; rewritten: 0 the same, 0 differ; reports beside them: 0 the same, 0 differ$'
+says '^15 rivers: 0 accepted, 15 refused; rewritten: 0 the same, 0 differ; reports beside them: 0 the same, 0 differ$'
 mkdir "$scratch/changed" "$scratch/none"
 cp two.river two.report "$scratch/changed"
 echo >> "$scratch/changed/two.report"

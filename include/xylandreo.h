@@ -21,11 +21,13 @@ extern "C" {
 #define XYLANDREO_RV_BYTES 4
 #define XYLANDREO_RE_BYTES 26
 #define XYLANDREO_DM_BYTES 8
+#define XYLANDREO_WD_BYTES 6
 #define XYLANDREO_RECORD 29
 
 /* Bytes of the longest river file, in which every reach has every record, and of the longest report. */
 #define XYLANDREO_MAX_FILE \
-    (XYLANDREO_RV_BYTES + XYLANDREO_MAX_REACHES * (XYLANDREO_RE_BYTES + XYLANDREO_DM_BYTES))
+    (XYLANDREO_RV_BYTES +  \
+     XYLANDREO_MAX_REACHES * (XYLANDREO_RE_BYTES + XYLANDREO_DM_BYTES + XYLANDREO_WD_BYTES))
 #define XYLANDREO_MAX_REPORT (XYLANDREO_MAX_REACHES * XYLANDREO_RECORD)
 
 /*
@@ -71,8 +73,9 @@ static inline uint32_t xylandreo_reach(uint32_t result)
 
 /*
  * What a number means; 1 to 6 are refusals of reading. 10 tests the undecayed BOD, all that has entered the
- * reach and those above it as if nothing had decayed, so a river can be refused with 10 though BOD at
- * the head would be far lower. The script `run` takes its reasons from these lines.
+ * reach and those above it as if nothing had decayed, less what takes draw off, so a river can be refused with
+ * 10 though BOD at the head would be far lower. 7, 8, 10 and 13 go by the flow before the reach's own take, 11 by
+ * the flow after it. The script `run` takes its reasons from these lines.
  */
 static inline const char *xylandreo_reason(uint32_t number)
 {
@@ -87,9 +90,10 @@ static inline const char *xylandreo_reason(uint32_t number)
         "the reach has no flow",
         "the flow is above 100,000,000 L/s",
         "a dam without feeders, or one that generates with more than the flow from above",
-        "all BOD that has entered down to here, as if none had decayed, is above 1,000 mg/L of the flow",
+        "all BOD that entered down to here and was not drawn off, undecayed, is above 1,000 mg/L of the flow",
         "the reach is too long for its rates and must be split",
         "the buffer is too short",
+        "the take is not below the flow at the head",
     };
     return number < sizeof reasons / sizeof *reasons ? reasons[number] : "unknown";
 }
@@ -137,6 +141,9 @@ static const struct xylandreo_kind xylandreo_kinds[] = {
     {"DM", XYLANDREO_DM_BYTES, 1, {
         {"aeration share", 2, 2, 0, 1000, "thousandths"},
         {"generating flow", 4, 4, 0, 100000000, "L/s"},
+    }},
+    {"WD", XYLANDREO_WD_BYTES, 1, {
+        {"take", 2, 4, 0, 100000000, "L/s"},
     }},
 };
 
@@ -238,7 +245,7 @@ static inline struct xylandreo_fault xylandreo_fault_of(const uint8_t *file, siz
  *   at  bytes
  *    0    2   mark, "RP"
  *    2    1   depth: reaches on the longest way down to this one, itself included
- *    3    4   flow, L/s
+ *    3    4   flow after any take, L/s
  *    7    4   BOD at the head
  *   11    4   BOD at the foot
  *   15    4   oxygen at the head, two's complement

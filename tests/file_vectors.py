@@ -8,17 +8,19 @@ import sys
 
 import reference
 import vectors
-from reference import Card, Dam, Refused, River
+from reference import LONGEST, Card, Dam, Refused, River, Take
 
 CRATE = "crates/file_vectors"
 ROOM = 100              # bytes of the buffer to which a river that was read is written again
-CHAIN_ROOM = 4_356      # bytes of the buffer for a chain
+CHAIN_ROOM = LONGEST    # bytes of the buffer for a chain
 
 PLAIN = Card(0, 20, 300, 400, 1000, 3000, 2000, 8000, 70000)
 FIRST = PLAIN._replace(outlet=2)
 MOST = Card(0, 35, 20000, 20000, 1000000000, 100000000, 1000000, 20000, 4294967295, Dam(1000, 100000000))
+MOST_TAKEN = MOST._replace(take=Take(100000000))
 LEAST = Card(0, 0, 0, 0, 0, 0, 0, 0, 0)
 DM = b"DM\x01\xf4\x00\x00\x03\xe8"
+WD = b"WD\x00\x00\x03\xe8"
 
 
 def file(*cards):
@@ -32,6 +34,10 @@ def changed(**fields):
 
 def dammed(share, generating, **fields):
     return changed(dam=Dam(share, generating), **fields)
+
+
+def taken(take, **fields):
+    return changed(take=Take(take), **fields)
 
 
 ONE = file(PLAIN)
@@ -58,12 +64,18 @@ FILES = {
         file(FIRST._replace(dam=Dam(1001, 0)), PLAIN), file(FIRST, PLAIN._replace(dam=Dam(5, 100000001))),
         TWO[:30] + DM + DM + TWO[30:],
     ],
+    "takes": [
+        ONE + b"WD", DAMMED + WD[:5], taken(100000001), taken(100000001, outlet=1), dammed(1001, 0, take=Take(100000001)),
+        file(FIRST._replace(take=Take(4294967295)), PLAIN._replace(outlet=1)), file(FIRST, PLAIN._replace(take=Take(100000001))),
+        ONE + WD + DM, TWO[:30] + WD + DM + TWO[30:], ONE + WD + WD, TWO[:30] + WD + WD + TWO[30:], ONE[:4] + WD + ONE[4:],
+    ],
     "trailing": [ONE + b"D", ONE + b"\x00", ONE + ONE[4:], TWO + b"RE", DAMMED + b"M", DAMMED + DM, TWO[:2] + b"\x00\x01" + changed()[4:] + TWO[30:]],
     "lawful": [
-        ONE, file(LEAST), file(MOST), TWO, DAMMED, dammed(0, 0), dammed(0, 1), dammed(1000, 100000000),
+        ONE, file(LEAST), file(MOST), TWO, DAMMED, dammed(0, 0), dammed(0, 1), dammed(1000, 100000000), taken(0), taken(100000000),
         file(FIRST._replace(dam=Dam(0, 0)), PLAIN), file(FIRST, PLAIN._replace(dam=Dam(500, 1000))),
         file(PLAIN._replace(outlet=3), PLAIN._replace(outlet=3), PLAIN),
         file(PLAIN._replace(outlet=2), PLAIN._replace(outlet=3, dam=Dam(7, 8)), PLAIN),
+        file(FIRST, PLAIN._replace(dam=Dam(7, 8), take=Take(2999))), file(MOST_TAKEN),
     ],
 }
 
@@ -76,6 +88,9 @@ RIVERS = [
     ([FIRST._replace(dam=Dam(1001, 0)), PLAIN._replace(k2=20001)], 60), ([FIRST, PLAIN._replace(inflow_oxygen=20001)], 60),
     ([FIRST._replace(outlet=3), PLAIN], 60), ([FIRST._replace(volume=1000000001), PLAIN], 60), ([FIRST._replace(inflow=100000001), PLAIN], 60),
     ([FIRST._replace(inflow_bod=1000001), PLAIN], 60),
+    ([PLAIN._replace(take=Take(0))], 36), ([PLAIN._replace(take=Take(0))], 35), ([PLAIN._replace(take=Take(100000001))], 40),
+    ([PLAIN._replace(outlet=1, take=Take(100000001))], 40), ([FIRST._replace(take=Take(100000001)), PLAIN._replace(outlet=9)], 70),
+    ([FIRST, PLAIN._replace(dam=Dam(1, 2), take=Take(4294967295))], 70), ([FIRST._replace(take=Take(5)), MOST_TAKEN], 76),
 ]
 
 # Chains of so many reaches are written and read again.
@@ -99,8 +114,8 @@ def written(river, room):
 
 
 def card_line(card):
-    dam = "" if card.dam is None else f" dam {card.dam.share} {card.dam.generating}"
-    return " ".join(map(str, reference.reach_values(card))) + dam + "\n"
+    added = "".join(f" {kind.name} {' '.join(map(str, values))}" for kind, values in reference.added_records(card))
+    return " ".join(map(str, reference.reach_values(card))) + added + "\n"
 
 
 def shown(data):
@@ -121,7 +136,7 @@ def many(count):
 def output():
     return "".join([shown(data) for files in FILES.values() for data in files]
                    + [written(River(cards), room) for cards, room in RIVERS]
-                   + [many(count) for count in COUNTS])
+                   + [many(count) for count in COUNTS] + [f"longest {LONGEST}\n"])
 
 
 # ---- The source
@@ -131,16 +146,35 @@ def literal(data):
     return 'b"' + "".join(chr(byte) if byte < 128 and chr(byte).isalnum() else f"\\x{byte:02x}" for byte in data) + '"'
 
 
-def card_value(card):
-    """A card of Rattle."""
-    dam = "Dam::Absent" if card.dam is None else f"Dam::Aerating {{ share: {card.dam.share}, generating: {card.dam.generating} }}"
-    return "Card { " + ", ".join(f"{name}: {number}" for name, number in reference.reach_values(card)._asdict().items()) + f", dam: {dam} }}"
+def dam_value(dam):
+    return "Dam::Absent" if dam is None else f"Dam::Aerating {{ share: {dam.share}, generating: {dam.generating} }}"
+
+
+def take_value(take):
+    return "Amount::Without" if take is None else f"Amount::Given({take.take})"
+
+
+def card_function(head, card, *given):
+    """A function that yields a card, with some of its fields given as parameters of the same name."""
+    fields = reference.reach_values(card)._asdict() | {"dam": dam_value(card.dam), "take": take_value(card.take)}
+    return [f"fn {head} -> Card {{", "Card { " + ", ".join(name if name in given else f"{name}: {value}" for name, value in fields.items()) + " }", "}", ""]
+
+
+def card_statements(name, card):
+    """The statements that make a card: the largest, or a plain one with some fields changed."""
+    if card in (MOST, MOST_TAKEN):
+        return [f"let {name} = most({take_value(card.take)});"]
+    changes = [f"{name}.{field} = {number};" for field, number in reference.reach_values(card)._asdict().items()
+               if field != "outlet" and number != getattr(PLAIN, field)]
+    return [f"let {'mut ' if changes else ''}{name} = plain({card.outlet}, {dam_value(card.dam)}, {take_value(card.take)});"] + changes
 
 
 def writing(cards, room):
     """The statements that write some cards to a buffer."""
-    call = f"{'wrote' if len(cards) == 1 else 'wrote_two'}({', '.join(map(card_value, cards))}, "
-    return f"let mut out = [7u8; {room}]; {call}&mut out);" if room else f"{call}&mut []);"
+    names = "cd"[:len(cards)]
+    lines = [line for name, card in zip(names, cards) for line in card_statements(name, card)]
+    call = f"{'wrote' if len(cards) == 1 else 'wrote_two'}({', '.join(names)}, "
+    return " ".join(lines + ([f"let mut out = [7u8; {room}]; {call}&mut out);"] if room else [f"{call}&mut []);"]))
 
 
 def functions(name, lines, each=6):
@@ -153,9 +187,12 @@ def source():
     for name, files in FILES.items():
         bodies |= functions(name, [f"show({literal(data)});" for data in files])
     bodies |= functions("rivers", [writing(cards, room) for cards, room in RIVERS], each=4)
-    bodies |= functions("counts", [f"many({count});" for count in COUNTS])
+    bodies |= functions("counts", [f"many({count});" for count in COUNTS] + ["longest();"], each=7)
     lines = ["// Vectors of the test program, made by tests/file_vectors.py from the reference program.",
-             "use crate::shown::{many, show, wrote, wrote_two};", "use river::card::{Card, Dam};", ""]
+             "use crate::shown::{longest, many, show, wrote, wrote_two};", "use river::card::{Amount, Card, Dam};", "",
+             "// The plain card with this outlet, dam and take."]
+    lines += card_function("plain(outlet: u8, dam: Dam, take: Amount)", PLAIN, "outlet", "dam", "take")
+    lines += ["// The card with the largest number in every field, and this take."] + card_function("most(take: Amount)", MOST, "take")
     for name, body in bodies.items():
         lines += [f"fn {name}() {{"] + body + ["}", ""]
     lines += ["// Every vector, in the order of the stored output.", "pub fn all() {"] + [f"{name}();" for name in bodies] + ["}", ""]

@@ -1,14 +1,14 @@
 """Generated river files of every kind: accepted ones of many shapes and sizes, and refused ones for every rule.
 
 `files(seed, total)` gives them one by one, accepted and refused in turn. The kinds of each sort come round in a shuffled order, so that
-some 300 files hold every kind. Nothing of the program under test goes into them, and reference.py says which answer is due.
+some 320 files hold every kind. Nothing of the program under test goes into them, and reference.py says which answer is due.
 """
 
 import os
 import random
 
 import reference
-from reference import AFTER_REACH, HEADER, LONGEST, REACH, Card, Dam, Reach, Refused, River
+from reference import AFTER_REACH, DAM, HEADER, LONGEST, REACH, TAKE, Card, Dam, Reach, Refused, River, Take
 
 MOST_FLOW = 100_000_000
 MOST_RATE = 20_000
@@ -89,13 +89,21 @@ DAMS = {
     "ends": lambda rng, Qu: Dam(rng.choice((0, 1, 999, 1_000)), rng.choice((0, min(1, Qu), Qu - 1, Qu))),
 }
 
+# The take from a mixed flow, or None.
+TAKES = {
+    "none": lambda rng, Qm: None,
+    "some": lambda rng, Qm: rng.choice((None, Take(rng.randint(0, Qm - 1)))),
+    "all": lambda rng, Qm: Take(pick(rng, Qm - 1)),
+    "ends": lambda rng, Qm: Take(rng.choice((0, min(1, Qm - 1), Qm - 1))),
+}
+
 TEMPERATURES = {
     "any": lambda rng: rng.randint(0, 35),
     "ends": lambda rng: rng.choice((0, 35)),
     "warm": lambda rng: rng.randint(25, 35),
 }
 
-TABLES = {"shape": SHAPES, "flow": FLOWS, "rates": RATES, "volume": VOLUMES, "water": WATERS, "dams": DAMS, "temperature": TEMPERATURES}
+TABLES = {"shape": SHAPES, "flow": FLOWS, "rates": RATES, "volume": VOLUMES, "water": WATERS, "dams": DAMS, "takes": TAKES, "temperature": TEMPERATURES}
 
 # What a style fixes; the rest is drawn once for a river. "each" draws anew for each reach.
 STYLES = {
@@ -110,6 +118,12 @@ STYLES = {
     "dams": {"dams": "all", "shape": "near"},
     "dam ends": {"dams": "ends"},
     "warm dams": {"dams": "all", "temperature": "warm", "water": "rich"},
+    "takes": {"takes": "all", "shape": "near"},
+    "take ends": {"takes": "ends"},
+    "takes at dams": {"takes": "all", "dams": "all", "shape": "chain"},
+    "takes of sources": {"takes": "all", "flow": "sources", "volume": "long"},
+    "takes and dams at ends": {"takes": "ends", "dams": "ends", "flow": "tiny"},
+    "foul takes": {"takes": "some", "water": "foul", "volume": "long"},
     "tiny": {"flow": "tiny", "volume": "small"},
     "tiny long": {"flow": "tiny", "volume": "long"},
     "huge": {"flow": "huge", "volume": "long"},
@@ -157,11 +171,11 @@ def lawful_card(rng, fixed, outlet, feeders, room):
     k1, k2 = way("rates")(rng)
     bod, oxygen, hundredths = way("water")(rng)
     card = Card(outlet, way("temperature")(rng), k1, k2, 0, inflow, bod, oxygen, 0)
-    so_far = Reach(0, card, feeders)
-    load = (1_000_000 * so_far.Q - so_far.M) // 1_000 * hundredths // 100
+    so_far = Reach(0, card._replace(take=way("takes")(rng, Reach(0, card, feeders).Qm)), feeders)
+    load = (1_000_000 * so_far.Qm - so_far.Mm) // 1_000 * hundredths // 100
     volume = way("volume")(rng, min(MOST_VOLUME, 345_600 * so_far.Q // max(k1, k2, 1)))
     dam = way("dams")(rng, so_far.Qu) if feeders else None
-    return card._replace(load=min(load, MOST_LOAD), volume=volume, dam=dam)
+    return so_far.card._replace(load=min(load, MOST_LOAD), volume=volume, dam=dam)
 
 
 # ---- Rivers on a limit and just past it
@@ -173,9 +187,9 @@ def replaced(river, i, **fields):
     return River(cards)
 
 
-def flow_limit(past):
-    """Check 8 at the reach i."""
-    return lambda rng, river, i, reach: replaced(river, i, inflow=MOST_FLOW - reach.Qu + past, inflow_bod=0, load=0)
+def flow_limit(past, **fields):
+    """Check 8 at the reach i; past it only where there are feeders, since the inflow has the same limit."""
+    return lambda rng, river, i, reach: reach.Qu >= past and replaced(river, i, inflow=MOST_FLOW - reach.Qu + past, inflow_bod=0, load=0, **fields)
 
 
 def dam_limit(past):
@@ -186,7 +200,7 @@ def dam_limit(past):
 def bod_limit(past):
     """Check 10."""
     def change(rng, river, i, reach):
-        load = reach.card.load + (1_000_000 * reach.Q - reach.M) // 1_000 + past
+        load = reach.card.load + (1_000_000 * reach.Qm - reach.Mm) // 1_000 + past
         return load <= MOST_LOAD and replaced(river, i, load=load)
     return change
 
@@ -200,6 +214,51 @@ def length_limit(rate, other, past):
     return change
 
 
+def take_limit(past, **fields):
+    """Check 13. The volume is 0, so that check 11 passes whatever is left."""
+    def change(rng, river, i, reach):
+        take = reach.Qm - 1 + past
+        return take <= MOST_FLOW and replaced(river, i, take=Take(take), volume=0, **fields)
+    return change
+
+
+def length_after_take(past):
+    """Check 11, where the flow before the take would pass."""
+    def change(rng, river, i, reach):
+        k, left = rng.randint(1, MOST_RATE), rng.randint(1, max(1, reach.Qm - 1))
+        volume = 345_600 * left // k + past
+        return left < reach.Qm and volume <= MOST_VOLUME and replaced(river, i, k1=k, k2=0, volume=volume, take=Take(reach.Qm - left))
+    return change
+
+
+def first_with_take(rng):
+    """A first reach with a take, whose Mm / Qm is mostly no whole number."""
+    inflow = rng.randint(2, 10_000)
+    return Card(2, 20, 0, 0, 0, inflow, rng.randint(0, MOST_BOD // 2), rng.randint(0, MOST_OXYGEN), rng.randint(0, 500 * inflow),
+                take=Take(rng.randint(1, inflow - 1)))
+
+
+def first_with_cut(rng):
+    """One by whose take M is cut: Mm is `few` below 1,000,000 × Qm, so Mm / Qm is rounded to 999,999, and a take of more than `few` would leave
+    M above 1,000,000 × Q."""
+    few, load = rng.randint(1, 999), rng.randint(1, 9)
+    inflow = 1_000 * load + few
+    return Card(2, 20, 0, 0, 0, inflow, MOST_BOD - 1, rng.randint(0, MOST_OXYGEN), load, take=Take(rng.randint(few + 1, inflow - 1)))
+
+
+def bod_below_take(first_reach, past):
+    """Check 10 below a take, to the last digit of M: the second reach brings all the BOD that there is room for."""
+    def river(rng):
+        first = first_reach(rng)
+        above = Reach(1, first, [])
+        room = 1_000_000 * (above.Q + 1) - above.M + past
+        return River([first, Card(0, 20, 0, 0, 0, 1, room % 1_000, rng.randint(0, MOST_OXYGEN), room // 1_000)])
+    return river
+
+
+BELOW_A_TAKE = {"below a take": first_with_take, "below a cut": first_with_cut}
+
+
 # Each change is given a river, a reach of it and its flows, and gives a changed river, or a false value where it does not fit.
 ON_A_LIMIT = {
     "on check 8": flow_limit(0),
@@ -207,6 +266,8 @@ ON_A_LIMIT = {
     "on check 10": bod_limit(0),
     "on check 11 k1": length_limit("k1", "k2", 0),
     "on check 11 k2": length_limit("k2", "k1", 0),
+    "on check 11 after a take": length_after_take(0),
+    "on check 13": take_limit(0),
 }
 PAST_A_LIMIT = {
     "check 7": lambda rng, river, i, reach: not reach.feeders and replaced(river, i, inflow=0),
@@ -216,13 +277,22 @@ PAST_A_LIMIT = {
     "check 10": bod_limit(1),
     "check 11 k1": length_limit("k1", "k2", 1),
     "check 11 k2": length_limit("k2", "k1", 1),
+    "check 11 after a take": length_after_take(1),
+    "check 13": take_limit(1),
+    "check 13 one more": take_limit(2),
+    # The flow before the take counts.
+    "check 8 before a take": flow_limit(1, take=Take(MOST_FLOW)),
     # Two checks are broken, and the first of them is due.
     "check 7 and 9": lambda rng, river, i, reach: not reach.feeders and replaced(river, i, inflow=0, dam=Dam(1, 1)),
     "check 7 and 10": lambda rng, river, i, reach: not reach.feeders and replaced(river, i, inflow=0, load=1),
-    "check 8 and 9": lambda rng, river, i, reach: replaced(river, i, inflow=MOST_FLOW - reach.Qu + 1, dam=Dam(1, MOST_FLOW)),
+    "check 8 and 9": flow_limit(1, dam=Dam(1, MOST_FLOW)),
     "check 8 and 10": lambda rng, river, i, reach: reach.feeders and replaced(river, i, inflow=MOST_FLOW, inflow_bod=MOST_BOD, load=MOST_LOAD),
-    "check 9 and 10": lambda rng, river, i, reach: reach.Q < 4_000_000 and replaced(river, i, dam=Dam(1, MOST_FLOW), load=MOST_LOAD),
-    "check 10 and 11": lambda rng, river, i, reach: reach.Q < 4_000_000 and replaced(river, i, load=MOST_LOAD, k1=MOST_RATE, volume=MOST_VOLUME),
+    "check 9 and 10": lambda rng, river, i, reach: reach.Qm < 4_000_000 and replaced(river, i, dam=Dam(1, MOST_FLOW), load=MOST_LOAD),
+    "check 7 and 13": lambda rng, river, i, reach: not reach.feeders and replaced(river, i, inflow=0, load=0, take=Take(rng.randint(0, 1))),
+    "check 9 and 13": take_limit(1, dam=Dam(1, MOST_FLOW)),
+    "check 10 and 13": lambda rng, river, i, reach: reach.Qm < 4_000_000 and replaced(river, i, load=MOST_LOAD, take=Take(reach.Qm)),
+    "check 13 and 11": lambda rng, river, i, reach: replaced(river, i, take=Take(reach.Qm), k1=MOST_RATE, volume=MOST_VOLUME),
+    "check 10 and 11": lambda rng, river, i, reach: reach.Qm < 4_000_000 and replaced(river, i, load=MOST_LOAD, k1=MOST_RATE, volume=MOST_VOLUME),
 }
 
 
@@ -246,17 +316,24 @@ def any_reach(rng, n):
 
 
 def most_reaches(rng):
-    """The longest file that is accepted: 128 reaches, each but the first with a dam."""
+    """The longest file that is accepted: 128 reaches, each with a take and each but the first with a dam."""
     river = accepted_river(rng, "chain", 128)
-    return River(river.cards[:1] + [card._replace(dam=Dam(rng.randint(0, 1_000), 0)) for card in river.cards[1:]])
+    cards = [card if card.take else card._replace(take=Take(0)) for card in river.cards]
+    return River(cards[:1] + [card._replace(dam=Dam(rng.randint(0, 1_000), 0)) for card in cards[1:]])
+
+
+def longest_file(rng):
+    """The longest file that is read: every reach of 128 has every record. The flow check refuses the dam of the first."""
+    river = most_reaches(rng)
+    return reference.encode(replaced(river, 1, dam=Dam(0, 0)))
 
 
 # ---- Files that reading refuses
 
 def base_river(rng):
-    """An accepted river with a dam on its last reach and on some other, so that each kind of record is met inside and at the end."""
-    river = accepted_river(rng, "dams", rng.randint(3, 8))
-    return replaced(river, len(river.cards), dam=Dam(rng.randint(0, 1_000), 0))
+    """An accepted river with a dam and a take on its last reach, and each on some other, so that each kind of record is met inside and at the end."""
+    river = replaced(accepted_river(rng, "dams", rng.randint(3, 8)), 2, take=Take(0))
+    return replaced(river, len(river.cards), dam=Dam(rng.randint(0, 1_000), 0), take=Take(0))
 
 
 def starts(river):
@@ -314,6 +391,24 @@ def trailing(more):
     return lambda rng, river: reference.encode(river) + more(rng, reference.encode(river))
 
 
+def inserted(where, record):
+    """A record more, where it is not due: a kind of record, and whether the new one stands behind it or before it."""
+    kind, behind = where
+
+    def damage(rng, river):
+        at = rng.choice(starts(river)[kind.name]) + behind * kind.size
+        file = reference.encode(river)
+        return file[:at] + record + file[at:]
+    return damage
+
+
+def exchanged(rng, river):
+    """Dam and take in the wrong order, after some reach that has both."""
+    file, both = reference.encode(river), DAM.size + TAKE.size
+    at = rng.choice([at for at in starts(river)[DAM.name] if file[at + DAM.size:].startswith(TAKE.mark)])
+    return file[:at] + file[at + DAM.size:at + both] + file[at:at + DAM.size] + file[at + both:]
+
+
 def two_faults(*changes):
     """Faults that stand in different places, so that their order counts: pairs of a reach, from its count, and fields."""
     def damage(rng, river):
@@ -336,16 +431,22 @@ def noise(rng, river):
     return rng.choice((b"", HEADER.encode([rng.randint(1, 128)]))) + rng.randbytes(rng.randint(0, 5_000))
 
 
-def reading_faults():
-    """The kinds of files that reading refuses (the flipped ones mostly)."""
-    kinds = (HEADER, REACH) + AFTER_REACH
-    faults = {f"cut {kind.name} {offset}": cut(kind, offset) for kind in kinds for offset in range(1 if kind in AFTER_REACH else 0, kind.size)}
-    for kind in kinds:
-        for letters in (b"RV", b"RE", b"DM", b"RX", kind.mark.lower(), kind.mark[::-1], b"\0\0"):
+KINDS = (HEADER, REACH) + AFTER_REACH
+
+
+def cut_and_marked():
+    """Records that are cut, and records with another mark."""
+    faults = {f"cut {kind.name} {offset}": cut(kind, offset) for kind in KINDS for offset in range(1 if kind in AFTER_REACH else 0, kind.size)}
+    for kind in KINDS:
+        for letters in [other.mark for other in KINDS if other is not kind] + [b"RX", kind.mark.lower(), kind.mark[::-1], b"\0\0"]:
             if letters != kind.mark:
                 faults[f"mark {kind.name} {letters.hex()}"] = mark(kind, letters)
-    for number in (0, 129, 256, 65_535):
-        faults[f"count {number}"] = count(lambda n, number=number: number)
+    return faults
+
+
+def counts_and_fields():
+    """Counts and fields that are wrong."""
+    faults = {f"count {number}": count(lambda n, number=number: number) for number in (0, 129, 256, 65_535)}
     faults["count one more"] = count(lambda n: n + 1)
     faults["count one less"] = count(lambda n: n - 1)
     for kind in (REACH,) + AFTER_REACH:
@@ -353,32 +454,56 @@ def reading_faults():
             for number in sorted({one.lowest - 1, one.highest + 1, reference.most(one.width)}):
                 if 0 <= number <= reference.most(one.width) and not one.lowest <= number <= one.highest:
                     faults[f"field {one.name} {number}"] = field(kind, one.name, number)
-    faults |= {
-        "outlet own": outlet(lambda n: n - 1, lambda n: n - 1),
-        "outlet above": outlet(lambda n: n - 1, lambda n: n - 2),
-        "outlet none": outlet(lambda n: 1, lambda n: 0),
-        "outlet past": outlet(lambda n: 1, lambda n: n + 1),
-        "outlet far": outlet(lambda n: 2, lambda n: 255),
-        "outlet of last": outlet(lambda n: n, lambda n: n),
-        "outlet of last back": outlet(lambda n: n, lambda n: 1),
-        "trailing zero": trailing(lambda rng, file: b"\0"),
-        "trailing line end": trailing(lambda rng, file: b"\n"),
-        "trailing half mark": trailing(lambda rng, file: b"D"),
-        "trailing mark": trailing(lambda rng, file: rng.choice((b"DM", b"RE", b"RV"))),
-        "trailing dam": trailing(lambda rng, file: file[-8:]),
-        "trailing file": trailing(lambda rng, file: file),
-        "trailing to one too many": trailing(lambda rng, file: bytes(LONGEST + 1 - len(file))),
-        "trailing long": trailing(lambda rng, file: rng.randbytes(LONGEST + rng.randint(0, 9_000))),
-        "field and outlet": two_faults((lambda n: 2, {"temperature": 36, "outlet": 1})),
-        "outlet, then field": two_faults((lambda n: 1, {"outlet": 1}), (lambda n: 2, {"k2": 20_001})),
-        "outlet and dam": two_faults((lambda n: n, {"outlet": 1, "dam": Dam(1_001, 0)})),
-        "field and dam": two_faults((lambda n: n, {"inflow_bod": 1_000_001, "dam": Dam(1_001, 0)})),
-        "dam, then outlet": two_faults((lambda n: 1, {"dam": Dam(0, 100_000_001)}), (lambda n: 2, {"outlet": 0})),
-        "no flow, then field": two_faults((lambda n: 1, {"inflow": 0}), (lambda n: n, {"volume": 1_000_000_001})),
-        "flipped 1": flipped, "flipped 2": flipped, "flipped 3": flipped,
-        "noise 1": noise, "noise 2": noise,
-    }
     return faults
+
+
+OUTLETS_AND_ENDS = {
+    "outlet own": outlet(lambda n: n - 1, lambda n: n - 1),
+    "outlet above": outlet(lambda n: n - 1, lambda n: n - 2),
+    "outlet none": outlet(lambda n: 1, lambda n: 0),
+    "outlet past": outlet(lambda n: 1, lambda n: n + 1),
+    "outlet far": outlet(lambda n: 2, lambda n: 255),
+    "outlet of last": outlet(lambda n: n, lambda n: n),
+    "outlet of last back": outlet(lambda n: n, lambda n: 1),
+    "trailing zero": trailing(lambda rng, file: b"\0"),
+    "trailing line end": trailing(lambda rng, file: b"\n"),
+    "trailing half mark": trailing(lambda rng, file: rng.choice(KINDS).mark[:1]),
+    "trailing mark": trailing(lambda rng, file: rng.choice(KINDS).mark),
+    "trailing dam": trailing(lambda rng, file: DAM.encode(Dam(0, 0))),
+    "trailing take": trailing(lambda rng, file: TAKE.encode(Take(0))),
+    "trailing file": trailing(lambda rng, file: file),
+    "trailing to one too many": trailing(lambda rng, file: bytes(LONGEST + 1 - len(file))),
+    "trailing long": trailing(lambda rng, file: rng.randbytes(LONGEST + rng.randint(0, 9_000))),
+}
+
+TWO_FAULTS = {
+    "field and outlet": two_faults((lambda n: 2, {"temperature": 36, "outlet": 1})),
+    "outlet, then field": two_faults((lambda n: 1, {"outlet": 1}), (lambda n: 2, {"k2": 20_001})),
+    "outlet and dam": two_faults((lambda n: n, {"outlet": 1, "dam": Dam(1_001, 0)})),
+    "field and dam": two_faults((lambda n: n, {"inflow_bod": 1_000_001, "dam": Dam(1_001, 0)})),
+    "dam, then outlet": two_faults((lambda n: 1, {"dam": Dam(0, 100_000_001)}), (lambda n: 2, {"outlet": 0})),
+    "outlet and take": two_faults((lambda n: n, {"outlet": 1, "take": Take(100_000_001)})),
+    "take, then outlet": two_faults((lambda n: 1, {"take": Take(100_000_001)}), (lambda n: 2, {"outlet": 0})),
+    "dam, then take": two_faults((lambda n: n - 1, {"dam": Dam(1_001, 0)}), (lambda n: n, {"take": Take(100_000_001)})),
+    "no flow, then field": two_faults((lambda n: 1, {"inflow": 0}), (lambda n: n, {"volume": 1_000_000_001})),
+}
+
+NOT_DUE = {
+    "take before dam": exchanged,
+    "take twice": inserted((TAKE, True), TAKE.encode(Take(1))),
+    "dam twice": inserted((DAM, True), DAM.encode(Dam(1, 1))),
+    "dam after take": inserted((TAKE, True), DAM.encode(Dam(1, 1))),
+    "take before reach": inserted((HEADER, True), TAKE.encode(Take(1))),
+    "take before header": inserted((HEADER, False), TAKE.encode(Take(1))),
+    "unknown record": inserted((TAKE, True), b"XX\0\0\0\1"),
+}
+
+NOISE = {"flipped 1": flipped, "flipped 2": flipped, "flipped 3": flipped, "noise 1": noise, "noise 2": noise}
+
+
+def reading_faults():
+    """The kinds of files that reading refuses (the flipped ones mostly)."""
+    return cut_and_marked() | counts_and_fields() | OUTLETS_AND_ENDS | TWO_FAULTS | NOT_DUE | NOISE
 
 
 # ---- Files in turn
@@ -395,6 +520,7 @@ def accepted_kinds():
     """Name and maker of every kind of accepted file."""
     kinds = {style: lambda rng, style=style: accepted_river(rng, style, size(rng)) for style in STYLES}
     kinds |= {name: lambda rng, change=change: changed_river(rng, change, last) for name, change in ON_A_LIMIT.items()}
+    kinds |= {f"on check 10 {name}": bod_below_take(first, 0) for name, first in BELOW_A_TAKE.items()}
     kinds["most reaches"] = most_reaches
     return {name: lambda rng, make=make: reference.encode(make(rng)) for name, make in kinds.items()}
 
@@ -403,6 +529,8 @@ def refused_kinds():
     """Name and maker of every kind of refused file."""
     kinds = {name: lambda rng, damage=damage: damage(rng, base_river(rng)) for name, damage in reading_faults().items()}
     kinds |= {name: lambda rng, change=change: reference.encode(changed_river(rng, change, any_reach)) for name, change in PAST_A_LIMIT.items()}
+    kinds |= {f"check 10 {name}": lambda rng, first=first: reference.encode(bod_below_take(first, 1)(rng)) for name, first in BELOW_A_TAKE.items()}
+    kinds |= {"longest file": longest_file, "longest file and a byte": lambda rng: longest_file(rng) + b"\0"}
     return kinds
 
 

@@ -9,25 +9,26 @@ import sys
 
 import reference
 import vectors
-from reference import Card, Dam, Refused, River
+from reference import Card, Dam, Refused, River, Take
 
 CRATE = "crates/head_vectors"
 OFFSET = 2 ** 31        # the program holds oxygen as units + 2^31
 
 
-def card(outlet, temperature=20, k1=0, k2=0, volume=1000, inflow=3000, bod=2000, oxygen=8000, load=0, dam=None):
-    return Card(outlet, temperature, k1, k2, volume, inflow, bod, oxygen, load, Dam(*dam) if dam else None)
+def card(outlet, temperature=20, k1=0, k2=0, volume=1000, inflow=3000, bod=2000, oxygen=8000, load=0, dam=None, take=None):
+    return Card(outlet, temperature, k1, k2, volume, inflow, bod, oxygen, load, Dam(*dam) if dam else None, None if take is None else Take(take))
 
 
-def two(dam=None, **more):
-    return [card(2), card(0, inflow=1000, bod=30000, oxygen=2000, dam=dam, **more)]
+def two(dam=None, above=None, **more):
+    return [card(2, take=above), card(0, inflow=1000, bod=30000, oxygen=2000, dam=dam, **more)]
 
 
-def confluence():
+def confluence(first=None, second=None):
+    """Six reaches, two of them with a take where one is given."""
     return [
         card(3, 5, 300, 500, 40000, 1200, 9000, 9500, 7),
-        card(3, 11, 100, 900, 20000, 700, 1000, 12000),
-        card(6, 17, 400, 400, 90000, 0, 0, 0, 250),
+        card(3, 11, 100, 900, 20000, 700, 1000, 12000, take=first),
+        card(6, 17, 400, 400, 90000, 0, 0, 0, 250, take=second),
         card(5, 35, 20000, 20000, 50, 3, 999999, 1, 0),
         card(6, 0, 1, 2, 3, 4, 5, 6, 3),
         card(0, 23, 250, 700, 1000000, 5000, 3000, 4000, 1000),
@@ -55,7 +56,12 @@ def made(star):
 LEVEL, HIGH, LOW = OFFSET + 8000000, OFFSET + 19900000, OFFSET - 900000000
 GROUPS = {
     "plain": [(two(), LEVEL, 0), (two((500, 1000)), LEVEL, 0), (two((500, 1000), temperature=5), HIGH, 0), (two((1000, 0), temperature=30), HIGH, 7)],
+    "takes": [
+        (two(above=1000), LEVEL, 0), (two(take=1000), LEVEL, 0), (two((500, 1000), above=1999, take=0), LEVEL, 0),
+        ([card(2, inflow=1, bod=999999), card(3, inflow=2, bod=1000000, take=2), card(0, inflow=5, bod=1000000)], LEVEL, 0),
+    ],
     "confluences": [(confluence(), LEVEL, 12345), (confluence(), HIGH, 1), (confluence(), LOW, 1234567)],
+    "confluences_taken": [(confluence(333, 1), LOW, 1234567)],
     "dams_level": [(dams(), LEVEL, 54321)],
     "dams_high": [(dams(), HIGH, 3)],
     "dams_low": [(dams(), LOW, 777777)],
@@ -82,6 +88,14 @@ GROUPS = {
         ([card(0, inflow=10000, k2=1000, volume=3456000)], LEVEL, 0),
         ([card(0, inflow=10000, k2=1000, volume=3456001)], LEVEL, 0),
         ([card(2), card(0, k1=20000, k2=20000, volume=1000000000)], LEVEL, 0),
+        ([card(0, inflow=10000, k1=1000, volume=3456000, take=1)], LEVEL, 0),
+    ],
+    "refusals_taken": [
+        (two((500, 2001), above=1000), LEVEL, 0),
+        ([card(0, inflow=1, load=4294967295, k1=20000, volume=1000000000, take=1)], LEVEL, 0),
+        (two(above=2999), LEVEL, 0),
+        (two(above=3000), LEVEL, 0),
+        (two(take=4000, k1=20000, volume=1000000000), LEVEL, 0),
     ],
 }
 MADE = [(made(False), 2155483648, 1000), (made(True), 2147000000, 12345)]

@@ -76,13 +76,15 @@ REACH = Kind("RE", "reach",
 DAM = Kind("DM", "dam",
            ("share", 2, 0, 1_000, "aeration share, thousandths"),
            ("generating", 4, 0, 100_000_000, "flow through turbines, not aerated, litres a second"))
-AFTER_REACH = (DAM,)        # the records that may follow a reach, in this order, at most one of a kind
+TAKE = Kind("WD", "take",
+            ("take", 4, 0, 100_000_000, "water drawn off at the head, after mixing, litres a second"))
+AFTER_REACH = (DAM, TAKE)       # the records that may follow a reach, in this order, at most one of a kind
 
 LONGEST = HEADER.size + 128 * (REACH.size + sum(kind.size for kind in AFTER_REACH))
 
 # A card has the numbers of its reach, and for each kind of record after it the values or None.
 Card = namedtuple("Card", [field.name for field in REACH.fields] + [kind.name for kind in AFTER_REACH], defaults=[None] * len(AFTER_REACH))
-Dam = DAM.values
+Dam, Take = DAM.values, TAKE.values
 River = namedtuple("River", "cards")
 
 
@@ -215,16 +217,23 @@ def write(river, room):
 # ---- Flows and depth
 
 class Reach:
-    """A reach with its feeders and what flows in it."""
+    """A reach with its feeders and what flows in it: Qm and Mm at its head, mixed, and Q and M from there on, after its take."""
 
     def __init__(self, number, card, feeders):
         self.number, self.card, self.feeders = number, card, feeders
+        self.take = 0 if card.take is None else card.take.take
         self.Qu = sum(feeder.Q for feeder in feeders)
-        self.Q = self.Qu + card.inflow
-        self.M = sum(feeder.M for feeder in feeders) + card.inflow * card.inflow_bod + 1_000 * card.load
+        self.Qm = self.Qu + card.inflow
+        self.Mm = sum(feeder.M for feeder in feeders) + card.inflow * card.inflow_bod + 1_000 * card.load
+        self.Q = self.Qm - self.take
         self.depth = 1 + max((feeder.depth for feeder in feeders), default=0)
         self.allowance = UNITS_A_STEP * self.depth
         self.saturation = saturation(card.temperature)
+
+    @property
+    def M(self):
+        """Of a reach that passes the flow check, since it divides by Qm."""
+        return min(self.Mm - self.take * (self.Mm // self.Qm), 1_000_000 * self.Q)
 
     def keeps_bod(self):
         return self.card.k1 == 0 or self.card.volume == 0
@@ -237,10 +246,11 @@ def flow_check(reach):
     """The checks on flows, in their order."""
     card, dam = reach.card, reach.card.dam
     for number, broken, why in (
-            (7, reach.Q == 0, "there is no flow"),
-            (8, reach.Q > 100_000_000, f"the flow is {reach.Q}"),
+            (7, reach.Qm == 0, "there is no flow"),
+            (8, reach.Qm > 100_000_000, f"the flow is {reach.Qm}"),
             (9, dam is not None and (not reach.feeders or dam.generating > reach.Qu), f"the dam has {reach.Qu} from above"),
-            (10, reach.M > 1_000_000 * reach.Q, f"M is {reach.M} at a flow of {reach.Q}"),
+            (10, reach.Mm > 1_000_000 * reach.Qm, f"M is {reach.Mm} at a flow of {reach.Qm}"),
+            (13, reach.take >= reach.Qm, f"the take is {reach.take} of a flow of {reach.Qm}"),
             (11, max(card.k1, card.k2) * card.volume > 345_600 * reach.Q, f"the reach is too long for a flow of {reach.Q}")):
         if broken:
             raise Refused(number, reach.number, why)
@@ -285,8 +295,8 @@ def upstream(reach, bod_sum, oxygen_sum, rounded):
 
 
 def head(reach, bod_sum, oxygen_sum, rounded):
-    """Step 3: BOD and oxygen at the head, mixed."""
-    card, Qu, part = reach.card, reach.Qu, Fraction(1, reach.Q)
+    """Step 3: BOD and oxygen at the head, mixed. The take leaves both as they are."""
+    card, Qu, part = reach.card, reach.Qu, Fraction(1, reach.Qm)
     bod, oxygen = upstream(reach, bod_sum, oxygen_sum, rounded)
     return (rounded((Qu * bod + 1_000 * card.inflow * card.inflow_bod + 1_000_000 * card.load) * part),
             rounded((Qu * oxygen + 1_000 * card.inflow * card.inflow_oxygen) * part))
@@ -555,7 +565,7 @@ def shown(file):
     river = answer(read, file)
     if isinstance(river, Refused):
         return [f"{river.line()}  ({river.why})"]
-    return [" ".join([f"{reach}:"] + [f"{kind.name} " + ", ".join(f"{name} {number}" for name, number in values._asdict().items())
+    return [" ".join([f"{reach}:"] + [f"{kind.mark.decode()} " + ", ".join(f"{name} {number}" for name, number in values._asdict().items())
                                       for kind, values in [(REACH, reach_values(card))] + added_records(card)])
             for reach, card in enumerate(river.cards, 1)]
 

@@ -13,7 +13,7 @@ from fractions import Fraction
 
 import generate
 import reference
-from reference import BITS, INSTANTS, SERIES, Card, Dam, Point, Reach, Record, Refused, River
+from reference import BITS, INSTANTS, SERIES, Card, Dam, Point, Reach, Record, Refused, River, Take
 from testing import expect, run_tests
 
 WORKED = [Card(2, 20, 0, 0, 1_000, 3_000, 2_000, 8_000, 0), Card(0, 20, 0, 0, 1_000, 1_000, 30_000, 2_000, 0)]
@@ -97,6 +97,33 @@ def bench_values():
     return "bench values"
 
 
+def takes():
+    """The bench values of the paper that have a take."""
+    def worked(first, second):
+        cards = [card._replace(take=None if take is None else Take(take)) for card, take in zip(WORKED, (first, second))]
+        return reference.encode(River(cards))
+
+    first, second = WORKED_LINES.splitlines(keepends=True)
+    for what, file, lines in (
+            ("a take of 1,000 at reach 1", worked(1_000, None), b"1 1 2000 2000000 2000000 8000000 0 8000000 8000000\n2 2 3000 11333333 11333333 6000000 0 6000000 6000000\n"),
+            ("a take of 1,000 at reach 2", worked(None, 1_000), first + b"2 2 3000 9000000 9000000 6500000 0 6500000 6500000\n"),
+            ("takes of 0", worked(0, 0), first + second)):
+        expect(what, is_right(file, lines), True)
+    one = Card(0, 20, 1_000, 0, 3_456_000, 10_000, 0, 0, 0)
+    for what, file, due in (
+            ("a take of 2,999 at reach 1", worked(2_999, None), "accepted"), ("a take of 3,000 at reach 1", worked(3_000, None), "refused 13 reach 1"),
+            ("a take of 1 at the longest reach", reference.encode(River([one._replace(take=Take(1))])), "refused 11 reach 1"),
+            ("a take above 100,000,000", worked(100_000_001, None), "refused 4 reach 1"),
+            ("a take before a dam", worked(None, 1) + reference.DAM.encode(Dam(0, 0)), "refused 6 reach 0")):
+        expect(what, answer_line(file), due)
+    cut, = reference.flows(River([Card(0, 20, 0, 0, 0, 3, 999_999, 0, 0, take=Take(2))]))
+    expect("M within the limit", (cut.Mm, cut.M), (2_999_997, 999_999))
+    feeder, cut = reference.flows(River([Card(2, 20, 0, 0, 0, 1, 999_999, 0, 0), Card(0, 20, 0, 0, 0, 2, 1_000_000, 0, 0, take=Take(2))]))
+    expect("M cut to the limit", (feeder.M, cut.Qm, cut.Mm, cut.Q, cut.M), (999_999, 3, 2_999_999, 1, 1_000_000))
+    expect("no take and a take of 0", worked(None, None) != worked(0, None) != worked(0, 0), True)
+    return "takes"
+
+
 # ---- Bounds
 
 def drawn_reaches(rng, count):
@@ -172,6 +199,8 @@ def wrong_records(rng, reaches, records):
         changes.append(("not the first instant", {"instant": 1}))
     if record.foot_oxygen != record.critical:
         changes.append(("the foot's instant", {"instant": INSTANTS}))
+    if reach.take:
+        changes.append(("Q before the take", {"Q": reach.Qm}))
     for what, fields in changes:
         yield what, records[:reach.number - 1] + [record._replace(**fields)] + records[reach.number:]
 
@@ -237,19 +266,19 @@ def same_at_both_speeds():
 # ---- Generated files
 
 def every_kind():
-    """300 generated files hold every kind, every refusal of reading and of the flow check, and many accepted rivers."""
+    """320 generated files hold every kind, every refusal of reading and of the flow check, and many accepted rivers."""
     answers, names = [], set()
-    for name, file in generate.files(1, 300):
+    for name, file in generate.files(1, 320):
         names.add(name.split("-", 1)[1])
         answers.append(answer_line(file))
     expect("kinds", len(names), len(generate.accepted_kinds()) + len(generate.refused_kinds()))
     numbers = {int(line.split()[1]) for line in answers if line != "accepted"}
-    expect("refusals", numbers, set(range(1, 12)))
+    expect("refusals", numbers, set(range(1, 12)) | {13})
     expect("the odd ones are accepted", set(answers[::2]), {"accepted"})
     return f"{len(names)} kinds of generated files"
 
 
-TESTS = (paper_agrees, bench_values, exact_values, bounds_hold, exact_limits, verdicts, same_at_both_speeds, every_kind)
+TESTS = (paper_agrees, bench_values, takes, exact_values, bounds_hold, exact_limits, verdicts, same_at_both_speeds, every_kind)
 
 
 if __name__ == "__main__":

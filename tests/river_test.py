@@ -58,11 +58,27 @@ def generated_come_back(count=60):
     return f"{back} of {count} generated files both ways"
 
 
+def make(text):
+    """The file that a text makes."""
+    return river("make", "-", "-", given=text.encode())
+
+
+def takes():
+    """Texts with an irrigation take."""
+    both = make(NINE + " dam 5 6 take 7")
+    expect("a dam and a take", (both[0], both[1][-14:], both[2]), (0, b"DM\0\5\0\0\0\6WD\0\0\0\7", ""))
+    expect("a take and a dam", make(NINE + " take 7 dam 5 6"), both)
+    expect("a take of 0", make(NINE + " take 0"), (0, make(NINE)[1] + b"WD\0\0\0\0", ""))
+    for text, parts in (
+            (NINE + " take", ("line 1", "0 numbers where take has 1")),
+            (NINE + " take 5 dam 5 6 take 5", ("line 1", "'take' stands twice")),
+            (NINE + " take 4_294_967_296", ("line 1", "take", "0 to 4294967295"))):
+        one_line(f"'{text[:60]}'", make(text), 1, *parts)
+    return "texts with takes"
+
+
 def texts():
     """Texts that are taken, and texts that are not."""
-    def make(text):
-        return river("make", "-", "-", given=text.encode())
-
     plain = make(NINE)[1]
     for same in (f"{NINE}\n", f"# a\n\n  {NINE}  # b\r\n", "\ufeff" + NINE, NINE.replace("1000", "1_000"), NINE.replace(" ", "\t"), NINE.replace("3000", "0003000")):
         expect(f"'{same}'", make(same), (0, plain, ""))
@@ -81,7 +97,7 @@ def texts():
             (NINE + " 1", ("line 1", "10 numbers")),
             (NINE + " dam 5", ("line 1", "1 number where dam", "share generating")),
             (NINE + " dam 5 6 dam 5 6", ("line 1", "'dam' stands twice")),
-            (NINE + " weir 5 6", ("line 1", "'weir'", "dam")),
+            (NINE + " weir 5 6", ("line 1", "'weir'", "dam, take")),
             (NINE + " dam 5 65536000000", ("line 1", "generating", "0 to 4294967295"))):
         one_line(f"'{text[:60]}'", make(text), 1, *parts)
     for text, parts in (
@@ -89,6 +105,7 @@ def texts():
             ("2" + NINE[1:], ("line 1", "outlet", "2", "0 to 0")),
             (f"{NINE}\n{NINE}", ("line 1", "outlet", "0", "2 to 2")),
             (NINE + " dam 1001 0", ("line 1", "share", "1001", "0 to 1000")),
+            (NINE + " take 100_000_001", ("line 1", "take", "100000001", "0 to 100000000")),
             ("", ("count", "0", "1 to 128"))):
         status, file, said = make(text)
         if status or not file or "warning" not in said or not all(part in said for part in parts):
@@ -99,11 +116,13 @@ def texts():
 def broken_files():
     """Files without a text."""
     file = river("make", "-", "-", given=f"2{NINE[1:]}\n{NINE} dam 5 6".encode())[1]
+    taken = river("make", "-", "-", given=f"{NINE} take 5".encode())[1]
     for broken, parts in (
             (b"", ("byte 0", "4 bytes")), (file[:3], ("byte 0", "4 bytes", "are 3")), (file[:40], ("reach 2", "byte 30", "26 bytes", "are 10", "counts 2")),
             (file[:-1], ("reach 2", "byte 56", "8 bytes", "are 7")), (file + b"\n", ("byte 64", "1 byte too many")), (b"XV" + file[2:], ("byte 0", "XV", "RV")),
             (file[:30] + b"RX" + file[32:], ("reach 2", "byte 30", "RX", "RE")), (file[:3] + b"\1" + file[4:], ("byte 30", "34 bytes", "counts 1")),
-            (file[:2] + b"\xff\xff" + file[4:], ("reach 3", "byte 64", "counts 65535"))):
+            (file[:2] + b"\xff\xff" + file[4:], ("reach 3", "byte 64", "counts 65535")), (taken[:-1], ("reach 1", "byte 30", "WD", "6 bytes", "are 5")),
+            (taken + taken[30:], ("byte 36", "6 bytes too many")), (taken + file[56:], ("byte 36", "8 bytes too many"))):
         one_line(f"{broken[:40]}", river("show", "-", given=broken), 1, *parts)
     return "broken files"
 
@@ -145,7 +164,7 @@ def wrong_uses():
     return "wrong uses"
 
 
-TESTS = (examples_come_back, generated_come_back, texts, broken_files, wrong_uses)
+TESTS = (examples_come_back, generated_come_back, texts, takes, broken_files, wrong_uses)
 
 
 if __name__ == "__main__":

@@ -1,10 +1,12 @@
 // Readings and writings, printed.
+use river::card::Amount;
 use river::card::Card;
 use river::card::Cards;
 use river::card::Dam;
 use river::card::LONGEST_FILE;
 use river::card::REACHES;
 use river::card::blank;
+use river::card::longest_file;
 use river::file::read_file;
 use river::refusal::Outcome;
 use river::refusal::Refusal;
@@ -46,6 +48,16 @@ fn dam(d: Dam) {
     }
 }
 
+fn take(t: Amount) {
+    match t {
+        Amount::Without => {}
+        Amount::Given(litres) => {
+            io::write_all(1, b" take ");
+            io::print_decimal(1, litres as u64);
+        }
+    }
+}
+
 // The fields of a card up to its volume.
 fn start(c: Card) {
     number(c.outlet as u64);
@@ -64,6 +76,8 @@ fn card(c: Card) {
     io::print_decimal(1, c.load as u64);
     let d = c.dam;
     dam(d);
+    let t = c.take;
+    take(t);
     end();
 }
 
@@ -182,4 +196,9 @@ pub fn many(n: u8) {
             reread(&out, l);
         }
     }
+}
+
+// The length of the longest file.
+pub fn longest() {
+    count(b"longest ", longest_file());
 }

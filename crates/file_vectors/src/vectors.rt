@@ -1,10 +1,49 @@
 // Vectors of the test program, made by tests/file_vectors.py from the reference program.
+use crate::shown::longest;
 use crate::shown::many;
 use crate::shown::show;
 use crate::shown::wrote;
 use crate::shown::wrote_two;
+use river::card::Amount;
 use river::card::Card;
 use river::card::Dam;
+
+// The plain card with this outlet, dam and take.
+fn plain(outlet: u8, dam: Dam, take: Amount) -> Card {
+    Card {
+        outlet,
+        temperature: 20,
+        k1: 300,
+        k2: 400,
+        volume: 1000,
+        inflow: 3000,
+        inflow_bod: 2000,
+        inflow_oxygen: 8000,
+        load: 70000,
+        dam,
+        take,
+    }
+}
+
+// The card with the largest number in every field, and this take.
+fn most(take: Amount) -> Card {
+    Card {
+        outlet: 0,
+        temperature: 35,
+        k1: 20000,
+        k2: 20000,
+        volume: 1000000000,
+        inflow: 100000000,
+        inflow_bod: 1000000,
+        inflow_oxygen: 20000,
+        load: 4294967295,
+        dam: Dam::Aerating {
+            share: 1000,
+            generating: 100000000,
+        },
+        take,
+    }
+}
 
 fn headers1() {
     show(b"");
@@ -165,6 +204,48 @@ fn dams2() {
     );
 }
 
+fn takes1() {
+    show(
+        b"RV\x00\x01RE\x00\x14\x01\x2c\x01\x90\x00\x00\x03\xe8\x00\x00\x0b\xb8\x00\x00\x07\xd0\x1f\x40\x00\x01\x11pWD",
+    );
+    show(
+        b"RV\x00\x01RE\x00\x14\x01\x2c\x01\x90\x00\x00\x03\xe8\x00\x00\x0b\xb8\x00\x00\x07\xd0\x1f\x40\x00\x01\x11pDM\x01\xf4\x00\x00\x03\xe8WD\x00\x00\x03",
+    );
+    show(
+        b"RV\x00\x01RE\x00\x14\x01\x2c\x01\x90\x00\x00\x03\xe8\x00\x00\x0b\xb8\x00\x00\x07\xd0\x1f\x40\x00\x01\x11pWD\x05\xf5\xe1\x01",
+    );
+    show(
+        b"RV\x00\x01RE\x01\x14\x01\x2c\x01\x90\x00\x00\x03\xe8\x00\x00\x0b\xb8\x00\x00\x07\xd0\x1f\x40\x00\x01\x11pWD\x05\xf5\xe1\x01",
+    );
+    show(
+        b"RV\x00\x01RE\x00\x14\x01\x2c\x01\x90\x00\x00\x03\xe8\x00\x00\x0b\xb8\x00\x00\x07\xd0\x1f\x40\x00\x01\x11pDM\x03\xe9\x00\x00\x00\x00WD\x05\xf5\xe1\x01",
+    );
+    show(
+        b"RV\x00\x02RE\x02\x14\x01\x2c\x01\x90\x00\x00\x03\xe8\x00\x00\x0b\xb8\x00\x00\x07\xd0\x1f\x40\x00\x01\x11pWD\xff\xff\xff\xffRE\x01\x14\x01\x2c\x01\x90\x00\x00\x03\xe8\x00\x00\x0b\xb8\x00\x00\x07\xd0\x1f\x40\x00\x01\x11p",
+    );
+}
+
+fn takes2() {
+    show(
+        b"RV\x00\x02RE\x02\x14\x01\x2c\x01\x90\x00\x00\x03\xe8\x00\x00\x0b\xb8\x00\x00\x07\xd0\x1f\x40\x00\x01\x11pRE\x00\x14\x01\x2c\x01\x90\x00\x00\x03\xe8\x00\x00\x0b\xb8\x00\x00\x07\xd0\x1f\x40\x00\x01\x11pWD\x05\xf5\xe1\x01",
+    );
+    show(
+        b"RV\x00\x01RE\x00\x14\x01\x2c\x01\x90\x00\x00\x03\xe8\x00\x00\x0b\xb8\x00\x00\x07\xd0\x1f\x40\x00\x01\x11pWD\x00\x00\x03\xe8DM\x01\xf4\x00\x00\x03\xe8",
+    );
+    show(
+        b"RV\x00\x02RE\x02\x14\x01\x2c\x01\x90\x00\x00\x03\xe8\x00\x00\x0b\xb8\x00\x00\x07\xd0\x1f\x40\x00\x01\x11pWD\x00\x00\x03\xe8DM\x01\xf4\x00\x00\x03\xe8RE\x00\x14\x01\x2c\x01\x90\x00\x00\x03\xe8\x00\x00\x0b\xb8\x00\x00\x07\xd0\x1f\x40\x00\x01\x11p",
+    );
+    show(
+        b"RV\x00\x01RE\x00\x14\x01\x2c\x01\x90\x00\x00\x03\xe8\x00\x00\x0b\xb8\x00\x00\x07\xd0\x1f\x40\x00\x01\x11pWD\x00\x00\x03\xe8WD\x00\x00\x03\xe8",
+    );
+    show(
+        b"RV\x00\x02RE\x02\x14\x01\x2c\x01\x90\x00\x00\x03\xe8\x00\x00\x0b\xb8\x00\x00\x07\xd0\x1f\x40\x00\x01\x11pWD\x00\x00\x03\xe8WD\x00\x00\x03\xe8RE\x00\x14\x01\x2c\x01\x90\x00\x00\x03\xe8\x00\x00\x0b\xb8\x00\x00\x07\xd0\x1f\x40\x00\x01\x11p",
+    );
+    show(
+        b"RV\x00\x01WD\x00\x00\x03\xe8RE\x00\x14\x01\x2c\x01\x90\x00\x00\x03\xe8\x00\x00\x0b\xb8\x00\x00\x07\xd0\x1f\x40\x00\x01\x11p",
+    );
+}
+
 fn trailing1() {
     show(
         b"RV\x00\x01RE\x00\x14\x01\x2c\x01\x90\x00\x00\x03\xe8\x00\x00\x0b\xb8\x00\x00\x07\xd0\x1f\x40\x00\x01\x11pD",
@@ -221,555 +302,216 @@ fn lawful2() {
         b"RV\x00\x01RE\x00\x14\x01\x2c\x01\x90\x00\x00\x03\xe8\x00\x00\x0b\xb8\x00\x00\x07\xd0\x1f\x40\x00\x01\x11pDM\x03\xe8\x05\xf5\xe1\x00",
     );
     show(
+        b"RV\x00\x01RE\x00\x14\x01\x2c\x01\x90\x00\x00\x03\xe8\x00\x00\x0b\xb8\x00\x00\x07\xd0\x1f\x40\x00\x01\x11pWD\x00\x00\x00\x00",
+    );
+    show(
+        b"RV\x00\x01RE\x00\x14\x01\x2c\x01\x90\x00\x00\x03\xe8\x00\x00\x0b\xb8\x00\x00\x07\xd0\x1f\x40\x00\x01\x11pWD\x05\xf5\xe1\x00",
+    );
+    show(
         b"RV\x00\x02RE\x02\x14\x01\x2c\x01\x90\x00\x00\x03\xe8\x00\x00\x0b\xb8\x00\x00\x07\xd0\x1f\x40\x00\x01\x11pDM\x00\x00\x00\x00\x00\x00RE\x00\x14\x01\x2c\x01\x90\x00\x00\x03\xe8\x00\x00\x0b\xb8\x00\x00\x07\xd0\x1f\x40\x00\x01\x11p",
     );
     show(
         b"RV\x00\x02RE\x02\x14\x01\x2c\x01\x90\x00\x00\x03\xe8\x00\x00\x0b\xb8\x00\x00\x07\xd0\x1f\x40\x00\x01\x11pRE\x00\x14\x01\x2c\x01\x90\x00\x00\x03\xe8\x00\x00\x0b\xb8\x00\x00\x07\xd0\x1f\x40\x00\x01\x11pDM\x01\xf4\x00\x00\x03\xe8",
     );
+}
+
+fn lawful3() {
     show(
         b"RV\x00\x03RE\x03\x14\x01\x2c\x01\x90\x00\x00\x03\xe8\x00\x00\x0b\xb8\x00\x00\x07\xd0\x1f\x40\x00\x01\x11pRE\x03\x14\x01\x2c\x01\x90\x00\x00\x03\xe8\x00\x00\x0b\xb8\x00\x00\x07\xd0\x1f\x40\x00\x01\x11pRE\x00\x14\x01\x2c\x01\x90\x00\x00\x03\xe8\x00\x00\x0b\xb8\x00\x00\x07\xd0\x1f\x40\x00\x01\x11p",
     );
     show(
         b"RV\x00\x03RE\x02\x14\x01\x2c\x01\x90\x00\x00\x03\xe8\x00\x00\x0b\xb8\x00\x00\x07\xd0\x1f\x40\x00\x01\x11pRE\x03\x14\x01\x2c\x01\x90\x00\x00\x03\xe8\x00\x00\x0b\xb8\x00\x00\x07\xd0\x1f\x40\x00\x01\x11pDM\x00\x07\x00\x00\x00\x08RE\x00\x14\x01\x2c\x01\x90\x00\x00\x03\xe8\x00\x00\x0b\xb8\x00\x00\x07\xd0\x1f\x40\x00\x01\x11p",
     );
+    show(
+        b"RV\x00\x02RE\x02\x14\x01\x2c\x01\x90\x00\x00\x03\xe8\x00\x00\x0b\xb8\x00\x00\x07\xd0\x1f\x40\x00\x01\x11pRE\x00\x14\x01\x2c\x01\x90\x00\x00\x03\xe8\x00\x00\x0b\xb8\x00\x00\x07\xd0\x1f\x40\x00\x01\x11pDM\x00\x07\x00\x00\x00\x08WD\x00\x00\x0b\xb7",
+    );
+    show(
+        b"RV\x00\x01RE\x00\x23N\x20N\x20\x3b\x9a\xca\x00\x05\xf5\xe1\x00\x00\x0fB\x40N\x20\xff\xff\xff\xffDM\x03\xe8\x05\xf5\xe1\x00WD\x05\xf5\xe1\x00",
+    );
 }
 
 fn rivers1() {
+    let c = plain(0, Dam::Absent, Amount::Without);
     let mut out = [7u8; 30];
-    wrote(
-        Card {
-            outlet: 0,
-            temperature: 20,
-            k1: 300,
-            k2: 400,
-            volume: 1000,
-            inflow: 3000,
-            inflow_bod: 2000,
-            inflow_oxygen: 8000,
-            load: 70000,
-            dam: Dam::Absent,
-        },
-        &mut out,
-    );
+    wrote(c, &mut out);
+    let c = plain(0, Dam::Absent, Amount::Without);
     let mut out = [7u8; 29];
-    wrote(
-        Card {
-            outlet: 0,
-            temperature: 20,
-            k1: 300,
-            k2: 400,
-            volume: 1000,
-            inflow: 3000,
-            inflow_bod: 2000,
-            inflow_oxygen: 8000,
-            load: 70000,
-            dam: Dam::Absent,
-        },
-        &mut out,
-    );
-    wrote(
-        Card {
-            outlet: 0,
-            temperature: 20,
-            k1: 300,
-            k2: 400,
-            volume: 1000,
-            inflow: 3000,
-            inflow_bod: 2000,
-            inflow_oxygen: 8000,
-            load: 70000,
-            dam: Dam::Absent,
-        },
-        &mut [],
-    );
+    wrote(c, &mut out);
+    let c = plain(0, Dam::Absent, Amount::Without);
+    wrote(c, &mut []);
+    let c = plain(0, Dam::Absent, Amount::Without);
     let mut out = [7u8; 40];
-    wrote(
-        Card {
-            outlet: 0,
-            temperature: 20,
-            k1: 300,
-            k2: 400,
-            volume: 1000,
-            inflow: 3000,
-            inflow_bod: 2000,
-            inflow_oxygen: 8000,
-            load: 70000,
-            dam: Dam::Absent,
-        },
-        &mut out,
-    );
+    wrote(c, &mut out);
 }
 
 fn rivers2() {
-    let mut out = [7u8; 38];
-    wrote(
-        Card {
-            outlet: 0,
-            temperature: 20,
-            k1: 300,
-            k2: 400,
-            volume: 1000,
-            inflow: 3000,
-            inflow_bod: 2000,
-            inflow_oxygen: 8000,
-            load: 70000,
-            dam: Dam::Aerating {
-                share: 0,
-                generating: 0,
-            },
+    let c = plain(
+        0,
+        Dam::Aerating {
+            share: 0,
+            generating: 0,
         },
-        &mut out,
+        Amount::Without,
+    );
+    let mut out = [7u8; 38];
+    wrote(c, &mut out);
+    let c = plain(
+        0,
+        Dam::Aerating {
+            share: 0,
+            generating: 0,
+        },
+        Amount::Without,
     );
     let mut out = [7u8; 37];
-    wrote(
-        Card {
-            outlet: 0,
-            temperature: 20,
-            k1: 300,
-            k2: 400,
-            volume: 1000,
-            inflow: 3000,
-            inflow_bod: 2000,
-            inflow_oxygen: 8000,
-            load: 70000,
-            dam: Dam::Aerating {
-                share: 0,
-                generating: 0,
-            },
-        },
-        &mut out,
-    );
+    wrote(c, &mut out);
+    let c = plain(2, Dam::Absent, Amount::Without);
+    let d = plain(0, Dam::Absent, Amount::Without);
     let mut out = [7u8; 56];
-    wrote_two(
-        Card {
-            outlet: 2,
-            temperature: 20,
-            k1: 300,
-            k2: 400,
-            volume: 1000,
-            inflow: 3000,
-            inflow_bod: 2000,
-            inflow_oxygen: 8000,
-            load: 70000,
-            dam: Dam::Absent,
-        },
-        Card {
-            outlet: 0,
-            temperature: 20,
-            k1: 300,
-            k2: 400,
-            volume: 1000,
-            inflow: 3000,
-            inflow_bod: 2000,
-            inflow_oxygen: 8000,
-            load: 70000,
-            dam: Dam::Absent,
-        },
-        &mut out,
-    );
+    wrote_two(c, d, &mut out);
+    let c = plain(2, Dam::Absent, Amount::Without);
+    let d = plain(0, Dam::Absent, Amount::Without);
     let mut out = [7u8; 55];
-    wrote_two(
-        Card {
-            outlet: 2,
-            temperature: 20,
-            k1: 300,
-            k2: 400,
-            volume: 1000,
-            inflow: 3000,
-            inflow_bod: 2000,
-            inflow_oxygen: 8000,
-            load: 70000,
-            dam: Dam::Absent,
-        },
-        Card {
-            outlet: 0,
-            temperature: 20,
-            k1: 300,
-            k2: 400,
-            volume: 1000,
-            inflow: 3000,
-            inflow_bod: 2000,
-            inflow_oxygen: 8000,
-            load: 70000,
-            dam: Dam::Absent,
-        },
-        &mut out,
-    );
+    wrote_two(c, d, &mut out);
 }
 
 fn rivers3() {
+    let c = plain(2, Dam::Absent, Amount::Without);
+    let d = most(Amount::Without);
     let mut out = [7u8; 64];
-    wrote_two(
-        Card {
-            outlet: 2,
-            temperature: 20,
-            k1: 300,
-            k2: 400,
-            volume: 1000,
-            inflow: 3000,
-            inflow_bod: 2000,
-            inflow_oxygen: 8000,
-            load: 70000,
-            dam: Dam::Absent,
+    wrote_two(c, d, &mut out);
+    let mut c = plain(1, Dam::Absent, Amount::Without);
+    c.temperature = 36;
+    let mut out = [7u8; 40];
+    wrote(c, &mut out);
+    let c = plain(1, Dam::Absent, Amount::Without);
+    let mut out = [7u8; 40];
+    wrote(c, &mut out);
+    let c = plain(
+        1,
+        Dam::Aerating {
+            share: 1001,
+            generating: 0,
         },
-        Card {
-            outlet: 0,
-            temperature: 35,
-            k1: 20000,
-            k2: 20000,
-            volume: 1000000000,
-            inflow: 100000000,
-            inflow_bod: 1000000,
-            inflow_oxygen: 20000,
-            load: 4294967295,
-            dam: Dam::Aerating {
-                share: 1000,
-                generating: 100000000,
-            },
-        },
-        &mut out,
+        Amount::Without,
     );
     let mut out = [7u8; 40];
-    wrote(
-        Card {
-            outlet: 1,
-            temperature: 36,
-            k1: 300,
-            k2: 400,
-            volume: 1000,
-            inflow: 3000,
-            inflow_bod: 2000,
-            inflow_oxygen: 8000,
-            load: 70000,
-            dam: Dam::Absent,
-        },
-        &mut out,
-    );
-    let mut out = [7u8; 40];
-    wrote(
-        Card {
-            outlet: 1,
-            temperature: 20,
-            k1: 300,
-            k2: 400,
-            volume: 1000,
-            inflow: 3000,
-            inflow_bod: 2000,
-            inflow_oxygen: 8000,
-            load: 70000,
-            dam: Dam::Absent,
-        },
-        &mut out,
-    );
-    let mut out = [7u8; 40];
-    wrote(
-        Card {
-            outlet: 1,
-            temperature: 20,
-            k1: 300,
-            k2: 400,
-            volume: 1000,
-            inflow: 3000,
-            inflow_bod: 2000,
-            inflow_oxygen: 8000,
-            load: 70000,
-            dam: Dam::Aerating {
-                share: 1001,
-                generating: 0,
-            },
-        },
-        &mut out,
-    );
+    wrote(c, &mut out);
 }
 
 fn rivers4() {
-    let mut out = [7u8; 40];
-    wrote(
-        Card {
-            outlet: 0,
-            temperature: 20,
-            k1: 300,
-            k2: 400,
-            volume: 1000,
-            inflow: 3000,
-            inflow_bod: 2000,
-            inflow_oxygen: 8000,
-            load: 70000,
-            dam: Dam::Aerating {
-                share: 1001,
-                generating: 0,
-            },
+    let c = plain(
+        0,
+        Dam::Aerating {
+            share: 1001,
+            generating: 0,
         },
-        &mut out,
+        Amount::Without,
+    );
+    let mut out = [7u8; 40];
+    wrote(c, &mut out);
+    let c = plain(
+        0,
+        Dam::Aerating {
+            share: 0,
+            generating: 100000001,
+        },
+        Amount::Without,
     );
     let mut out = [7u8; 10];
-    wrote(
-        Card {
-            outlet: 0,
-            temperature: 20,
-            k1: 300,
-            k2: 400,
-            volume: 1000,
-            inflow: 3000,
-            inflow_bod: 2000,
-            inflow_oxygen: 8000,
-            load: 70000,
-            dam: Dam::Aerating {
-                share: 0,
-                generating: 100000001,
-            },
-        },
-        &mut out,
-    );
+    wrote(c, &mut out);
+    let mut c = plain(0, Dam::Absent, Amount::Without);
+    c.load = 4294967295;
     let mut out = [7u8; 30];
-    wrote(
-        Card {
-            outlet: 0,
-            temperature: 20,
-            k1: 300,
-            k2: 400,
-            volume: 1000,
-            inflow: 3000,
-            inflow_bod: 2000,
-            inflow_oxygen: 8000,
-            load: 4294967295,
-            dam: Dam::Absent,
-        },
-        &mut out,
-    );
+    wrote(c, &mut out);
+    let mut c = plain(2, Dam::Absent, Amount::Without);
+    c.k1 = 20001;
+    let d = plain(9, Dam::Absent, Amount::Without);
     let mut out = [7u8; 60];
-    wrote_two(
-        Card {
-            outlet: 2,
-            temperature: 20,
-            k1: 20001,
-            k2: 400,
-            volume: 1000,
-            inflow: 3000,
-            inflow_bod: 2000,
-            inflow_oxygen: 8000,
-            load: 70000,
-            dam: Dam::Absent,
-        },
-        Card {
-            outlet: 9,
-            temperature: 20,
-            k1: 300,
-            k2: 400,
-            volume: 1000,
-            inflow: 3000,
-            inflow_bod: 2000,
-            inflow_oxygen: 8000,
-            load: 70000,
-            dam: Dam::Absent,
-        },
-        &mut out,
-    );
+    wrote_two(c, d, &mut out);
 }
 
 fn rivers5() {
+    let c = plain(2, Dam::Absent, Amount::Without);
+    let d = plain(2, Dam::Absent, Amount::Without);
     let mut out = [7u8; 60];
-    wrote_two(
-        Card {
-            outlet: 2,
-            temperature: 20,
-            k1: 300,
-            k2: 400,
-            volume: 1000,
-            inflow: 3000,
-            inflow_bod: 2000,
-            inflow_oxygen: 8000,
-            load: 70000,
-            dam: Dam::Absent,
+    wrote_two(c, d, &mut out);
+    let c = plain(
+        2,
+        Dam::Aerating {
+            share: 1001,
+            generating: 0,
         },
-        Card {
-            outlet: 2,
-            temperature: 20,
-            k1: 300,
-            k2: 400,
-            volume: 1000,
-            inflow: 3000,
-            inflow_bod: 2000,
-            inflow_oxygen: 8000,
-            load: 70000,
-            dam: Dam::Absent,
-        },
-        &mut out,
+        Amount::Without,
     );
+    let mut d = plain(0, Dam::Absent, Amount::Without);
+    d.k2 = 20001;
     let mut out = [7u8; 60];
-    wrote_two(
-        Card {
-            outlet: 2,
-            temperature: 20,
-            k1: 300,
-            k2: 400,
-            volume: 1000,
-            inflow: 3000,
-            inflow_bod: 2000,
-            inflow_oxygen: 8000,
-            load: 70000,
-            dam: Dam::Aerating {
-                share: 1001,
-                generating: 0,
-            },
-        },
-        Card {
-            outlet: 0,
-            temperature: 20,
-            k1: 300,
-            k2: 20001,
-            volume: 1000,
-            inflow: 3000,
-            inflow_bod: 2000,
-            inflow_oxygen: 8000,
-            load: 70000,
-            dam: Dam::Absent,
-        },
-        &mut out,
-    );
+    wrote_two(c, d, &mut out);
+    let c = plain(2, Dam::Absent, Amount::Without);
+    let mut d = plain(0, Dam::Absent, Amount::Without);
+    d.inflow_oxygen = 20001;
     let mut out = [7u8; 60];
-    wrote_two(
-        Card {
-            outlet: 2,
-            temperature: 20,
-            k1: 300,
-            k2: 400,
-            volume: 1000,
-            inflow: 3000,
-            inflow_bod: 2000,
-            inflow_oxygen: 8000,
-            load: 70000,
-            dam: Dam::Absent,
-        },
-        Card {
-            outlet: 0,
-            temperature: 20,
-            k1: 300,
-            k2: 400,
-            volume: 1000,
-            inflow: 3000,
-            inflow_bod: 2000,
-            inflow_oxygen: 20001,
-            load: 70000,
-            dam: Dam::Absent,
-        },
-        &mut out,
-    );
+    wrote_two(c, d, &mut out);
+    let c = plain(3, Dam::Absent, Amount::Without);
+    let d = plain(0, Dam::Absent, Amount::Without);
     let mut out = [7u8; 60];
-    wrote_two(
-        Card {
-            outlet: 3,
-            temperature: 20,
-            k1: 300,
-            k2: 400,
-            volume: 1000,
-            inflow: 3000,
-            inflow_bod: 2000,
-            inflow_oxygen: 8000,
-            load: 70000,
-            dam: Dam::Absent,
-        },
-        Card {
-            outlet: 0,
-            temperature: 20,
-            k1: 300,
-            k2: 400,
-            volume: 1000,
-            inflow: 3000,
-            inflow_bod: 2000,
-            inflow_oxygen: 8000,
-            load: 70000,
-            dam: Dam::Absent,
-        },
-        &mut out,
-    );
+    wrote_two(c, d, &mut out);
 }
 
 fn rivers6() {
+    let mut c = plain(2, Dam::Absent, Amount::Without);
+    c.volume = 1000000001;
+    let d = plain(0, Dam::Absent, Amount::Without);
     let mut out = [7u8; 60];
-    wrote_two(
-        Card {
-            outlet: 2,
-            temperature: 20,
-            k1: 300,
-            k2: 400,
-            volume: 1000000001,
-            inflow: 3000,
-            inflow_bod: 2000,
-            inflow_oxygen: 8000,
-            load: 70000,
-            dam: Dam::Absent,
-        },
-        Card {
-            outlet: 0,
-            temperature: 20,
-            k1: 300,
-            k2: 400,
-            volume: 1000,
-            inflow: 3000,
-            inflow_bod: 2000,
-            inflow_oxygen: 8000,
-            load: 70000,
-            dam: Dam::Absent,
-        },
-        &mut out,
-    );
+    wrote_two(c, d, &mut out);
+    let mut c = plain(2, Dam::Absent, Amount::Without);
+    c.inflow = 100000001;
+    let d = plain(0, Dam::Absent, Amount::Without);
     let mut out = [7u8; 60];
-    wrote_two(
-        Card {
-            outlet: 2,
-            temperature: 20,
-            k1: 300,
-            k2: 400,
-            volume: 1000,
-            inflow: 100000001,
-            inflow_bod: 2000,
-            inflow_oxygen: 8000,
-            load: 70000,
-            dam: Dam::Absent,
-        },
-        Card {
-            outlet: 0,
-            temperature: 20,
-            k1: 300,
-            k2: 400,
-            volume: 1000,
-            inflow: 3000,
-            inflow_bod: 2000,
-            inflow_oxygen: 8000,
-            load: 70000,
-            dam: Dam::Absent,
-        },
-        &mut out,
-    );
+    wrote_two(c, d, &mut out);
+    let mut c = plain(2, Dam::Absent, Amount::Without);
+    c.inflow_bod = 1000001;
+    let d = plain(0, Dam::Absent, Amount::Without);
     let mut out = [7u8; 60];
-    wrote_two(
-        Card {
-            outlet: 2,
-            temperature: 20,
-            k1: 300,
-            k2: 400,
-            volume: 1000,
-            inflow: 3000,
-            inflow_bod: 1000001,
-            inflow_oxygen: 8000,
-            load: 70000,
-            dam: Dam::Absent,
+    wrote_two(c, d, &mut out);
+    let c = plain(0, Dam::Absent, Amount::Given(0));
+    let mut out = [7u8; 36];
+    wrote(c, &mut out);
+}
+
+fn rivers7() {
+    let c = plain(0, Dam::Absent, Amount::Given(0));
+    let mut out = [7u8; 35];
+    wrote(c, &mut out);
+    let c = plain(0, Dam::Absent, Amount::Given(100000001));
+    let mut out = [7u8; 40];
+    wrote(c, &mut out);
+    let c = plain(1, Dam::Absent, Amount::Given(100000001));
+    let mut out = [7u8; 40];
+    wrote(c, &mut out);
+    let c = plain(2, Dam::Absent, Amount::Given(100000001));
+    let d = plain(9, Dam::Absent, Amount::Without);
+    let mut out = [7u8; 70];
+    wrote_two(c, d, &mut out);
+}
+
+fn rivers8() {
+    let c = plain(2, Dam::Absent, Amount::Without);
+    let d = plain(
+        0,
+        Dam::Aerating {
+            share: 1,
+            generating: 2,
         },
-        Card {
-            outlet: 0,
-            temperature: 20,
-            k1: 300,
-            k2: 400,
-            volume: 1000,
-            inflow: 3000,
-            inflow_bod: 2000,
-            inflow_oxygen: 8000,
-            load: 70000,
-            dam: Dam::Absent,
-        },
-        &mut out,
+        Amount::Given(4294967295),
     );
+    let mut out = [7u8; 70];
+    wrote_two(c, d, &mut out);
+    let c = plain(2, Dam::Absent, Amount::Given(5));
+    let d = most(Amount::Given(100000000));
+    let mut out = [7u8; 76];
+    wrote_two(c, d, &mut out);
 }
 
 fn counts1() {
@@ -779,6 +521,7 @@ fn counts1() {
     many(127);
     many(128);
     many(129);
+    longest();
 }
 
 // Every vector, in the order of the stored output.
@@ -792,15 +535,20 @@ pub fn all() {
     reaches5();
     dams1();
     dams2();
+    takes1();
+    takes2();
     trailing1();
     trailing2();
     lawful1();
     lawful2();
+    lawful3();
     rivers1();
     rivers2();
     rivers3();
     rivers4();
     rivers5();
     rivers6();
+    rivers7();
+    rivers8();
     counts1();
 }

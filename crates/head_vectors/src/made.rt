@@ -1,6 +1,7 @@
 // Rivers of as many reaches as there may be: a chain, and a star whose last reach all others feed.
 ghost use Prim.Native.Nat.{_<_};
 use crate::shown::show;
+use river::card::Amount;
 use river::card::Card;
 use river::card::Cards;
 use river::card::Dam;
@@ -11,7 +12,7 @@ use river::card::blank;
 use river::write::Written;
 use river::writer::write_cards;
 
-// The length of a file of so many reaches with no dam.
+// The length of a file of so many reaches with no optional record.
 const MANY: usize = HEADER_BYTES + REACHES * REACH_BYTES;
 
 fn outlet(i: usize, star: bool) -> u8
@@ -41,6 +42,7 @@ fn card(i: usize, star: bool) -> Card
         inflow_oxygen: 8_000,
         load: 5,
         dam: Dam::Absent,
+        take: Amount::Without,
     }
 }
 

@@ -1,18 +1,21 @@
 -- The bench values of the river file paper that are to be proved, gathered as rows of one theorem: those of flows and heads, the two lines of
--- the printing program's example, and the second of them below a dam.
+-- the printing program's example, the second of them below a dam, and both with takes.
 use mathlib.Core.Path.{_≡_, refl, _∙_, ap}
 use mathlib.Core.Bool.{true}
-use Prim.Native.Nat.{ℕ, _+_, _*_}
+use Prim.Native.Nat.{ℕ, _+_, _-_, _*_, _<_, _≤_}
 use native.Mathlib.Omega.{arith}
 use lib.IntN.{ℤ, pos, _+ℤ_, _*ℤ_}
 use Rattle.river.specs.declared.card.Dam.{Dam}
 use Rattle.river.specs.declared.card.Dam.the-variants.{Absent, Aerating}
-use Rattle.river.specs.Card.{LawfulDam}
+use Rattle.river.specs.declared.card.Amount.{Amount}
+use Rattle.river.specs.declared.card.Amount.the-variants.{Without, Given}
+use Rattle.river.specs.declared.card.Card.{Card}
+use Rattle.river.specs.Card.{LawfulDam, amountOr}
 use Rattle.river.specs.Flow.{Feeders, none, more, joinedIf, feedersAmong, above, fed, flowOf, massOf, deepest, DamRule}
 use Rattle.river.specs.Saturation.{saturation, saturationThousandths, saturationOf}
 use Rattle.river.specs.Head.{floor, upstreamDemand, upstreamOxygen, aerated, belowDam, headDemand, headBod, headOxygen}
-use Rattle.river.proofs.Bench.{first, second, two, Rows as FlowRows, bench as flow-bench}
-use Rattle.report.specs.Program.{figuresAt, bodSum, oxygenSum, bodAtHead, oxygenAtHead, bodAt, oxygenAt, foot}
+use Rattle.river.proofs.Bench.{first, second, two, drawn, Rows as FlowRows, bench as flow-bench}
+use Rattle.report.specs.Program.{figuresOf, figuresAt, bodSum, oxygenSum, bodAtHead, oxygenAtHead, bodAt, oxygenAt, foot}
 use Rattle.report.proofs.Forest.{AcceptedReach}
 use Rattle.report.proofs.Ties.{reach-bod-stays, reach-oxygen-stays, still-figures}
 use Rattle.report.specs.Record.{Figures}
@@ -21,35 +24,43 @@ use Rattle.report.specs.Record.{Figures}
 abbrev weir : Dam
 weir = Aerating 500 1000
 
--- what flows into reach 2
-abbrev feeders : Feeders
-feeders = more first none none
+-- what flows into reach 2, by the take of reach 1
+abbrev feeders : Amount → Feeders
+feeders take = more (first take) none none
 
-accepted-first : AcceptedReach first none
+accepted-first : (take : Amount) → amountOr 0 take < 3000 → AcceptedReach (first take) none
 unfolding flowOf massOf DamRule
-accepted-first =
+accepted-first take h =
     record {
       fields = omega arith;
       dam = tt;
-      flows = record { flowing = omega arith; bounded = omega arith; dam-rule = tt; mass-rule = omega arith; decay-rule = omega arith; aeration-rule = omega arith };
+      flows = record { flowing = omega arith; bounded = omega arith; dam-rule = tt; mass-rule = omega arith; take-rule = h; decay-rule = omega arith; aeration-rule = omega arith };
     }
 
-accepted-second : (dam : Dam) → LawfulDam dam → DamRule dam feeders → AcceptedReach (second dam) feeders
-unfolding flowOf massOf
-accepted-second dam h k =
+accepted-second : (dam : Dam) (take : Amount) {up : Feeders} → LawfulDam dam → DamRule dam up → flowOf up ≤ 3000 → massOf up ≤ 1000000 * flowOf up → amountOr 0 take ≤ 1000 → 0 < flowOf up → AcceptedReach (second dam take) up
+accepted-second dam take h k few within drawn-few some =
     record {
       fields = omega arith;
       dam = h;
-      flows = record { flowing = omega arith; bounded = omega arith; dam-rule = k; mass-rule = omega arith; decay-rule = omega arith; aeration-rule = omega arith };
+      flows = record { flowing = omega arith; bounded = omega arith; dam-rule = k; mass-rule = omega arith; take-rule = omega arith; decay-rule = omega arith; aeration-rule = omega arith };
     }
 
-accepted-open : AcceptedReach (second Absent) feeders
-unfolding DamRule
-accepted-open = accepted-second Absent tt tt
+-- reach 2: plain, below a take, with a take, and with a dam
+accepted-open : AcceptedReach (second Absent Without) (feeders Without)
+unfolding DamRule flowOf massOf
+accepted-open = accepted-second Absent Without tt tt (omega arith) (omega arith) (omega arith) (omega arith)
 
-accepted-weir : AcceptedReach (second weir) feeders
-unfolding DamRule fed flowOf
-accepted-weir = accepted-second weir (omega arith) (refl, omega arith)
+accepted-below : AcceptedReach (second Absent Without) (feeders (Given 1000))
+unfolding DamRule flowOf massOf
+accepted-below = accepted-second Absent Without tt tt (omega arith) (omega arith) (omega arith) (omega arith)
+
+accepted-drawn : AcceptedReach (second Absent (Given 1000)) (feeders Without)
+unfolding DamRule flowOf massOf
+accepted-drawn = accepted-second Absent (Given 1000) tt tt (omega arith) (omega arith) (omega arith) (omega arith)
+
+accepted-weir : AcceptedReach (second weir Without) (feeders Without)
+unfolding DamRule fed flowOf massOf
+accepted-weir = accepted-second weir Without (omega arith) (refl, omega arith) (omega arith) (omega arith) (omega arith) (omega arith)
 
 -- the figures of a line where nothing changes along the reach
 abbrev line : (depth flow bod oxygen : ℕ) → Figures
@@ -65,41 +76,65 @@ line depth flow bod oxygen =
       foot-oxygen = pos oxygen;
     }
 
-head-1 : (bodAtHead first none ≡ 2000000) × (oxygenAtHead first none ≡ pos 8000000)
+head-1 : (take : Amount) → (bodAtHead (first take) none ≡ 2000000) × (oxygenAtHead (first take) none ≡ pos 8000000)
 unfolding bodAtHead oxygenAtHead bodSum oxygenSum fed flowOf headDemand headOxygen upstreamDemand upstreamOxygen belowDam floor
-head-1 = (refl, refl)
+head-1 take = (refl, refl)
 
-foot-1 : (bodSum feeders ≡ 6000000000) × (oxygenSum feeders ≡ pos 24000000000)
+-- what reach 1 hands down, by the flow after its take
+foot-1 : (take : Amount) → amountOr 0 take < 3000 → (bodSum (feeders take) ≡ (3000 - amountOr 0 take) * 2000000 + 0) × (oxygenSum (feeders take) ≡ pos (3000 - amountOr 0 take) *ℤ pos 8000000 +ℤ pos 0)
 unfolding bodSum oxygenSum flowOf bodAt oxygenAt bodAtHead oxygenAtHead
-foot-1 =
-    (ap (λ (b : ℕ). 3000 * b + 0) (reach-bod-stays accepted-first refl foot ∙ head-1 .0), ap (λ (o : ℤ). pos 3000 *ℤ o +ℤ pos 0) (reach-oxygen-stays accepted-first refl refl foot ∙ head-1 .1))
+foot-1 take h =
+    let Q = 3000 - amountOr 0 take in
+    (ap (λ (b : ℕ). Q * b + 0) (reach-bod-stays (accepted-first take h) refl foot ∙ head-1 take .0), ap (λ (o : ℤ). pos Q *ℤ o +ℤ pos 0) (reach-oxygen-stays (accepted-first take h) refl refl foot ∙ head-1 take .1))
 
-head-2 : (bodAtHead (second Absent) feeders ≡ 9000000) × (oxygenAtHead (second Absent) feeders ≡ pos 6500000)
+-- the head of reach 2, by the takes
+abbrev HeadIs : Card → Feeders → (bod oxygen : ℕ) → Type 0
+HeadIs card up bod oxygen = (bodAtHead card up ≡ bod) × (oxygenAtHead card up ≡ pos oxygen)
+
+head-2 : (take : Amount) → HeadIs (second Absent take) (feeders Without) 9000000 6500000
 unfolding bodAtHead oxygenAtHead fed flowOf headDemand headOxygen upstreamDemand upstreamOxygen belowDam aerated floor
-head-2 =
-    (ap (headBod (second Absent) true 3000) (foot-1 .0), ap (headOxygen (second Absent) true 3000) (foot-1 .1))
+head-2 take =
+    let f = foot-1 Without (omega arith) in
+    (ap (headBod (second Absent take) true 3000) (f .0), ap (headOxygen (second Absent take) true 3000) (f .1))
 
-head-weir : (bodAtHead (second weir) feeders ≡ 9000000) × (oxygenAtHead (second weir) feeders ≡ pos 6755451)
+head-below : HeadIs (second Absent Without) (feeders (Given 1000)) 11333333 6000000
+unfolding bodAtHead oxygenAtHead fed flowOf headDemand headOxygen upstreamDemand upstreamOxygen belowDam aerated floor
+head-below =
+    let f = foot-1 (Given 1000) (omega arith) in
+    (ap (headBod (second Absent Without) true 2000) (f .0), ap (headOxygen (second Absent Without) true 2000) (f .1))
+
+head-weir : HeadIs (second weir Without) (feeders Without) 9000000 6755451
 unfolding bodAtHead oxygenAtHead fed flowOf headDemand headOxygen upstreamDemand upstreamOxygen belowDam aerated floor saturation saturationThousandths saturationOf
 head-weir =
-    (ap (headBod (second weir) true 3000) (foot-1 .0), ap (headOxygen (second weir) true 3000) (foot-1 .1))
+    let f = foot-1 Without (omega arith) in
+    (ap (headBod (second weir Without) true 3000) (f .0), ap (headOxygen (second weir Without) true 3000) (f .1))
 
 -- upstream oxygen of the second reach
 abbrev upstream : Feeders → ℤ
 upstream up = upstreamOxygen (fed up) (flowOf up) (oxygenSum up)
 
-below-weir : belowDam (second weir) (fed feeders) (flowOf feeders) (upstream feeders) ≡ pos 8340602
+below-weir : belowDam (second weir Without) (fed (feeders Without)) (flowOf (feeders Without)) (upstream (feeders Without)) ≡ pos 8340602
 unfolding fed flowOf upstreamOxygen belowDam aerated floor saturation saturationThousandths saturationOf
 below-weir =
-    ap (λ (sum : ℤ). belowDam (second weir) true 3000 (upstreamOxygen true 3000 sum)) (foot-1 .1)
+    ap (λ (sum : ℤ). belowDam (second weir Without) true 3000 (upstreamOxygen true 3000 sum)) (foot-1 Without (omega arith) .1)
+
+-- the first line, with no take there
+first-line : figuresOf (first Without) none ≡ line 1 3000 2000000 8000000
+unfolding flowOf deepest
+first-line = still-figures (accepted-first Without (omega arith)) refl refl ∙ rw (head-1 Without .0, head-1 Without .1)
 
 -- one theorem, a row each
 pub record Rows : Type 0 where
   pub flows-and-heads : FlowRows
   pub line-1 : figuresAt (two Absent) 1 ≡ line 1 3000 2000000 8000000
   pub line-2 : figuresAt (two Absent) 2 ≡ line 2 4000 9000000 6500000
-  pub below-dam : belowDam (second weir) (fed (above (two weir) 2)) (flowOf (above (two weir) 2)) (upstream (above (two weir) 2)) ≡ pos 8340602
+  pub below-dam : belowDam (second weir Without) (fed (above (two weir) 2)) (flowOf (above (two weir) 2)) (upstream (above (two weir) 2)) ≡ pos 8340602
   pub line-dam : figuresAt (two weir) 2 ≡ line 2 4000 9000000 6755451
+  -- with a take of 1,000 at reach 1, and at reach 2 instead
+  pub drawn-1-line-1 : figuresAt (drawn (Given 1000) Without) 1 ≡ line 1 2000 2000000 8000000
+  pub drawn-1-line-2 : figuresAt (drawn (Given 1000) Without) 2 ≡ line 2 3000 11333333 6000000
+  pub drawn-2-line-1 : figuresAt (drawn Without (Given 1000)) 1 ≡ line 1 3000 2000000 8000000
+  pub drawn-2-line-2 : figuresAt (drawn Without (Given 1000)) 2 ≡ line 2 3000 9000000 6500000
 
 -- THEOREM: the bench values of the paper that are to be proved, a row each
 pub bench : Rows
@@ -107,8 +142,12 @@ unfolding feedersAmong joinedIf flowOf deepest
 bench =
     record {
       flows-and-heads = flow-bench;
-      line-1 = still-figures accepted-first refl refl ∙ rw (head-1 .0, head-1 .1);
-      line-2 = still-figures accepted-open refl refl ∙ rw (head-2 .0, head-2 .1);
+      line-1 = first-line;
+      line-2 = still-figures accepted-open refl refl ∙ rw (head-2 Without .0, head-2 Without .1);
       below-dam = below-weir;
       line-dam = still-figures accepted-weir refl refl ∙ rw (head-weir .0, head-weir .1);
+      drawn-1-line-1 = still-figures (accepted-first (Given 1000) (omega arith)) refl refl ∙ rw (head-1 (Given 1000) .0, head-1 (Given 1000) .1);
+      drawn-1-line-2 = still-figures accepted-below refl refl ∙ rw (head-below .0, head-below .1);
+      drawn-2-line-1 = first-line;
+      drawn-2-line-2 = still-figures accepted-drawn refl refl ∙ rw (head-2 (Given 1000) .0, head-2 (Given 1000) .1);
     }

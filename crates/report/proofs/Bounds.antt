@@ -12,10 +12,11 @@ use Rattle.decay.specs.Fixed.{product}
 use Rattle.decay.specs.Promise.{share}
 use Rattle.decay.proofs.Algebra.{Nonneg, quote, slack, number, _⊞_, _⊠_, multiple, certify, ≈-refl, ≈-sym, ≈-trans, ≼-trans, ≼-of-≈, ≼-by, ≼-refl, +ᶠ-cong, *ᶠ-cong, ofℤ-+, ofℤ-*, Positive, positive-whole, positive-nonneg, certify-over, none as no-equations, ofℕ-reflect, ofℤ-reflect, ofℕ-mono, ofℕ-+, ofℕ-*}
 use Rattle.river.specs.declared.card.Card.{Card}
-use Rattle.river.specs.Flow.{Feeders, more, fed, flowOf, reachFlow, massOf, reachMass, deepest, reachDepth}
+use Rattle.river.specs.Flow.{Feeders, more, fed, flowOf, mixedFlow, reachFlow, massOf, mixedMass, reachMass, deepest, reachDepth}
 use Rattle.river.specs.Saturation.{saturationOf, SaturationInRange}
 use Rattle.river.specs.Source.{bodSource}
 use Rattle.river.specs.Head.{upstreamDemand, upstreamOxygen, belowDam, headDemand, headOxygen}
+use Rattle.river.proofs.flow.Take.{flow-remains, mass-within, mass-scaled}
 use Rattle.river.proofs.head.Bounds.{saturation-of-small}
 use Rattle.report.specs.Program.{bodSum, oxygenSum, bodAtHead, oxygenAtHead, bodAt, oxygenAt, bodAlong, oxygenAlong, bodWith, factorsAlong, foot}
 use Rattle.report.proofs.Facts.Floor.{Rounded}
@@ -73,11 +74,26 @@ instant-bounded Q L c saturated p g r B G R mass deep k pQ pL pd ps sk shares pG
       oxygen-above = certify (Q ∷ c ∷ saturated ∷ r ∷ G ∷ R ∷ k ∷ []) (pQ ⊠ pG ⊞ pQ ⊠ slack (fR .high) ⊞ slack (shares .kept-of-one) ⊠ (pQ ⊠ slack sk) ⊞ shares .kept-part ⊠ slack (b .oxygen-above)) (search quote depth 40 fits 9999) tt;
     }
 
+-- a take leaves the concentrations, and of M no smaller a part than of the flow
+taken-bounded : (Qm Q h c mass left deep rest k : Fraction) → Positive Qm → Nonneg Q → Q *ᶠ mass ≼ Qm *ᶠ left → Q *ᶠ deep ≼ Qm *ᶠ rest
+    → Bounded (Qm *ᶠ h) (Qm *ᶠ c) Qm mass deep k → Bounded (Q *ᶠ h) (Q *ᶠ c) Q left rest k
+taken-bounded Qm Q h c mass left deep rest k p pQ hm hd b =
+    record {
+      bod-above = certify-over Qm p (Qm ∷ Q ∷ h ∷ mass ∷ left ∷ []) no-equations (slack hm ⊞ pQ ⊠ slack (b .bod-above)) (search quote depth 40 fits 9999) tt;
+      oxygen-below = certify-over Qm p (Qm ∷ Q ∷ h ∷ c ∷ mass ∷ left ∷ deep ∷ rest ∷ []) no-equations (slack hm ⊞ slack hd ⊞ pQ ⊠ slack (b .oxygen-below)) (search quote depth 40 fits 9999) tt;
+      oxygen-above = certify-over Qm p (Qm ∷ Q ∷ c ∷ k ∷ []) no-equations (pQ ⊠ slack (b .oxygen-above)) (search quote depth 40 fits 9999) tt;
+    }
+
 -- ---- the same of an accepted river
 
 -- what the feeders bring, times flow
 abbrev FeetBounded : Feeders → Type 0
 FeetBounded up = Bounded (ofℕ (bodSum up)) (ofℤ (oxygenSum up)) (ofℕ (flowOf up)) (ofℕ (1000 * massOf up)) (ofℕ (3 * deepest up * flowOf up)) (ofℕ (20000000 + deepest up))
+
+-- the water at a head before the take, and after it
+abbrev MixedBounded : Card → Feeders → Type 0
+MixedBounded card up =
+    Bounded (ofℕ (mixedFlow card up) *ᶠ ofℕ (bodAtHead card up)) (ofℕ (mixedFlow card up) *ᶠ ofℤ (oxygenAtHead card up)) (ofℕ (mixedFlow card up)) (ofℕ (1000 * mixedMass card up)) (ofℕ (3 * reachDepth up * mixedFlow card up)) (ofℕ (20000000 + deepest up))
 
 abbrev HeadBounded : Card → Feeders → Type 0
 HeadBounded card up =
@@ -99,9 +115,9 @@ bounded-by {bod} {oxygen} {Q} {mass} {deep} {k} {mass′} {deep′} {k′} hm hd
 saturation-below : (card : Card) (d : ℕ) → SaturationInRange card → ofℕ (saturationOf card) ≼ ofℕ (20000000 + d)
 saturation-below card d h = ofℕ-mono (omega (arith, saturation-of-small card h))
 
-head-in-bounds : {card : Card} {up : Feeders} → AcceptedReach card up → AllAccepted up → FeetBounded up → HeadBounded card up
+mixed-in-bounds : {card : Card} {up : Feeders} → AcceptedReach card up → AllAccepted up → FeetBounded up → MixedBounded card up
 unfolding bodAtHead oxygenAtHead headDemand headOxygen
-head-in-bounds {card} {up} own above b =
+mixed-in-bounds {card} {up} own above b =
     let Qu = flowOf up in
     let i = card .inflow in
     let u = upstreamDemand (fed up) Qu (bodSum up) in
@@ -111,10 +127,10 @@ head-in-bounds {card} {up} own above b =
     let W₃ = 1000 * i * card .«inflow_oxygen» in
     let k = 20000000 + deepest up in
     bounded-by
-    (≼-by (≈-sym (ofℕ-+₃ (1000 * massOf up) W₁ W₂)) (ofℕ-mono (mass-whole (massOf up) i (card .«inflow_bod») (card .load))) (≈-refl (ofℕ (1000 * reachMass card up))))
-    (≼-by (≈-sym (ofℕ-+₄ (3 * deepest up * Qu) Qu Qu (Qu + i))) (ofℕ-mono (deeper (deepest up) Qu i)) (≈-refl (ofℕ (3 * reachDepth up * reachFlow card up))))
+    (≼-by (≈-sym (ofℕ-+₃ (1000 * massOf up) W₁ W₂)) (ofℕ-mono (mass-whole (massOf up) i (card .«inflow_bod») (card .load))) (≈-refl (ofℕ (1000 * mixedMass card up))))
+    (≼-by (≈-sym (ofℕ-+₄ (3 * deepest up * Qu) Qu Qu (Qu + i))) (ofℕ-mono (deeper (deepest up) Qu i)) (≈-refl (ofℕ (3 * reachDepth up * mixedFlow card up))))
     (≼-refl (ofℕ k))
-    (number (reachFlow card up))
+    (number (mixedFlow card up))
     (head-bounded (ofℕ Qu) (ofℕ (Qu + i)) (ofℕ i) (ofℕ (bodSum up)) (ofℤ (oxygenSum up)) (ofℕ u) (ofℤ v) (ofℤ (belowDam card (fed up) Qu v)) (ofℕ (bodAtHead card up)) (ofℤ (oxygenAtHead card up)) (ofℕ W₁) (ofℕ W₂) (ofℕ W₃) (ofℕ (saturationOf card)) (damPart (fed up) (card .dam) Qu) (ofℕ (1000 * massOf up)) (ofℕ (3 * deepest up * Qu)) (ofℕ k)
     (number Qu) (number (3 * deepest up * Qu)) (number (saturationOf card)) (saturation-below card (deepest up) (own .fields .temperature)) (number W₃)
     (≼-by (≈-refl (ofℕ W₃)) (ofℕ-mono (oxygen-in i (card .«inflow_oxygen») (deepest up) (own .fields .inflow-oxygen))) (ofℕ-* i k))
@@ -128,6 +144,26 @@ head-in-bounds {card} {up} own above b =
 
     oxygen-in : (i oxygen d : ℕ) → oxygen ≤ 20000 → 1000 * i * oxygen ≤ i * (20000000 + d)
     oxygen-in i oxygen d h = omega (arith, mul-le-mul-left i h)
+
+-- products of whole numbers, embedded
+products : (a b c d : ℕ) → a * b ≤ c * d → ofℕ a *ᶠ ofℕ b ≼ ofℕ c *ᶠ ofℕ d
+products a b c d h = ≼-by (≈-sym (ofℕ-* a b)) (ofℕ-mono h) (ofℕ-* c d)
+
+head-in-bounds : {card : Card} {up : Feeders} → AcceptedReach card up → AllAccepted up → FeetBounded up → HeadBounded card up
+head-in-bounds {card} {up} own above b =
+    let Qm = mixedFlow card up in
+    let Q = reachFlow card up in
+    taken-bounded (ofℕ Qm) (ofℕ Q) (ofℕ (bodAtHead card up)) (ofℤ (oxygenAtHead card up)) (ofℕ (1000 * mixedMass card up)) (ofℕ (1000 * reachMass card up)) (ofℕ (3 * reachDepth up * Qm)) (ofℕ (3 * reachDepth up * Q)) (ofℕ (20000000 + deepest up))
+    (positive-whole (own .flows .flowing)) (number Q)
+    (products Q (1000 * mixedMass card up) Qm (1000 * reachMass card up) (thousand Q (mixedMass card up) Qm (reachMass card up) (mass-scaled (own .flows))))
+    (products Q (3 * reachDepth up * Qm) Qm (3 * reachDepth up * Q) (exchanged (reachDepth up) Qm Q))
+    (mixed-in-bounds own above b)
+  where
+    thousand : (a b c d : ℕ) → a * b ≤ c * d → a * (1000 * b) ≤ c * (1000 * d)
+    thousand a b c d h = omega arith
+
+    exchanged : (d a b : ℕ) → b * (3 * d * a) ≤ a * (3 * d * b)
+    exchanged d a b = omega arith
 
 -- equal oxygen has the same bounds
 bounded-at : {bod oxygen oxygen′ Q mass deep k : Fraction} → oxygen ≈ oxygen′ → Bounded bod oxygen Q mass deep k → Bounded bod oxygen′ Q mass deep k
@@ -210,7 +246,7 @@ bounded-ranged Q bod oxygen mass deep k pQ pb hm hd b =
 
 module _ {card : Card} {up : Feeders} (own : AcceptedReach card up) (above : AllAccepted up) (shallow : reachDepth up ≤ 128) where
   mass-small : ofℕ (1000 * reachMass card up) ≼ ofℕ 1000000000 *ᶠ ofℕ (reachFlow card up)
-  mass-small = ≼-trans (ofℕ-mono (omega (arith, own .flows .mass-rule))) (≼-of-≈ (ofℕ-* 1000000000 (reachFlow card up)))
+  mass-small = ≼-trans (ofℕ-mono (omega (arith, mass-within (own .flows)))) (≼-of-≈ (ofℕ-* 1000000000 (reachFlow card up)))
 
   deep-small : ofℕ (3 * reachDepth up * reachFlow card up) ≼ ofℕ 384 *ᶠ ofℕ (reachFlow card up)
   deep-small = ≼-trans (ofℕ-mono (mul-le-mul-right (reachFlow card up) (omega arith))) (≼-of-≈ (ofℕ-* 384 (reachFlow card up)))
@@ -218,12 +254,12 @@ module _ {card : Card} {up : Feeders} (own : AcceptedReach card up) (above : All
   -- at the head
   pub head-ranged : Ranged (ofℕ (bodAtHead card up)) (ofℤ (oxygenAtHead card up)) (ofℕ (20000000 + deepest up))
   head-ranged =
-      bounded-ranged (ofℕ (reachFlow card up)) (ofℕ (bodAtHead card up)) (ofℤ (oxygenAtHead card up)) (ofℕ (1000 * reachMass card up)) (ofℕ (3 * reachDepth up * reachFlow card up)) (ofℕ (20000000 + deepest up)) (positive-whole (own .flows .flowing)) (number (bodAtHead card up)) mass-small deep-small (head-in-bounds own above (feet-in-bounds above))
+      bounded-ranged (ofℕ (reachFlow card up)) (ofℕ (bodAtHead card up)) (ofℤ (oxygenAtHead card up)) (ofℕ (1000 * reachMass card up)) (ofℕ (3 * reachDepth up * reachFlow card up)) (ofℕ (20000000 + deepest up)) (positive-whole (flow-remains (own .flows))) (number (bodAtHead card up)) mass-small deep-small (head-in-bounds own above (feet-in-bounds above))
 
   -- at every instant
   pub instant-ranged : (m : ℕ) → Ranged (ofℕ (bodAt card up m)) (ofℤ (oxygenAt card up m)) (ofℕ (20000000 + reachDepth up))
   instant-ranged m =
-      bounded-ranged (ofℕ (reachFlow card up)) (ofℕ (bodAt card up m)) (ofℤ (oxygenAt card up m)) (ofℕ (1000 * reachMass card up)) (ofℕ (3 * reachDepth up * reachFlow card up)) (ofℕ (20000000 + reachDepth up)) (positive-whole (own .flows .flowing)) (number (bodAt card up m)) mass-small deep-small (instant-in-bounds own (head-in-bounds own above (feet-in-bounds above)) m)
+      bounded-ranged (ofℕ (reachFlow card up)) (ofℕ (bodAt card up m)) (ofℤ (oxygenAt card up m)) (ofℕ (1000 * reachMass card up)) (ofℕ (3 * reachDepth up * reachFlow card up)) (ofℕ (20000000 + reachDepth up)) (positive-whole (flow-remains (own .flows))) (number (bodAt card up m)) mass-small deep-small (instant-in-bounds own (head-in-bounds own above (feet-in-bounds above)) m)
 
 -- the same as whole numbers
 pub record Range (bod : ℕ) (oxygen : ℤ) : Type 0 where

@@ -10,6 +10,7 @@ use Rattle.river.specs.declared.card.Card.{Card}
 use Rattle.river.specs.Card.{FieldsInRange, LawfulDam, Lawful, blank}
 use Rattle.river.proofs.range.Ranges.{lawful-at}
 use Rattle.river.proofs.flow.Table.{deepest-few}
+use Rattle.river.proofs.flow.Take.{flow-remains, flow-within}
 use Rattle.river.specs.Flow.{Feeders, none, more, joinedIf, feedersAmong, reachFlow, reachDepth, ReachPasses, Flows}
 
 -- an accepted reach: its fields lie in range, and it passes the flow check
@@ -25,8 +26,8 @@ rates-pass a =
       k1-range = a .fields .k1;
       k2-range = a .fields .k2;
       volume-range = a .fields .volume;
-      flow-above = a .flows .flowing;
-      flow-below = a .flows .bounded;
+      flow-above = flow-remains (a .flows);
+      flow-below = flow-within (a .flows);
       k1-short = a .flows .decay-rule;
       k2-short = a .flows .aeration-rule;
     }

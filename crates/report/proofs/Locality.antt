@@ -3,7 +3,7 @@
 use mathlib.Core.Path.{_≡_, refl, sym, ap, ap₂, _∙_, subst}
 use mathlib.Core.Bool.{Bool, true, false, _||_}
 use mathlib.Core.List.{List, [], _∷_}
-use Prim.Native.Nat.{ℕ, zero, suc, _+_, _*_, max}
+use Prim.Native.Nat.{ℕ, zero, suc, _+_, _-_, _*_, max}
 use native.Mathlib.Nat.{add-left-comm}
 use native.Mathlib.Omega.{arith}
 use lib.ListN.{getD}
@@ -11,7 +11,7 @@ use lib.Dec.{T, eqb, eqb→eq}
 use lib.IntN.{ℤ, pos, _+ℤ_, _*ℤ_, +ℤ-assoc, +ℤ-comm}
 use Rattle.river.specs.declared.card.Card.{Card}
 use Rattle.river.specs.Card.{blank}
-use Rattle.river.specs.Flow.{Feeders, joinedIf, feedersAmong, fed, flowOf, ownMass, massOf, deepest}
+use Rattle.river.specs.Flow.{Feeders, joinedIf, feedersAmong, fed, takeOf, flowOf, ownMass, remainingMass, massOf, deepest}
 use Rattle.river.specs.Saturation.{saturationOf}
 use Rattle.river.specs.Head.{belowDam, headBod, headOxygen}
 use Rattle.report.specs.Record.{Figures}
@@ -36,15 +36,18 @@ sumsOf up =
 -- the figures of a reach below these sums
 abbrev figuresBy : Card → Sums → Figures
 figuresBy card s =
-    figuresBelow card (1 + s .deepest) (s .flow + card .inflow) (headBod card (s .fed) (s .flow) (s .bod)) (headOxygen card (s .fed) (s .flow) (s .oxygen))
+    figuresBelow card (1 + s .deepest) (s .flow + card .inflow - takeOf card) (headBod card (s .fed) (s .flow) (s .bod)) (headOxygen card (s .fed) (s .flow) (s .oxygen))
 
--- what a feeder gives, by its undecayed BOD and its figures
+-- what a feeder gives, by its undecayed BOD after the take and its figures
 abbrev given : ℕ → Figures → Sums
 given M f =
     record { fed = true; flow = f .flow; mass = M; deepest = f .depth; bod = f .flow * f .foot-bod; oxygen = pos (f .flow) *ℤ f .foot-oxygen }
 
+abbrev massBy : Card → Sums → ℕ
+massBy card s = remainingMass (takeOf card) (s .flow + card .inflow) (s .mass + ownMass card)
+
 abbrev gives : Card → Sums → Sums
-gives card s = given (s .mass + ownMass card) (figuresBy card s)
+gives card s = given (massBy card s) (figuresBy card s)
 
 -- and with what others give
 infixr 5 _⊕_
@@ -89,7 +92,7 @@ figures-any-outlet s card = rw (dam-any-outlet card (s .fed))
 
 gives-any-outlet : (s : Sums) (card : Card) → gives (withOutlet 0 card) s ≡ gives card s
 unfolding withOutlet
-gives-any-outlet s card = ap (given (s .mass + ownMass card)) (figures-any-outlet s card)
+gives-any-outlet s card = ap (given (massBy card s)) (figures-any-outlet s card)
 
 outlet-aside : {A : Type 0} {c d : Card} (f : Card → A) → ((card : Card) → f (withOutlet 0 card) ≡ f card) → SameButOutlet c d → f c ≡ f d
 outlet-aside {c} {d} f h same = sym (h c) ∙ ap f (same .rest) ∙ h d

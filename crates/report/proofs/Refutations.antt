@@ -8,6 +8,7 @@ use Rattle.decay.specs.Exact.{foot, exponent, power, factorial, term, sum, S, F
 use Rattle.decay.proofs.Algebra.{quote, certify, slack, _⊞_, Within, small, bound-nonneg, within-distance, distance→within, within-sym, within-trans}
 use Rattle.river.specs.declared.card.Card.{Card}
 use Rattle.river.specs.declared.card.Dam.the-variants.{Absent}
+use Rattle.river.specs.declared.card.Amount.the-variants.{Without}
 use Rattle.river.specs.Refusal.{accepted, need, after, choose}
 use Rattle.river.specs.Card.{countOk, inRange, outletOk}
 use Rattle.river.specs.Optional.{readOptional, readOptionals}
@@ -34,6 +35,7 @@ reach outlet inflow =
       «inflow_oxygen» = 14652;
       load = 0;
       dam = Absent;
+      take = Without;
     }
 
 -- that reach, and below it as long a one with no inflow of its own

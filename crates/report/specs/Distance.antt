@@ -36,7 +36,8 @@ pub record WithinAllowance (N : ℕ) (card : Card) (up : Feeders) (f : Figures) 
 
 -- What the proof carries down the river is the allowance by water, which is at most that by depth.
 
--- the mean of the feeders' allowances, weighed by flow, inflow water counting as zero; sum is that of Q × allowance
+-- the mean of the feeders' allowances, weighed by flow, inflow water counting as zero; sum is that of Q × allowance, each after the feeder's
+-- own take, and is divided by Qm = Qu + inflow, the flow before the reach's own
 unfoldable pub meanAllowance : Card → (Qu : ℕ) (sum : Fraction) → Fraction
 meanAllowance card Qu sum = sum ÷ ofℕ (Qu + card .inflow)
 

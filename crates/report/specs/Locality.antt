@@ -22,6 +22,7 @@ withOutlet o card =
       «inflow_oxygen» = card .«inflow_oxygen»;
       load = card .load;
       dam = card .dam;
+      take = card .take;
     }
 
 -- two cards are the same but for their outlets

@@ -32,7 +32,7 @@ unfoldable pub exactBelowDam : Card → (fed : Bool) (Qu : ℕ) (C : Fraction) �
 exactBelowDam card false Qu C = C
 exactBelowDam card true Qu C = exactAerated (card .dam) (exactSaturation card) Qu C
 
--- 3. mixing with inflow and load
+-- 3. mixing with inflow and load, divided by Qm = Qu + inflow, the flow before the take; 4. the take changes neither figure
 unfoldable pub exactMixedDemand : Source → (Qu : ℕ) (upstream : Fraction) → Fraction
 exactMixedDemand source Qu upstream =
     (ofℕ Qu *ᶠ upstream +ᶠ ofℕ (1_000 * source .inflow * source .concentration) +ᶠ ofℕ (1_000_000 * source .load)) ÷ ofℕ (Qu + source .inflow)
@@ -54,7 +54,7 @@ exactHeadOxygen card fed Qu sum = exactMixedOxygen card Qu (exactBelowDam card f
 
 -- the recurrence, at one N throughout
 module _ (N : ℕ) where
-  -- BOD at instant m of a reach with flow Q and head BOD L: L × S(x1)
+  -- BOD at instant m of a reach with flow Q, which is that after the take, and head BOD L: L × S(x1)
   unfoldable pub exactBodAlong : Card → (Q : ℕ) (L : Fraction) (m : ℕ) → Fraction
   exactBodAlong card Q L m = L *ᶠ S N (exponent (card .k1) (card .volume) Q m)
 

@@ -5,17 +5,20 @@ use Prim.Native.Nat.{ℕ, _*_}
 use lib.IntN.{pos}
 use Rattle.river.specs.declared.card.Dam.{Dam}
 use Rattle.river.specs.declared.card.Dam.the-variants.{Absent, Aerating}
+use Rattle.river.specs.declared.card.Amount.{Amount}
+use Rattle.river.specs.declared.card.Amount.the-variants.{Without, Given}
 use Rattle.river.specs.declared.card.Card.{Card}
 use Rattle.river.specs.Refusal.{accepted, refused, refuse, need, after}
+use Rattle.river.specs.Card.{longestFile}
 use Rattle.river.specs.Read.{readFile, readHeader}
-use Rattle.river.specs.Flow.{fed, above, flowOf, massOf, deepest, feedersAmong, joinedIf, flowAt, depthAt, damFits, flowCheck, checksFrom, reachChecks}
+use Rattle.river.specs.Flow.{fed, above, flowOf, massOf, deepest, feedersAmong, joinedIf, flowAt, massAt, depthAt, damFits, flowCheck, checksFrom, reachChecks}
 use Rattle.river.specs.Saturation.{saturation, saturationThousandths, saturationOf}
 use Rattle.river.specs.Head.{floor, upstreamDemand, upstreamOxygen, aerated, belowDam, headDemand, headBod, headOxygen}
 use Rattle.river.specs.Accept.{acceptFile}
 
--- a reach at 20 degrees with no load
-abbrev pub reach : (outlet k1 volume inflow bod oxygen : ℕ) → Dam → Card
-reach outlet k1 volume inflow bod oxygen dam =
+-- a reach at 20 degrees
+abbrev pub reach : (outlet k1 volume inflow bod oxygen load : ℕ) → Dam → Amount → Card
+reach outlet k1 volume inflow bod oxygen load dam take =
     record {
       outlet = outlet;
       temperature = 20;
@@ -25,26 +28,34 @@ reach outlet k1 volume inflow bod oxygen dam =
       inflow = inflow;
       «inflow_bod» = bod;
       «inflow_oxygen» = oxygen;
-      load = 0;
+      load = load;
       dam = dam;
+      take = take;
     }
 
--- the two reaches of the printing program's example, with a dam on reach 2 or without
-abbrev pub first : Card
-first = reach 2 0 1000 3000 2000 8000 Absent
+-- the two reaches of the printing program's example, with a dam on reach 2 or without, and with takes or without
+abbrev pub first : Amount → Card
+first take = reach 2 0 1000 3000 2000 8000 0 Absent take
 
-abbrev pub second : Dam → Card
-second dam = reach 0 0 1000 1000 30000 2000 dam
+abbrev pub second : Dam → Amount → Card
+second dam take = reach 0 0 1000 1000 30000 2000 0 dam take
 
 abbrev pub two : Dam → List Card
-two dam = first ∷ second dam ∷ []
+two dam = first Without ∷ second dam Without ∷ []
+
+abbrev pub drawn : (take-1 take-2 : Amount) → List Card
+drawn take-1 take-2 = first take-1 ∷ second Absent take-2 ∷ []
 
 abbrev weir : Dam
 weir = Aerating 500 1000
 
--- one reach by its k1, volume and inflow
-abbrev one : (k1 volume inflow : ℕ) → List Card
-one k1 volume inflow = reach 0 k1 volume inflow 0 0 Absent ∷ []
+-- one reach by its k1, volume, inflow and take
+abbrev one : (k1 volume inflow : ℕ) → Amount → List Card
+one k1 volume inflow take = reach 0 k1 volume inflow 0 0 0 Absent take ∷ []
+
+-- one reach with Qm 3 and Mm 2,999,999
+abbrev full : Amount → List Card
+full take = reach 0 0 0 3 999_333 0 2 Absent take ∷ []
 
 pub record Rows : Type 0 where
   pub saturation-0 : saturation 0 ≡ 14652000
@@ -55,19 +66,36 @@ pub record Rows : Type 0 where
   pub accepted-two : flowCheck (two Absent) ≡ accepted (two Absent)
   pub depth-1 : depthAt (two Absent) 1 ≡ 1
   pub flow-1 : flowAt (two Absent) 1 ≡ 3000
-  pub bod-1 : headBod first (fed (above (two Absent) 1)) (flowOf (above (two Absent) 1)) 0 ≡ 2000000
-  pub oxygen-1 : headOxygen first (fed (above (two Absent) 1)) (flowOf (above (two Absent) 1)) (pos 0) ≡ pos 8000000
+  pub bod-1 : headBod (first Without) (fed (above (two Absent) 1)) (flowOf (above (two Absent) 1)) 0 ≡ 2000000
+  pub oxygen-1 : headOxygen (first Without) (fed (above (two Absent) 1)) (flowOf (above (two Absent) 1)) (pos 0) ≡ pos 8000000
   pub depth-2 : depthAt (two Absent) 2 ≡ 2
   pub flow-2 : flowAt (two Absent) 2 ≡ 4000
-  pub bod-2 : headBod (second Absent) (fed (above (two Absent) 2)) (flowOf (above (two Absent) 2)) (3000 * 2000000) ≡ 9000000
-  pub oxygen-2 : headOxygen (second Absent) (fed (above (two Absent) 2)) (flowOf (above (two Absent) 2)) (pos (3000 * 8000000)) ≡ pos 6500000
+  pub bod-2 : headBod (second Absent Without) (fed (above (two Absent) 2)) (flowOf (above (two Absent) 2)) (3000 * 2000000) ≡ 9000000
+  pub oxygen-2 : headOxygen (second Absent Without) (fed (above (two Absent) 2)) (flowOf (above (two Absent) 2)) (pos (3000 * 8000000)) ≡ pos 6500000
   pub accepted-dam : flowCheck (two weir) ≡ accepted (two weir)
-  pub below-dam : belowDam (second weir) (fed (above (two weir) 2)) (flowOf (above (two weir) 2)) (pos 8000000) ≡ pos 8340602
-  pub oxygen-dam : headOxygen (second weir) (fed (above (two weir) 2)) (flowOf (above (two weir) 2)) (pos (3000 * 8000000)) ≡ pos 6755451
-  pub volume-passes : flowCheck (one 1000 3456000 10000) ≡ accepted (one 1000 3456000 10000)
-  pub volume-refused : flowCheck (one 1000 3456001 10000) ≡ refused (refuse 11 1)
-  pub inflow-zero : flowCheck (one 0 0 0) ≡ refused (refuse 7 1)
+  pub below-dam : belowDam (second weir Without) (fed (above (two weir) 2)) (flowOf (above (two weir) 2)) (pos 8000000) ≡ pos 8340602
+  pub oxygen-dam : headOxygen (second weir Without) (fed (above (two weir) 2)) (flowOf (above (two weir) 2)) (pos (3000 * 8000000)) ≡ pos 6755451
+  pub volume-passes : flowCheck (one 1000 3456000 10000 Without) ≡ accepted (one 1000 3456000 10000 Without)
+  pub volume-refused : flowCheck (one 1000 3456001 10000 Without) ≡ refused (refuse 11 1)
+  pub inflow-zero : flowCheck (one 0 0 0 Without) ≡ refused (refuse 7 1)
   pub empty-file : acceptFile [] ≡ refused (refuse 1 0)
+  -- a take of 1,000 at reach 1
+  pub drawn-1-passes : flowCheck (drawn (Given 1000) Without) ≡ accepted (drawn (Given 1000) Without)
+  pub drawn-1-flow-1 : flowAt (drawn (Given 1000) Without) 1 ≡ 2000
+  pub drawn-1-flow-2 : flowAt (drawn (Given 1000) Without) 2 ≡ 3000
+  -- a take of 1,000 at reach 2
+  pub drawn-2-passes : flowCheck (drawn Without (Given 1000)) ≡ accepted (drawn Without (Given 1000))
+  pub drawn-2-flow-2 : flowAt (drawn Without (Given 1000)) 2 ≡ 3000
+  -- 13 at all of the flow, and one below
+  pub all-drawn : flowCheck (drawn (Given 3000) Without) ≡ refused (refuse 13 1)
+  pub nearly-drawn : flowCheck (drawn (Given 2999) Without) ≡ accepted (drawn (Given 2999) Without)
+  -- 11 by the flow after the take
+  pub rate-after-take : flowCheck (one 1000 3456000 10000 (Given 1)) ≡ refused (refuse 11 1)
+  -- M without a take, and cut after one
+  pub mass-full : massAt (full Without) 1 ≡ 2_999_999
+  pub mass-cut : massAt (full (Given 2)) 1 ≡ 1_000_000
+  -- the longest file
+  pub longest : longestFile ≡ 5_124
 
 -- THEOREM: the bench values of the paper for flows and heads, and the empty file, a row each
 pub bench : Rows
@@ -95,4 +123,15 @@ bench =
       volume-refused = refl;
       inflow-zero = refl;
       empty-file = refl;
+      drawn-1-passes = refl;
+      drawn-1-flow-1 = refl;
+      drawn-1-flow-2 = refl;
+      drawn-2-passes = refl;
+      drawn-2-flow-2 = refl;
+      all-drawn = refl;
+      nearly-drawn = refl;
+      rate-after-take = refl;
+      mass-full = refl;
+      mass-cut = refl;
+      longest = refl;
     }

@@ -15,6 +15,7 @@ use Rattle.river.specs.File.{IsFile}
 use Rattle.river.specs.Read.{readHeader, readReaches, readFile}
 use Rattle.river.specs.Refusal.{accepted}
 use Rattle.river.specs.Write.{encode, encodeCard, encodeCards, encodeHeader}
+use Rattle.river.specs.declared.card.Amount.the-variants.{Without, Given}
 use Rattle.river.specs.declared.card.Card.{Card}
 use Rattle.river.specs.declared.card.Dam.the-variants.{Absent, Aerating}
 use Rattle.river.proofs.Answers.{need-true, after-accepted, passed, went}
@@ -147,6 +148,10 @@ one-river cs ds p q e =
 -- THEOREM: a dam makes another card than no dam, whatever its numbers
 pub dam-or-none : {share generating : ℕ} (c d : Card) → c .dam ≡ Absent → d .dam ≡ Aerating share generating → c ≡ d → ⊥
 dam-or-none c d p q e = let z : _≡_ {A = ℕ} 0 1 = cc (ap (λ (x : Card). x .dam) e) in omega arith
+
+-- THEOREM: a take makes another card than no take, whatever its number, 0 too; and so, by `one-river`, another file
+pub take-or-none : {n : ℕ} (c d : Card) → c .take ≡ Without → d .take ≡ Given n → c ≡ d → ⊥
+take-or-none c d p q e = let z : _≡_ {A = ℕ} 0 1 = cc (ap (λ (x : Card). x .take) e) in omega arith
 
 -- each card's records are at most as long as the longest card's
 cards-length : (cs : List Card) → length (encodeCards cs) ≤ longestCard * length cs

@@ -4,11 +4,13 @@ use mathlib.Core.Path.{_≡_, refl}
 use mathlib.Core.List.{List, [], _∷_, _++_}
 use Prim.Native.Nat.{ℕ}
 use lib.ListN.{take, drop}
+use Rattle.river.specs.declared.card.Amount.{Amount}
+use Rattle.river.specs.declared.card.Amount.the-variants.{Without, Given}
 use Rattle.river.specs.declared.card.Card.{Card}
 use Rattle.river.specs.declared.card.Dam.{Dam}
 use Rattle.river.specs.declared.card.Dam.the-variants.{Absent, Aerating}
-use Rattle.river.specs.Refusal.{refused, refuse, need, choose, after}
-use Rattle.river.specs.Card.{countOk, inRange, outletOk, damInRange}
+use Rattle.river.specs.Refusal.{accepted, refused, refuse, need, choose, after}
+use Rattle.river.specs.Card.{countOk, inRange, outletOk, encodeDam, damInRange, takeLayout, encodeAmount, amountInRange}
 use Rattle.river.specs.Optional.{readOptional, readOptionals, optionalsInRange}
 use Rattle.river.specs.Read.{readHeader, readReach, readReaches, readFile, cardAt}
 use Rattle.river.specs.Write.{encode, encodeCard, encodeHeader, checkCard, checkFrom, writeAnswer}
@@ -16,8 +18,8 @@ use Rattle.river.specs.Rewrite.{rewriteAnswer}
 use Rattle.river.specs.Flow.{fed, flowOf, massOf, feedersAmong, joinedIf, damFits, flowCheck, checksFrom, reachChecks}
 
 -- a reach by the fields that break a rule
-abbrev reach : (outlet temperature volume inflow load : ℕ) → Dam → Card
-reach outlet temperature volume inflow load dam =
+abbrev reach : (outlet temperature volume inflow load : ℕ) → Dam → Amount → Card
+reach outlet temperature volume inflow load dam amount =
     record {
       outlet = outlet;
       temperature = temperature;
@@ -29,6 +31,7 @@ reach outlet temperature volume inflow load dam =
       «inflow_oxygen» = 0;
       load = load;
       dam = dam;
+      take = amount;
     }
 
 -- a dam in range, and one out of range
@@ -37,6 +40,10 @@ weir = Aerating 500 0
 
 abbrev weir-out : Dam
 weir-out = Aerating 1_001 0
+
+-- a take out of range
+abbrev take-out : Amount
+take-out = Given 100_000_001
 
 -- the file of one reach, whatever its fields
 abbrev file : Card → List ℕ
@@ -48,35 +55,52 @@ pub record Reading : Type 0 where
   pub wrong-header : readFile (88 ∷ 86 ∷ 0 ∷ 0 ∷ []) ≡ refused (refuse 2 0)
   -- a reach: 1, 2, 4, 5
   pub cut-reach : readFile (82 ∷ 86 ∷ 0 ∷ 1 ∷ 88 ∷ 69 ∷ []) ≡ refused (refuse 1 1)
-  pub wrong-reach : readReach 1 1 (88 ∷ 69 ∷ drop 2 (encodeCard (reach 0 36 0 1 0 Absent))) ≡ refused (refuse 2 1)
-  pub range-and-outlet : readFile (file (reach 9 36 0 1 0 Absent)) ≡ refused (refuse 4 1)
+  pub wrong-reach : readReach 1 1 (88 ∷ 69 ∷ drop 2 (encodeCard (reach 0 36 0 1 0 Absent Without))) ≡ refused (refuse 2 1)
+  pub range-and-outlet : readFile (file (reach 9 36 0 1 0 Absent Without)) ≡ refused (refuse 4 1)
   -- then its dam: 1, 4
-  pub outlet-and-dam : readFile (file (reach 9 20 0 1 0 weir-out)) ≡ refused (refuse 5 1)
-  pub cut-dam : readFile (take 37 (file (reach 0 20 0 1 0 weir-out))) ≡ refused (refuse 1 1)
+  pub outlet-and-dam : readFile (file (reach 9 20 0 1 0 weir-out Without)) ≡ refused (refuse 5 1)
+  pub cut-dam : readFile (take 37 (file (reach 0 20 0 1 0 weir-out Without))) ≡ refused (refuse 1 1)
+  -- then its take: 1, 4
+  pub outlet-and-take : readFile (file (reach 9 20 0 1 0 Absent take-out)) ≡ refused (refuse 5 1)
+  pub dam-and-cut-take : readFile (take 43 (file (reach 0 20 0 1 0 weir-out take-out))) ≡ refused (refuse 4 1)
+  pub cut-take : readFile (take 35 (file (reach 0 20 0 1 0 Absent take-out))) ≡ refused (refuse 1 1)
+  -- a dam behind a take is no record that is due
+  pub take-then-dam : readFile (file (reach 0 20 0 1 0 Absent (Given 0)) ++ encodeDam weir) ≡ refused (refuse 6 0)
+  pub next-after-dam : readFile (encodeHeader 2 ++ encodeCard (reach 2 20 0 1 0 Absent (Given 0)) ++ encodeDam weir ++ encodeCard (reach 0 20 0 1 0 Absent Without)) ≡ refused (refuse 2 2)
+  -- nor is a second take
+  pub take-twice : readFile (file (reach 0 20 0 1 0 Absent (Given 0)) ++ encodeAmount takeLayout (Given 0)) ≡ refused (refuse 6 0)
   -- 6 comes last
-  pub dam-and-more : readFile (file (reach 0 20 0 1 0 weir-out) ++ (0 ∷ [])) ≡ refused (refuse 4 1)
+  pub dam-and-more : readFile (file (reach 0 20 0 1 0 weir-out Without) ++ (0 ∷ [])) ≡ refused (refuse 4 1)
+  pub take-and-more : readFile (file (reach 0 20 0 1 0 weir take-out) ++ (0 ∷ [])) ≡ refused (refuse 4 1)
 
 pub record Writing : Type 0 where
-  -- 3, then 4 and 5 of a reach, then its dam's 4, then 12
-  pub count-and-range : writeAnswer 0 (reach 9 36 0 1 0 Absent ∷ []) 0 ≡ refused (refuse 3 0)
-  pub range-and-outlet : writeAnswer 1 (reach 9 36 0 1 0 Absent ∷ []) 0 ≡ refused (refuse 4 1)
-  pub outlet-and-dam : writeAnswer 1 (reach 9 20 0 1 0 weir-out ∷ []) 0 ≡ refused (refuse 5 1)
-  pub dam-and-room : writeAnswer 1 (reach 0 20 0 1 0 weir-out ∷ []) 0 ≡ refused (refuse 4 1)
+  -- 3, then 4 and 5 of a reach, then the 4 of its dam and its take, then 12
+  pub count-and-range : writeAnswer 0 (reach 9 36 0 1 0 Absent Without ∷ []) 0 ≡ refused (refuse 3 0)
+  pub range-and-outlet : writeAnswer 1 (reach 9 36 0 1 0 Absent Without ∷ []) 0 ≡ refused (refuse 4 1)
+  pub outlet-and-dam : writeAnswer 1 (reach 9 20 0 1 0 weir-out Without ∷ []) 0 ≡ refused (refuse 5 1)
+  pub outlet-and-take : writeAnswer 1 (reach 9 20 0 1 0 Absent take-out ∷ []) 0 ≡ refused (refuse 5 1)
+  pub take-and-room : writeAnswer 1 (reach 0 20 0 1 0 weir take-out ∷ []) 0 ≡ refused (refuse 4 1)
+  pub dam-and-room : writeAnswer 1 (reach 0 20 0 1 0 weir-out Without ∷ []) 0 ≡ refused (refuse 4 1)
   -- rewriting: a rule of reading, then 12
   pub cut-and-room : rewriteAnswer (88 ∷ 86 ∷ 0 ∷ []) 0 ≡ refused (refuse 1 0)
 
 pub record Flowing : Type 0 where
-  -- 7, 8, 9, 10, 11, each with the next rule that the same reach can break
-  pub none-and-dam : flowCheck (reach 0 20 0 0 0 weir ∷ []) ≡ refused (refuse 7 1)
-  pub flow-and-dam : flowCheck (reach 0 20 0 100_000_001 0 weir ∷ []) ≡ refused (refuse 8 1)
-  pub dam-and-load : flowCheck (reach 0 20 0 1 1_001 weir ∷ []) ≡ refused (refuse 9 1)
-  pub load-and-rate : flowCheck (reach 0 20 346 1 1_001 Absent ∷ []) ≡ refused (refuse 10 1)
+  -- 7, 8, 9, 10, 13, 11, each with the next rule that the same reach can break
+  pub none-and-dam : flowCheck (reach 0 20 0 0 0 weir Without ∷ []) ≡ refused (refuse 7 1)
+  pub flow-and-dam : flowCheck (reach 0 20 0 100_000_001 0 weir Without ∷ []) ≡ refused (refuse 8 1)
+  pub dam-and-load : flowCheck (reach 0 20 0 1 1_001 weir Without ∷ []) ≡ refused (refuse 9 1)
+  pub load-and-rate : flowCheck (reach 0 20 346 1 1_001 Absent Without ∷ []) ≡ refused (refuse 10 1)
+  pub load-and-take : flowCheck (reach 0 20 0 1 1_001 Absent (Given 1) ∷ []) ≡ refused (refuse 10 1)
+  pub take-and-rate : flowCheck (reach 0 20 346 1 0 Absent (Given 1) ∷ []) ≡ refused (refuse 13 1)
+  -- a take of Qm less 1 passes 13, and 11 goes by the flow that remains
+  pub one-left : flowCheck (reach 0 20 345 2 0 Absent (Given 1) ∷ []) ≡ accepted (reach 0 20 345 2 0 Absent (Given 1) ∷ [])
+  pub rate-by-the-rest : flowCheck (reach 0 20 346 2 0 Absent (Given 1) ∷ []) ≡ refused (refuse 11 1)
   -- and 11 of a reach before 10 of the next
-  pub rate-and-next : flowCheck (reach 2 20 346 1 0 Absent ∷ reach 0 20 0 1 2_001 Absent ∷ []) ≡ refused (refuse 11 1)
+  pub rate-and-next : flowCheck (reach 2 20 346 1 0 Absent Without ∷ reach 0 20 0 1 2_001 Absent Without ∷ []) ≡ refused (refuse 11 1)
 
 -- THEOREM: whoever breaks two rules of reading gets the earlier one's number
 pub reading-order : Reading
-unfolding readFile readHeader readReaches readReach readOptionals readOptional cardAt countOk inRange outletOk damInRange need after choose
+unfolding readFile readHeader readReaches readReach readOptionals readOptional cardAt countOk inRange outletOk damInRange amountInRange need after choose
 reading-order =
     record {
       cut-header = refl;
@@ -86,17 +110,26 @@ reading-order =
       range-and-outlet = refl;
       outlet-and-dam = refl;
       cut-dam = refl;
+      outlet-and-take = refl;
+      dam-and-cut-take = refl;
+      cut-take = refl;
+      take-then-dam = refl;
+      next-after-dam = refl;
+      take-twice = refl;
       dam-and-more = refl;
+      take-and-more = refl;
     }
 
 -- THEOREM: the same for writing and rewriting
 pub writing-order : Writing
-unfolding rewriteAnswer readFile readHeader writeAnswer checkFrom checkCard encode countOk inRange outletOk damInRange optionalsInRange need after
+unfolding rewriteAnswer readFile readHeader writeAnswer checkFrom checkCard encode countOk inRange outletOk damInRange amountInRange optionalsInRange need after
 writing-order =
     record {
       count-and-range = refl;
       range-and-outlet = refl;
       outlet-and-dam = refl;
+      outlet-and-take = refl;
+      take-and-room = refl;
       dam-and-room = refl;
       cut-and-room = refl;
     }
@@ -110,5 +143,9 @@ flow-order =
       flow-and-dam = refl;
       dam-and-load = refl;
       load-and-rate = refl;
+      load-and-take = refl;
+      take-and-rate = refl;
+      one-left = refl;
+      rate-by-the-rest = refl;
       rate-and-next = refl;
     }

@@ -1,5 +1,6 @@
 -- Laws of flows and of the flow check.
 pub mod Table
+pub mod Take
 pub mod Checks
 pub mod Count
 pub mod Groups

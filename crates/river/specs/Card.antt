@@ -1,21 +1,29 @@
 -- Cards: the ranges of their fields, outlets, the lawful lists of cards, which are the rivers that have a file, and the records of a card.
 use mathlib.Core.Path.{_≡_}
-use mathlib.Core.Bool.{Bool, true, _&&_, cond}
+use mathlib.Core.Bool.{Bool, true, false, _&&_, cond}
 use mathlib.Core.List.{List, [], _∷_, _++_}
 use Prim.Native.Char.{code}
-use Prim.Native.Nat.{ℕ, suc, _+_, _*_, _≤_, _<_}
+use Prim.Native.Nat.{ℕ, suc, _+_, _*_, _%_, _≤_, _<_}
 use lib.ListN.{length, take}
 use lib.Dec.{leb, ltb, eqb}
 use Rattle.river.specs.declared.card.Card.{Card}
 use Rattle.river.specs.declared.card.Cards.{Cards}
 use Rattle.river.specs.declared.card.Dam.{Dam}
 use Rattle.river.specs.declared.card.Dam.the-variants.{Absent, Aerating}
+use Rattle.river.specs.declared.card.Amount.{Amount}
+use Rattle.river.specs.declared.card.Amount.the-variants.{Without, Given}
+use Rattle.river.specs.declared.card.Layout.{Layout}
 use Rattle.river.specs.Bytes.{Mark, mark, markBytes, twoBytes, fourBytes, twoAt, fourAt}
 use Rattle.river.specs.Optional.{Kind, Values, encodeOptionals, sizes}
 
 -- the river of a `Cards` value: its first `count` cards; reach i is element i - 1
 abbrev pub river : Cards → List Card
 river cs = take (cs .count) (cs .at)
+
+-- an amount, or what stands for none
+abbrev pub amountOr : ℕ → Amount → ℕ
+amountOr none Without = none
+amountOr none (Given n) = n
 
 -- the card that stands for a reach beyond the last one
 abbrev pub blank : Card
@@ -31,6 +39,7 @@ blank =
       «inflow_oxygen» = 0;
       load = 0;
       dam = Absent;
+      take = Without;
     }
 
 -- the ranges of an `RE` record's fields
@@ -53,6 +62,15 @@ abbrev pub LawfulDam : Dam → Type 0
 LawfulDam Absent = Unit
 LawfulDam (Aerating s g) = DamInRange s g
 
+-- the `WD` record: mark; take (4; to 100,000,000)
+abbrev pub takeLayout : Layout
+takeLayout = record { first = code "W"; second = code "D"; wide = true; least = 0; most = 100_000_000 }
+
+-- an amount is none, or a number in the range of its layout
+abbrev pub LawfulAmount : Layout → Amount → Type 0
+LawfulAmount l Without = Unit
+LawfulAmount l (Given n) = (l .least ≤ n) × (n ≤ l .most)
+
 -- the outlet of reach i of n: a larger number, at most n; 0 for the last reach and for no other
 unfoldable pub outletOk : ℕ → ℕ → ℕ → Bool
 outletOk n i o = cond (eqb i n) (eqb o 0) (ltb i o && leb o n)
@@ -63,6 +81,7 @@ pub record LawfulCard (n i : ℕ) (c : Card) : Type 0 where
   pub load : c .load < 4_294_967_296
   pub outlet : outletOk n i (c .outlet) ≡ true
   pub dam : LawfulDam (c .dam)
+  pub take : LawfulAmount takeLayout (c .take)
 
 -- lawful cards of the reaches from i on, of n
 abbrev pub LawfulFrom : ℕ → ℕ → List Card → Type 0
@@ -129,13 +148,55 @@ damRecord =
       inRange = damInRange;
     }
 
+-- a record of one number, by its layout: mark; the number (4 or 2); this is its length
+abbrev pub layoutSize : Layout → ℕ
+layoutSize l = cond (l .wide) 6 4
+
+-- the number in its bytes
+abbrev pub numberAt : (wide : Bool) → List ℕ → ℕ
+numberAt true s = fourAt s 2
+numberAt false s = twoAt s 2
+
+-- a number as its bytes; in two bytes modulo 65,536, for a layout whose numbers in range are smaller
+abbrev pub numberBytes : (wide : Bool) → ℕ → List ℕ
+numberBytes true n = fourBytes n
+numberBytes false n = twoBytes (n % 65_536)
+
+-- the record of an amount, no byte for none
+abbrev pub encodeAmount : Layout → Amount → List ℕ
+encodeAmount l Without = []
+encodeAmount l (Given n) = markBytes (mark (l .first) (l .second)) ++ numberBytes (l .wide) n
+
+-- the test of its range
+unfoldable pub amountInRange : Layout → Amount → Bool
+amountInRange l Without = true
+amountInRange l (Given n) = leb (l .least) n && leb n (l .most)
+
+-- the kind of record that a layout describes
+abbrev pub amountRecord : Layout → Kind
+amountRecord l =
+    record {
+      Value = Amount;
+      none = Without;
+      mark = mark (l .first) (l .second);
+      size = layoutSize l;
+      decode = λ s. Given (numberAt (l .wide) s);
+      test = λ s. amountInRange l (Given (numberAt (l .wide) s));
+      encode = encodeAmount l;
+      inRange = amountInRange l;
+    }
+
+-- the `WD` record among them
+abbrev pub takeRecord : Kind
+takeRecord = amountRecord takeLayout
+
 -- the records that may follow an `RE` record, in file order
 abbrev pub optional : List Kind
-optional = damRecord ∷ []
+optional = damRecord ∷ takeRecord ∷ []
 
 -- what a card holds of them
 abbrev pub optionalOf : Card → Values optional
-optionalOf c = (c .dam, tt)
+optionalOf c = (c .dam, (c .take, tt))
 
 -- the length of a card's records, and that of the longest card's
 abbrev pub sizeOf : Card → ℕ

@@ -2,14 +2,14 @@
 use mathlib.Core.Path.{_≡_}
 use mathlib.Core.Bool.{Bool, true, false, _&&_}
 use mathlib.Core.List.{List}
-use Prim.Native.Nat.{ℕ, zero, suc, _+_, _*_, _<_, _≤_, max}
+use Prim.Native.Nat.{ℕ, zero, suc, _+_, _*_, _-_, _/_, _<_, _≤_, min, max}
 use lib.ListN.{length, getD}
 use lib.Dec.{leb, ltb, eqb}
 use Rattle.river.specs.declared.card.Dam.{Dam}
 use Rattle.river.specs.declared.card.Dam.the-variants.{Absent, Aerating}
 use Rattle.river.specs.declared.card.Card.{Card}
 use Rattle.river.specs.Refusal.{Answer, accepted, need}
-use Rattle.river.specs.Card.{blank}
+use Rattle.river.specs.Card.{blank, amountOr}
 use Rattle.river.specs.Source.{bodSource, sourceMass}
 
 -- the most litres a second that a reach may carry
@@ -50,27 +50,43 @@ abbrev pub above : List Card → ℕ → Feeders
 above cards zero = none
 above cards (suc n) = feedersAmong cards n (suc n)
 
--- Qu, the sum of the feeders' flows
+-- the take of a reach, 0 without one
+abbrev pub takeOf : Card → ℕ
+takeOf card = amountOr 0 (card .take)
+
+-- Qu, the sum of the feeders' flows, each after the feeder's own take
 unfoldable pub flowOf : Feeders → ℕ
 flowOf none = 0
-flowOf (more card up rest) = flowOf up + card .inflow + flowOf rest
+flowOf (more card up rest) = flowOf up + card .inflow - takeOf card + flowOf rest
 
--- Q of a reach with this card, with what flows into it
+-- Qm, the mixed flow: Q of a reach with this card before its take, with what flows into it
+abbrev pub mixedFlow : Card → Feeders → ℕ
+mixedFlow card up = flowOf up + card .inflow
+
+-- Q, the flow of the reach from its take on: what remains
 abbrev pub reachFlow : Card → Feeders → ℕ
-reachFlow card up = flowOf up + card .inflow
+reachFlow card up = mixedFlow card up - takeOf card
 
 -- the undecayed BOD that a reach itself takes in
 abbrev pub ownMass : Card → ℕ
 ownMass card = sourceMass (bodSource card)
 
--- the sum of the feeders' undecayed BOD
+-- M after a take, by Qm and Mm before it: it falls by take × (Mm / Qm, rounded down), and is cut to 1,000,000 × remaining Q if larger
+abbrev pub remainingMass : (take Qm Mm : ℕ) → ℕ
+remainingMass take Qm Mm = min (Mm - take * (Mm / Qm)) (massLimit * (Qm - take))
+
+-- the sum of the feeders' undecayed BOD, each after the feeder's own take
 unfoldable pub massOf : Feeders → ℕ
 massOf none = 0
-massOf (more card up rest) = massOf up + ownMass card + massOf rest
+massOf (more card up rest) = remainingMass (takeOf card) (flowOf up + card .inflow) (massOf up + ownMass card) + massOf rest
 
--- M, the undecayed BOD of a reach
+-- Mm, the undecayed BOD of a reach before its take
+abbrev pub mixedMass : Card → Feeders → ℕ
+mixedMass card up = massOf up + ownMass card
+
+-- M, the undecayed BOD of the reach from its take on
 abbrev pub reachMass : Card → Feeders → ℕ
-reachMass card up = massOf up + ownMass card
+reachMass card up = remainingMass (takeOf card) (mixedFlow card up) (mixedMass card up)
 
 -- the depth of the deepest feeder, 0 without feeders
 unfoldable pub deepest : Feeders → ℕ
@@ -81,7 +97,7 @@ deepest (more card up rest) = max (1 + deepest up) (deepest rest)
 abbrev pub reachDepth : Feeders → ℕ
 reachDepth up = 1 + deepest up
 
--- flow, undecayed BOD and depth of reach i of a river
+-- flow and undecayed BOD, after the take, and depth of reach i of a river
 abbrev pub flowAt : List Card → ℕ → ℕ
 flowAt cards i = reachFlow (cardOf cards i) (above cards i)
 
@@ -114,27 +130,33 @@ infixr 5 _then_
 unfoldable pub _then_ : Checks → Checks → Checks
 _then_ first second later = first (second later)
 
--- 7: Q is 0; 8: Q above 100,000,000; 9: a dam where there are no feeders, or generating flow above Qu
-unfoldable pub flowRules : Dam → (fed : Bool) (Qu Q i : ℕ) → Checks
-flowRules dam fed Qu Q i = need (ltb 0 Q) 7 i then need (leb Q flowLimit) 8 i then need (damFits dam fed Qu) 9 i
+-- 7: Qm is 0; 8: Qm above 100,000,000; 9: a dam where there are no feeders, or generating flow above Qu
+unfoldable pub flowRules : Dam → (fed : Bool) (Qu Qm i : ℕ) → Checks
+flowRules dam fed Qu Qm i = need (ltb 0 Qm) 7 i then need (leb Qm flowLimit) 8 i then need (damFits dam fed Qu) 9 i
 
--- 10: M above 1,000,000 × Q
-unfoldable pub loadRule : (Q M i : ℕ) → Checks
-loadRule Q M i = need (leb M (massLimit * Q)) 10 i
+-- 10: Mm above 1,000,000 × Qm
+unfoldable pub loadRule : (Qm Mm i : ℕ) → Checks
+loadRule Qm Mm i = need (leb Mm (massLimit * Qm)) 10 i
+
+-- 13: a take that is not below Qm
+unfoldable pub takeRule : (take Qm i : ℕ) → Checks
+takeRule take Qm i = need (ltb take Qm) 13 i
 
 -- 11: k1 × volume or k2 × volume above 345,600 × Q
 unfoldable pub rateRules : Card → (Q i : ℕ) → Checks
 rateRules card Q i =
     need (rateFits (card .k1) (card .volume) Q) 11 i then need (rateFits (card .k2) (card .volume) Q) 11 i
 
--- the checks of reach i in order, by its card, whether it has feeders, Qu, Q and M
-unfoldable pub checksOf : Card → (fed : Bool) (Qu Q M i : ℕ) → Checks
-checksOf card fed Qu Q M i = flowRules (card .dam) fed Qu Q i then loadRule Q M i then rateRules card Q i
+-- the checks of reach i in order, by its card, whether it has feeders, Qu, Qm and Mm; 11 goes by Q, the flow after the take
+unfoldable pub checksOf : Card → (fed : Bool) (Qu Qm Mm i : ℕ) → Checks
+checksOf card fed Qu Qm Mm i =
+    flowRules (card .dam) fed Qu Qm i then
+    loadRule Qm Mm i then takeRule (takeOf card) Qm i then rateRules card (Qm - takeOf card) i
 
 -- the checks of reach i with this card, with what flows into it; to unfold them is to unfold their groups
 unfoldable pub reachChecks : Card → Feeders → ℕ → Checks
-unfolding checksOf flowRules loadRule rateRules _then_
-reachChecks card up i = checksOf card (fed up) (flowOf up) (reachFlow card up) (reachMass card up) i
+unfolding checksOf flowRules loadRule takeRule rateRules _then_
+reachChecks card up i = checksOf card (fed up) (flowOf up) (mixedFlow card up) (mixedMass card up) i
 
 -- the checks by reach number, of m reaches from i on
 unfoldable pub checksFrom : List Card → (i m : ℕ) → Answer (List Card)
@@ -150,12 +172,13 @@ unfoldable pub DamRule : Dam → Feeders → Type 0
 DamRule Absent up = Unit
 DamRule (Aerating share generating) up = (fed up ≡ true) × (generating ≤ flowOf up)
 
--- what checks 7 to 11 ask of a reach with this card, with what flows into it
+-- what checks 7 to 11 and 13 ask of a reach with this card, with what flows into it
 pub record ReachPasses (card : Card) (up : Feeders) : Type 0 where
-  pub flowing : 0 < reachFlow card up
-  pub bounded : reachFlow card up ≤ flowLimit
+  pub flowing : 0 < mixedFlow card up
+  pub bounded : mixedFlow card up ≤ flowLimit
   pub dam-rule : DamRule (card .dam) up
-  pub mass-rule : reachMass card up ≤ massLimit * reachFlow card up
+  pub mass-rule : mixedMass card up ≤ massLimit * mixedFlow card up
+  pub take-rule : takeOf card < mixedFlow card up
   pub decay-rule : card .k1 * card .volume ≤ rateLimit * reachFlow card up
   pub aeration-rule : card .k2 * card .volume ≤ rateLimit * reachFlow card up
 

@@ -53,14 +53,14 @@ pub record UpstreamOf (t : FlowTable) (i : ℕ) (up : Upstream) : Type 0 where
 abbrev pub noFlows : FlowTable
 noFlows = record { outlet = replicate 128 0; flow = replicate 128 0; mass = replicate 128 0; depth = replicate 128 0 }
 
--- tables with the outlet, flow, undecayed BOD and depth of reach i + 1 entered
+-- tables with the outlet, flow and undecayed BOD after the take, and depth of reach i + 1 entered
 pub record Entered (t : FlowTable) (i o Q M d : ℕ) (u : FlowTable) : Type 0 where
   pub outlet : u .outlet ≡ set (t .outlet) i o
   pub flow : u .flow ≡ set (t .flow) i Q
   pub mass : u .mass ≡ set (t .mass) i M
   pub depth : u .depth ≡ set (t .depth) i d
 
--- tables of the first n reaches: outlet, flow, undecayed BOD and depth
+-- tables of the first n reaches: outlet, flow and undecayed BOD after the take, and depth
 pub record Tabled (cards : List Card) (n : ℕ) (t : FlowTable) : Type 0 where
   pub outlet : (j : ℕ) → j < n → getD (t .outlet) j 0 ≡ cardOf cards (suc j) .outlet
   pub flow : (j : ℕ) → j < n → getD (t .flow) j 0 ≡ flowAt cards (suc j)

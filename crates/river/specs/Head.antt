@@ -1,4 +1,5 @@
--- "Head of a reach" of the river file paper: upstream means, the dam and mixing, as equations over the feeders' foot values.
+-- "Head of a reach" of the river file paper: upstream means, the dam and mixing, as equations over the feeders' foot values. A take leaves after
+-- mixing and changes neither figure: what is mixed is divided by Qm = Qu + inflow, the flow before the take.
 -- Concentrations are in units; oxygen is signed; every quotient is rounded down, also below zero.
 use mathlib.Core.Bool.{Bool, true, false}
 use Prim.Native.Nat.{ℕ, _+_, _*_, _-_, _/_}
@@ -36,7 +37,7 @@ unfoldable pub belowDam : Card → (fed : Bool) (Qu : ℕ) → ℤ → ℤ
 belowDam card false Qu C = C
 belowDam card true Qu C = aerated (card .dam) (saturationOf card) Qu C
 
--- 3. mixing with inflow and load
+-- 3. mixing with inflow and load, divided by Qm
 abbrev pub mixedDemand : Source → (Qu upstream : ℕ) → ℕ
 mixedDemand source Qu upstream =
     (Qu * upstream + 1_000 * source .inflow * source .concentration + 1_000_000 * source .load) / (Qu + source .inflow)

@@ -30,7 +30,7 @@ pub record PartOf (part whole : ℕ) : Type 0 where
   pub within : part ≤ whole
   pub fits : whole ≤ 1_000 * flowLimit
 
--- what an accepted river ensures of the water at the head of a reach: of its inflow, of whether it has feeders, and of Qu
+-- what an accepted river ensures of the water at the head of a reach, before its take: of its inflow, of whether it has feeders, and of Qu
 pub record HeadFlows (inflow : ℕ) (fed : Bool) (Qu : ℕ) : Type 0 where
   pub flowing : 0 < Qu + inflow
   pub bounded : Qu + inflow ≤ flowLimit
@@ -73,7 +73,7 @@ pub record HeadInput (cards : List Card) (flows : FlowTable) (feet : FootTable) 
   pub tabled : Tabled cards (length cards) flows
   pub carried : Carried cards feet i
 
--- the head of reach i + 1: its BOD and oxygen, and that its BOD is at most the undecayed BOD
+-- the head of reach i + 1: its BOD and oxygen, and that its BOD is at most the undecayed BOD, after the take too
 pub record HeadOf (cards : List Card) (flows : FlowTable) (feet : FootTable) (i : ℕ) (r : Head) : Type 0 where
   pub bod :
       r .bod ≡

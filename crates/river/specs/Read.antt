@@ -5,8 +5,10 @@ use lib.ListN.{length, drop}
 use lib.Dec.{leb, eqb}
 use Rattle.river.specs.declared.card.Card.{Card}
 use Rattle.river.specs.declared.card.Dam.{Dam}
+use Rattle.river.specs.declared.card.Amount.{Amount}
 use Rattle.river.specs.declared.refusal.Refusal.{Refusal}
 use Rattle.river.specs.declared.read.DamRead.{DamRead}
+use Rattle.river.specs.declared.read.AmountRead.{AmountRead}
 use Rattle.river.specs.declared.read.Header.{Header}
 use Rattle.river.specs.declared.read.Reach.{Reach}
 use Rattle.river.specs.Bytes.{byteAt, twoAt, fourAt, marked}
@@ -34,6 +36,7 @@ cardAt s vs =
       «inflow_oxygen» = twoAt s 20;
       load = fourAt s 22;
       dam = vs .0;
+      take = vs .1 .0;
     }
 
 -- reach i of n at the start of the bytes: 1, 2, 4, 5, then the records that follow its `RE` record, or its card
@@ -56,7 +59,7 @@ readReaches n i (suc m) s =
 unfoldable pub readFile : List ℕ → Answer (List Card)
 readFile s = after (readHeader s) (λ n. readReaches n 1 n (drop headerBytes s))
 
--- the answers of the program, case by case: the header's, a dam's, and a reach's at a position
+-- the answers of the program, case by case: the header's, a dam's, an amount's, and a reach's at a position
 abbrev pub headerOf : Answer ℕ → Header
 headerOf (accepted n) = Header.Count n headerBytes
 headerOf (refused r) = Header.Refused r
@@ -64,6 +67,10 @@ headerOf (refused r) = Header.Refused r
 abbrev pub damOf : Answer Dam → DamRead
 damOf (accepted d) = DamRead.Found d
 damOf (refused r) = DamRead.Refused r
+
+abbrev pub amountOf : Answer Amount → AmountRead
+amountOf (accepted a) = AmountRead.Found a
+amountOf (refused r) = AmountRead.Refused r
 
 abbrev pub reachOf : ℕ → Answer Card → Reach
 reachOf at (accepted c) = Reach.Read c (at + sizeOf c)
@@ -73,6 +80,14 @@ reachOf at (refused r) = Reach.Refused r
 abbrev pub headerRefusal : Header → Refusal
 headerRefusal (Header.Count n next) = refuse 0 0
 headerRefusal (Header.Refused r) = r
+
+abbrev pub damRefusal : DamRead → Refusal
+damRefusal (DamRead.Found d) = refuse 0 0
+damRefusal (DamRead.Refused r) = r
+
+abbrev pub amountRefusal : AmountRead → Refusal
+amountRefusal (AmountRead.Found a) = refuse 0 0
+amountRefusal (AmountRead.Refused r) = r
 
 abbrev pub reachRefusal : Reach → Refusal
 reachRefusal (Reach.Read c next) = refuse 0 0

@@ -1,20 +1,30 @@
 // One reach of a river file.
 ghost use mathlib.Core.Path.{_≡_};
 ghost use lib.ListN.{length};
-ghost use Rattle.river.specs.Card.{blank, encodeDam, sizeOf};
+ghost use Rattle.river.specs.Card.{blank, encodeDam, layoutSize, encodeAmount, amountOr, sizeOf, longestFile};
 
-// The lengths of the records `RV`, `RE` and `DM`.
+// The lengths of the records `RV`, `RE`, `DM` and `WD`.
 pub const HEADER_BYTES: usize = 4;
 
 pub const REACH_BYTES: usize = 26;
 
 pub const DAM_BYTES: usize = 8;
 
+const TAKE_BYTES: usize = WIDE_BYTES;
+
+// The lengths of a record of one number: a mark and four bytes, or two.
+const WIDE_BYTES: usize = 6;
+
+const NARROW_BYTES: usize = 4;
+
+// The most litres a second in a field.
+pub(crate) const FLOW_MOST: u32 = 100_000_000;
+
 // The most reaches of a river.
 pub const REACHES: usize = 128;
 
 // The length of the longest card's records, and of the longest file.
-pub const LONGEST_CARD: usize = REACH_BYTES + DAM_BYTES;
+pub const LONGEST_CARD: usize = REACH_BYTES + DAM_BYTES + TAKE_BYTES;
 
 pub const LONGEST_FILE: usize = HEADER_BYTES + REACHES * LONGEST_CARD;
 
@@ -24,7 +34,31 @@ pub enum Dam {
     Aerating { share: u16, generating: u32 },
 }
 
-// A reach card: the numbers of its `RE` record, in file order, and its dam.
+// A number that a card has or has not.
+pub enum Amount {
+    Without,
+    Given(u32),
+}
+
+// The layout of a record of one number: its mark, whether the number has four bytes or two, and its range.
+pub struct Layout {
+    pub first: u8,
+    pub second: u8,
+    pub wide: bool,
+    pub least: u32,
+    pub most: u32,
+}
+
+// The layout of a `WD` record.
+pub(crate) const TAKE: Layout = Layout {
+    first: b'W',
+    second: b'D',
+    wide: true,
+    least: 0,
+    most: FLOW_MOST,
+};
+
+// A reach card: the numbers of its `RE` record, in file order, its dam and its take, in litres a second.
 pub struct Card {
     pub outlet: u8,
     pub temperature: u8,
@@ -36,6 +70,7 @@ pub struct Card {
     pub inflow_oxygen: u16,
     pub load: u32,
     pub dam: Dam,
+    pub take: Amount,
 }
 
 // The cards of a river: the first `count` of them.
@@ -59,6 +94,7 @@ pub fn blank() -> Card
         inflow_oxygen: 0,
         load: 0,
         dam: Dam::Absent,
+        take: Amount::Without,
     }
 }
 
@@ -75,10 +111,49 @@ pub fn dam_size(dam: Dam) -> usize
     }
 }
 
+// The length of a record of one number.
+pub(crate) fn layout_size(layout: Layout) -> usize
+    ensures { λ r. ⌜ r ≡ layoutSize layout ⌝ }
+{
+    if layout.wide {
+        WIDE_BYTES
+    } else {
+        NARROW_BYTES
+    }
+}
+
+// An amount, or what stands for none.
+pub(crate) fn amount_or(none: u32, amount: Amount) -> u32
+    ensures { λ r. ⌜ r ≡ amountOr none amount ⌝ }
+{
+    match amount {
+        Amount::Without => none,
+        Amount::Given(n) => n,
+    }
+}
+
+// The length of an amount's record, if there is one.
+pub(crate) fn amount_size(layout: Layout, amount: Amount) -> usize
+    ensures { λ r. ⌜ r ≡ length (encodeAmount layout amount) ⌝ }
+{
+    match amount {
+        Amount::Without => 0,
+        Amount::Given(_) => layout_size(layout),
+    }
+}
+
+// The length of the longest file.
+pub fn longest_file() -> usize
+    ensures { λ r. ⌜ r ≡ longestFile ⌝ }
+{
+    LONGEST_FILE
+}
+
 // The length of a card's records.
 pub fn size_of(c: Card) -> usize
     ensures { λ r. ⌜ r ≡ sizeOf c ⌝ }
 {
     let dam = c.dam;
-    REACH_BYTES + dam_size(dam)
+    let take = c.take;
+    REACH_BYTES + dam_size(dam) + amount_size(TAKE, take)
 }

@@ -4,12 +4,13 @@ ghost use Prim.Native.Nat.{_<_, _≤_, _^_, max};
 ghost use lib.Dec.{ltb};
 ghost use lib.ListN.{length};
 ghost use Rattle.river.specs.Card.{FieldsInRange, Lawful, river};
-ghost use Rattle.river.specs.Flow.{flowLimit, ownMass, damFits, rateFits, flowRules, loadRule, rateRules, checksOf};
+ghost use Rattle.river.specs.Flow.{flowLimit, takeOf, ownMass, remainingMass, damFits, rateFits, flowRules, loadRule, takeRule, rateRules, checksOf};
 ghost use Rattle.river.specs.FlowTable.{Decides, tableSum, tableMax, SumsFit, UpstreamOf, noFlows, Entered, Underway, NextChecked, FlowChecked};
 use crate::card::Card;
 use crate::card::Cards;
 use crate::card::Dam;
 use crate::card::REACHES;
+use crate::card::amount_or;
 use crate::refusal::Outcome;
 use crate::refusal::refuse;
 use crate::source::bod_source;
@@ -24,7 +25,7 @@ const MASS_LIMIT: u64 = 1_000_000;
 // The most rate times volume to a litre a second.
 const RATE_LIMIT: u64 = 345_600;
 
-// Tables of the reaches that passed: outlet, flow, undecayed BOD and depth.
+// Tables of the reaches that passed: outlet, flow and undecayed BOD after the take, and depth.
 pub struct FlowTable {
     pub outlet: [u8; REACHES],
     pub flow: [u64; REACHES],
@@ -159,6 +160,16 @@ fn load_rule(flow: u64, mass: u64, reach: u8) -> Outcome
     Outcome::Accepted
 }
 
+// Check 13.
+fn take_rule(take: u64, flow: u64, reach: u8) -> Outcome
+    ensures { λ r. ⌜ Decides r (takeRule take flow reach) ⌝ }
+{
+    if flow <= take {
+        return Outcome::Refused(refuse(13, reach));
+    }
+    Outcome::Accepted
+}
+
 // Check 11, of each rate.
 fn rate_rules(card: Card, flow: u64, reach: u8) -> Outcome
     requires { ⌜ flow ≤ flowLimit ⌝ }
@@ -173,7 +184,15 @@ fn rate_rules(card: Card, flow: u64, reach: u8) -> Outcome
     Outcome::Accepted
 }
 
-// The checks of a reach in order, group by group.
+// The take of a reach.
+pub(crate) fn take_of(card: Card) -> u64
+    ensures { λ r. ⌜ r ≡ takeOf card ⌝ }
+{
+    let take = card.take;
+    amount_or(0, take) as u64
+}
+
+// The checks of a reach in order, group by group, by its flow and undecayed BOD before the take.
 fn check(card: Card, up: Upstream, flow: u64, mass: u64, reach: u8) -> Outcome
     ensures { λ r. ⌜ Decides r (checksOf card (ltb 0 (up .deepest)) (up .flow) flow mass reach) ⌝ }
 {
@@ -186,7 +205,12 @@ fn check(card: Card, up: Upstream, flow: u64, mass: u64, reach: u8) -> Outcome
     let Outcome::Accepted = load else {
         return load;
     };
-    rate_rules(card, flow, reach)
+    let take = take_of(card);
+    let taken = take_rule(take, flow, reach);
+    let Outcome::Accepted = taken else {
+        return taken;
+    };
+    rate_rules(card, flow - take, reach)
 }
 
 // The undecayed BOD that a reach itself takes in.
@@ -195,6 +219,16 @@ fn own_mass(card: Card) -> u64
     ensures { λ r. ⌜ r ≡ ownMass card ⌝ }
 {
     source_mass(bod_source(card))
+}
+
+// The undecayed BOD after a take, by flow and undecayed BOD before it.
+fn remaining_mass(take: u64, flow: u64, mass: u64) -> u64
+    requires { ⌜ (take < flow) × (flow ≤ flowLimit) ⌝ }
+    ensures { λ r. ⌜ r ≡ remainingMass take flow mass ⌝ }
+{
+    let left = mass - take * (mass / flow);
+    let most = MASS_LIMIT * (flow - take);
+    if most < left { most } else { left }
 }
 
 // The tables with one more reach.
@@ -210,7 +244,7 @@ fn entered(flows: FlowTable, i: usize, outlet: u8, flow: u64, mass: u64, depth: 
     flows
 }
 
-// The check of the reach after the first i, which passed. A refusal enters nothing.
+// The check of the reach after the first i, which passed. A refusal enters nothing; what passes is entered as it is after its take.
 fn check_next(cards: Cards, flows: FlowTable, i: usize) -> Checked
     requires { ⌜ Underway (river cards) i flows × (i < length (river cards)) ⌝ }
     ensures { λ r. ⌜ NextChecked (river cards) i r ⌝ }
@@ -223,7 +257,9 @@ fn check_next(cards: Cards, flows: FlowTable, i: usize) -> Checked
     let Outcome::Accepted = outcome else {
         return Checked { outcome, flows };
     };
-    let flows = entered(flows, i, card.outlet, flow, mass, up.deepest + 1);
+    let take = take_of(card);
+    let left = remaining_mass(take, flow, mass);
+    let flows = entered(flows, i, card.outlet, flow - take, left, up.deepest + 1);
     Checked { outcome, flows }
 }
 

@@ -17,6 +17,7 @@ use crate::card::Dam;
 use crate::card::REACHES;
 use crate::flow::FlowTable;
 use crate::flow::feeder_sum;
+use crate::flow::take_of;
 use crate::source::Source;
 use crate::source::bod_source;
 
@@ -179,7 +180,7 @@ pub fn head_of(cards: Cards, flows: FlowTable, feet: FootTable, i: usize) -> Hea
     let bod_sum = feeder_sum(&flows.outlet, &feet.bod, i, reach);
     let oxygen_sum = feeder_sum(&flows.outlet, &feet.oxygen, i, reach);
     let fed = 1 < flows.depth[i];
-    let qu = flows.flow[i] - card.inflow as u64;
+    let qu = flows.flow[i] + take_of(card) - card.inflow as u64;
     Head {
         bod: head_demand(bod_source(card), fed, qu, bod_sum),
         oxygen: head_oxygen(card, fed, qu, oxygen_sum),

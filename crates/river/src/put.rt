@@ -3,14 +3,20 @@ ghost use Prim.Native.Nat.{_+_, _≤_};
 ghost use mathlib.Core.List.{_∷_, _++_};
 ghost use lib.ListN.{length};
 ghost use Rattle.river.specs.Bytes.{Put, markBytes, twoBytes, fourBytes};
-ghost use Rattle.river.specs.Card.{RE, headerBytes, reachBytes, encodeDam, optional, optionalOf, sizeOf};
+ghost use Rattle.river.specs.Card.{RE, headerBytes, reachBytes, encodeDam, encodeAmount, optional, optionalOf, sizeOf};
 ghost use Rattle.river.specs.Optional.{encodeOptionals};
 ghost use Rattle.river.specs.Write.{encodeReach, encodeCard, encodeHeader};
 use crate::bytes::put_four;
 use crate::bytes::put_pair;
 use crate::bytes::put_two;
+use crate::card::Amount;
 use crate::card::Card;
 use crate::card::Dam;
+use crate::card::Layout;
+use crate::card::TAKE;
+
+// How many numbers two bytes hold.
+const TWO_BYTES: u32 = 65_536;
 
 // The `RV` record of a reach count.
 pub fn put_header(out: &mut [u8], count: u16) -> usize
@@ -74,13 +80,30 @@ fn put_dam(out: &mut [u8], at: usize, dam: Dam) -> usize
     put_four(out, next, generating)
 }
 
+// The record of an amount, if there is one.
+fn put_amount(out: &mut [u8], at: usize, layout: Layout, amount: Amount) -> usize
+    requires { ⌜ at + length (encodeAmount layout amount) ≤ length (now out) ⌝ }
+    ensures { λ r. ⌜ Put (now (out .entry)) at (encodeAmount layout amount) (now (out .exit)) r ⌝ }
+{
+    let Amount::Given(n) = amount else {
+        return at;
+    };
+    let next = put_pair(out, at, layout.first, layout.second);
+    if layout.wide {
+        return put_four(out, next, n);
+    }
+    put_two(out, next, (n % TWO_BYTES) as u16)
+}
+
 // The records of a card that follow its `RE` record.
 fn put_optionals(out: &mut [u8], at: usize, c: Card) -> usize
     requires { ⌜ at + length (encodeOptionals optional (optionalOf c)) ≤ length (now out) ⌝ }
     ensures { λ r. ⌜ Put (now (out .entry)) at (encodeOptionals optional (optionalOf c)) (now (out .exit)) r ⌝ }
 {
     let dam = c.dam;
-    put_dam(out, at, dam)
+    let take = c.take;
+    let next = put_dam(out, at, dam);
+    put_amount(out, next, TAKE, take)
 }
 
 // The records of a card.

@@ -1,10 +1,14 @@
 // The tests that reading and writing share: ranges, outlets and the reach count.
 ghost use mathlib.Core.Path.{_≡_};
-ghost use Rattle.river.specs.Card.{optional, optionalOf, inRange, damInRange, outletOk, countOk};
+ghost use Rattle.river.specs.Card.{optional, optionalOf, inRange, damInRange, amountInRange, outletOk, countOk};
 ghost use Rattle.river.specs.Optional.{optionalsInRange};
+use crate::card::Amount;
 use crate::card::Card;
 use crate::card::Dam;
+use crate::card::FLOW_MOST;
+use crate::card::Layout;
 use crate::card::REACHES;
+use crate::card::TAKE;
 
 // The largest values of the fields of `RE` and `DM` records.
 const TEMPERATURE_MOST: u8 = 35;
@@ -12,8 +16,6 @@ const TEMPERATURE_MOST: u8 = 35;
 const RATE_MOST: u16 = 20_000;
 
 const VOLUME_MOST: u32 = 1_000_000_000;
-
-const FLOW_MOST: u32 = 100_000_000;
 
 const BOD_MOST: u32 = 1_000_000;
 
@@ -59,12 +61,29 @@ pub fn dam_in_range(d: Dam) -> bool
     generating <= FLOW_MOST
 }
 
+// Whether an amount is in the range of its layout.
+pub(crate) fn amount_in_range(layout: Layout, amount: Amount) -> bool
+    ensures { λ r. ⌜ r ≡ amountInRange layout amount ⌝ }
+{
+    let Amount::Given(n) = amount else {
+        return true;
+    };
+    if n < layout.least {
+        return false;
+    }
+    n <= layout.most
+}
+
 // Whether the fields of the records that follow a card's `RE` record are in range.
 pub fn optionals_in_range(c: Card) -> bool
     ensures { λ r. ⌜ r ≡ optionalsInRange optional (optionalOf c) ⌝ }
 {
     let dam = c.dam;
-    dam_in_range(dam)
+    if !dam_in_range(dam) {
+        return false;
+    }
+    let take = c.take;
+    amount_in_range(TAKE, take)
 }
 
 // Whether reach i of n may have an outlet.

@@ -2,21 +2,27 @@
 ghost use mathlib.Core.Path.{_≡_};
 ghost use Prim.Native.Nat.{_<_, _^_};
 ghost use lib.ListN.{drop};
-ghost use Rattle.river.specs.Card.{reachBytes, damRecord, optional};
+ghost use Rattle.river.specs.Card.{reachBytes, damRecord, amountRecord, numberAt, optional};
 ghost use Rattle.river.specs.Optional.{readOptional, readOptionals};
 ghost use Rattle.river.specs.Refusal.{accepted, after};
-ghost use Rattle.river.specs.Read.{readHeader, headerOf, headerRefusal, cardAt, damOf, readReach, reachOf, reachRefusal};
+ghost use Rattle.river.specs.Read.{readHeader, headerOf, headerRefusal, cardAt, damOf, damRefusal, amountOf, amountRefusal, readReach, reachOf, reachRefusal};
 use crate::bytes::behind;
 use crate::bytes::byte_at;
 use crate::bytes::four_at;
 use crate::bytes::marked;
 use crate::bytes::two_at;
+use crate::card::Amount;
 use crate::card::Card;
 use crate::card::DAM_BYTES;
 use crate::card::Dam;
 use crate::card::HEADER_BYTES;
+use crate::card::Layout;
 use crate::card::REACH_BYTES;
+use crate::card::TAKE;
+use crate::card::dam_size;
+use crate::card::layout_size;
 use crate::card::size_of;
+use crate::range::amount_in_range;
 use crate::range::count_ok;
 use crate::range::dam_in_range;
 use crate::range::in_range;
@@ -33,6 +39,12 @@ pub enum Header {
 // What reading a dam finds: the dam, or a refusal.
 pub enum DamRead {
     Found(Dam),
+    Refused(Refusal),
+}
+
+// What reading an amount finds: the amount, or a refusal.
+pub enum AmountRead {
+    Found(Amount),
     Refused(Refusal),
 }
 
@@ -62,9 +74,9 @@ pub fn read_header(file: &[u8]) -> Header
     }
 }
 
-// The card in an `RE` record, with a dam.
-pub fn card_at(s: &[u8], dam: Dam) -> Card
-    ensures { λ r. ⌜ r ≡ cardAt (now (s .entry)) (dam, tt) ⌝ }
+// The card in an `RE` record, with a dam and a take.
+pub fn card_at(s: &[u8], dam: Dam, take: Amount) -> Card
+    ensures { λ r. ⌜ r ≡ cardAt (now (s .entry)) (dam, (take, tt)) ⌝ }
 {
     Card {
         outlet: byte_at(s, 2),
@@ -77,6 +89,7 @@ pub fn card_at(s: &[u8], dam: Dam) -> Card
         inflow_oxygen: two_at(s, 20),
         load: four_at(s, 22),
         dam,
+        take,
     }
 }
 
@@ -100,21 +113,52 @@ pub fn read_dam(s: &[u8], reach: u8) -> DamRead
     DamRead::Found(dam)
 }
 
+// The number in a record of one number.
+fn number_at(s: &[u8], wide: bool) -> u32
+    ensures { λ r. ⌜ r ≡ numberAt wide (now (s .entry)) ⌝ }
+{
+    if wide {
+        four_at(s, 2)
+    } else {
+        two_at(s, 2) as u32
+    }
+}
+
+// The amount in a layout's record at the start, if there is one: refusals 1 and 4.
+pub(crate) fn read_amount(s: &[u8], reach: u8, layout: Layout) -> AmountRead
+    ensures { λ r. ⌜ r ≡ amountOf (readOptional (amountRecord layout) reach (now (s .entry))) ⌝ }
+{
+    if !marked(s, layout.first, layout.second) {
+        return AmountRead::Found(Amount::Without);
+    }
+    if s.len() < layout_size(layout) {
+        return AmountRead::Refused(refuse(1, reach));
+    }
+    let amount = Amount::Given(number_at(s, layout.wide));
+    if !amount_in_range(layout, amount) {
+        return AmountRead::Refused(refuse(4, reach));
+    }
+    AmountRead::Found(amount)
+}
+
 // The card at a position, whose `RE` record stands at the start, with the records that follow.
 fn read_card(s: &[u8], at: usize, reach: u8) -> Reach
     requires { ⌜ at < 2 ^ 63 ⌝ }
     ensures { λ r. ⌜ r ≡ reachOf at (after (readOptionals optional reach (drop reachBytes (now (s .entry)))) (λ vs. accepted (cardAt (now (s .entry)) vs))) ⌝ }
 {
-    match read_dam(behind(s, REACH_BYTES), reach) {
-        DamRead::Refused(r) => Reach::Refused(r),
-        DamRead::Found(dam) => {
-            let card = card_at(s, dam);
-            Reach::Read {
-                card,
-                next: at + size_of(card),
-            }
-        }
-    }
+    let rest = behind(s, REACH_BYTES);
+    let found = read_dam(rest, reach);
+    let DamRead::Found(dam) = found else {
+        return Reach::Refused(dam_refusal(found));
+    };
+    let rest = behind(rest, dam_size(dam));
+    let found = read_amount(rest, reach, TAKE);
+    let AmountRead::Found(take) = found else {
+        return Reach::Refused(amount_refusal(found));
+    };
+    let card = card_at(s, dam, take);
+    let next = at + size_of(card);
+    Reach::Read { card, next }
 }
 
 // A reach at the start, at a position of the file: refusals 1, 2, 4 and 5, then the records that follow.
@@ -128,7 +172,7 @@ fn read_here(s: &[u8], at: usize, count: u8, reach: u8) -> Reach
     if !marked(s, b'R', b'E') {
         return Reach::Refused(refuse(2, reach));
     }
-    let card = card_at(s, Dam::Absent);
+    let card = card_at(s, Dam::Absent, Amount::Without);
     if !in_range(card) {
         return Reach::Refused(refuse(4, reach));
     }
@@ -155,6 +199,26 @@ pub fn header_refusal(answer: Header) -> Refusal
     match answer {
         Header::Refused(r) => r,
         Header::Count { count: _, next: _ } => refuse(0, 0),
+    }
+}
+
+// The refusal in an answer about a dam.
+fn dam_refusal(answer: DamRead) -> Refusal
+    ensures { λ r. ⌜ r ≡ damRefusal answer ⌝ }
+{
+    match answer {
+        DamRead::Refused(r) => r,
+        DamRead::Found(_) => refuse(0, 0),
+    }
+}
+
+// The refusal in an answer about an amount.
+fn amount_refusal(answer: AmountRead) -> Refusal
+    ensures { λ r. ⌜ r ≡ amountRefusal answer ⌝ }
+{
+    match answer {
+        AmountRead::Refused(r) => r,
+        AmountRead::Found(_) => refuse(0, 0),
     }
 }
 

@@ -29,7 +29,7 @@ module _ (units : ℕ) where
   sum-by-depth (one-more {card} {up} {rest} own above others) =
       let Q = reachFlow card up in
       let most = max (1 + deepest up) (deepest rest) in
-      certify (ofℕ (flowOf up) ∷ ofℕ (card .inflow) ∷ ofℕ (flowOf rest) ∷ ofℕ units ∷ ofℕ (deepest up) ∷ ofℕ (deepest rest) ∷ ofℕ most ∷ meanAllowance card (flowOf up) (allowanceSum units up) ∷ allowanceSum units rest ∷ [])
+      certify (ofℕ Q ∷ ofℕ (flowOf rest) ∷ ofℕ units ∷ ofℕ (deepest up) ∷ ofℕ (deepest rest) ∷ ofℕ most ∷ meanAllowance card (flowOf up) (allowanceSum units up) ∷ allowanceSum units rest ∷ [])
       (number Q ⊠ slack (mean-by-depth own (sum-by-depth above)) ⊞ slack (sum-by-depth others) ⊞ slack (ofℕ-mono (joined Q (flowOf rest) (deepest up) (deepest rest) units))) (search quote depth 40 fits 9999) tt
 
   -- what is brought to a reach

@@ -58,37 +58,37 @@ over-flow Q a b e p n =
       low = certify-over Q p (Q ∷ a ∷ b ∷ e ∷ (e ÷ Q) ∷ []) (ofℕ 1 ⋅ ÷-cancel-pos e p & no-equations) (slack (n .low)) (search quote depth 40 fits 9999) tt;
     }
 
--- the steps of a head, reported and exact
-pub record HeadSteps (Qu Q inflow s t u v w h c sx tx ux vx wx hx cx W₁ W₂ W₃ cs csx σ : Fraction) : Type 0 where
-  pub flowing : Positive Q
+-- the steps of a head, reported and exact; Qm is the flow before the take
+pub record HeadSteps (Qu Qm inflow s t u v w h c sx tx ux vx wx hx cx W₁ W₂ W₃ cs csx σ : Fraction) : Type 0 where
+  pub flowing : Positive Qm
   pub inflowing : Nonneg inflow
   pub upstream : Nonneg Qu
-  pub flows : Q ≈ Qu +ᶠ inflow
+  pub flows : Qm ≈ Qu +ᶠ inflow
   pub saturation-low : cs ≼ csx
   pub saturation-high : csx ≼ cs +ᶠ ofℕ 1
   pub bod-mean : Rounded Qu u s
   pub oxygen-mean : Rounded Qu v t
   pub dam : Dammed v cs σ w
-  pub bod-mixed : Rounded Q h (Qu *ᶠ u +ᶠ W₁ +ᶠ W₂)
-  pub oxygen-mixed : Rounded Q c (Qu *ᶠ w +ᶠ W₃)
+  pub bod-mixed : Rounded Qm h (Qu *ᶠ u +ᶠ W₁ +ᶠ W₂)
+  pub oxygen-mixed : Rounded Qm c (Qu *ᶠ w +ᶠ W₃)
   pub exact-bod-mean : Qu *ᶠ ux ≈ sx
   pub exact-oxygen-mean : Qu *ᶠ vx ≈ tx
   pub exact-dam : wx ≈ vx +ᶠ (csx -ᶠ vx) *ᶠ σ
-  pub exact-bod-mixed : Q *ᶠ hx ≈ Qu *ᶠ ux +ᶠ W₁ +ᶠ W₂
-  pub exact-oxygen-mixed : Q *ᶠ cx ≈ Qu *ᶠ wx +ᶠ W₃
+  pub exact-bod-mixed : Qm *ᶠ hx ≈ Qu *ᶠ ux +ᶠ W₁ +ᶠ W₂
+  pub exact-oxygen-mixed : Qm *ᶠ cx ≈ Qu *ᶠ wx +ᶠ W₃
 
--- from the feeders' feet, off by b together, to the head, off by b / Q and what a head adds
-pub head-near : {Qu Q inflow s t u v w h c sx tx ux vx wx hx cx W₁ W₂ W₃ cs csx σ b : Fraction} → HeadSteps Qu Q inflow s t u v w h c sx tx ux vx wx hx cx W₁ W₂ W₃ cs csx σ → Near s sx t tx b → Near h hx c cx (b ÷ Q +ᶠ ofℕ headUnits)
-head-near {Qu} {Q} {inflow} {s} {t} {u} {v} {w} {h} {c} {sx} {tx} {ux} {vx} {wx} {hx} {cx} {W₁} {W₂} {W₃} {cs} {csx} {σ} {b} k n =
+-- from the feeders' feet, off by b together, to the head, off by b / Qm and what a head adds
+pub head-near : {Qu Qm inflow s t u v w h c sx tx ux vx wx hx cx W₁ W₂ W₃ cs csx σ b : Fraction} → HeadSteps Qu Qm inflow s t u v w h c sx tx ux vx wx hx cx W₁ W₂ W₃ cs csx σ → Near s sx t tx b → Near h hx c cx (b ÷ Qm +ᶠ ofℕ headUnits)
+head-near {Qu} {Qm} {inflow} {s} {t} {u} {v} {w} {h} {c} {sx} {tx} {ux} {vx} {wx} {hx} {cx} {W₁} {W₂} {W₃} {cs} {csx} {σ} {b} k n =
     let d = n .bod-error in
     let e = n .oxygen-error in
-    let Q≥0 = positive-nonneg (k .flowing) in
+    let Qm≥0 = positive-nonneg (k .flowing) in
     record {
-      bod-error = (d +ᶠ Qu +ᶠ Q) ÷ Q;
-      oxygen-error = (e +ᶠ Qu +ᶠ Qu +ᶠ Q) ÷ Q;
-      bod-near = over-flow Q h hx (d +ᶠ Qu +ᶠ Q) (k .flowing) (rounded-near Q h (Qu *ᶠ u +ᶠ W₁ +ᶠ W₂) hx (Qu *ᶠ ux +ᶠ W₁ +ᶠ W₂) (d +ᶠ Qu) Q≥0 (plus-same (Qu *ᶠ u +ᶠ W₁) (Qu *ᶠ ux +ᶠ W₁) W₂ (d +ᶠ Qu) (plus-same (Qu *ᶠ u) (Qu *ᶠ ux) W₁ (d +ᶠ Qu) (rounded-near Qu u s ux sx d (k .upstream) (n .bod-near) (k .bod-mean) (k .exact-bod-mean)))) (k .bod-mixed) (k .exact-bod-mixed));
-      oxygen-near = over-flow Q c cx (e +ᶠ Qu +ᶠ Qu +ᶠ Q) (k .flowing) (rounded-near Q c (Qu *ᶠ w +ᶠ W₃) cx (Qu *ᶠ wx +ᶠ W₃) (e +ᶠ Qu +ᶠ Qu) Q≥0 (plus-same (Qu *ᶠ w) (Qu *ᶠ wx) W₃ (e +ᶠ Qu +ᶠ Qu) (dam-near Qu v vx cs csx σ w wx e (k .upstream) (bound-nonneg (small (n .oxygen-near))) (k .saturation-low) (k .saturation-high) (k .dam) (k .exact-dam) (rounded-near Qu v t vx tx e (k .upstream) (n .oxygen-near) (k .oxygen-mean) (k .exact-oxygen-mean)))) (k .oxygen-mixed) (k .exact-oxygen-mixed));
-      together = certify-over Q (k .flowing) (Q ∷ Qu ∷ inflow ∷ b ∷ d ∷ e ∷ (b ÷ Q) ∷ ((d +ᶠ Qu +ᶠ Q) ÷ Q) ∷ ((e +ᶠ Qu +ᶠ Qu +ᶠ Q) ÷ Q) ∷ []) (ofℕ 1 ⋅ ÷-cancel-pos b (k .flowing) & ofℕ 1 ⋅ ÷-cancel-pos (d +ᶠ Qu +ᶠ Q) (k .flowing) & ofℕ 1 ⋅ ÷-cancel-pos (e +ᶠ Qu +ᶠ Qu +ᶠ Q) (k .flowing) & ofℕ 3 ⋅ k .flows & no-equations) (slack (n .together) ⊞ number 3 ⊠ k .inflowing) (search quote depth 40 fits 9999) tt;
+      bod-error = (d +ᶠ Qu +ᶠ Qm) ÷ Qm;
+      oxygen-error = (e +ᶠ Qu +ᶠ Qu +ᶠ Qm) ÷ Qm;
+      bod-near = over-flow Qm h hx (d +ᶠ Qu +ᶠ Qm) (k .flowing) (rounded-near Qm h (Qu *ᶠ u +ᶠ W₁ +ᶠ W₂) hx (Qu *ᶠ ux +ᶠ W₁ +ᶠ W₂) (d +ᶠ Qu) Qm≥0 (plus-same (Qu *ᶠ u +ᶠ W₁) (Qu *ᶠ ux +ᶠ W₁) W₂ (d +ᶠ Qu) (plus-same (Qu *ᶠ u) (Qu *ᶠ ux) W₁ (d +ᶠ Qu) (rounded-near Qu u s ux sx d (k .upstream) (n .bod-near) (k .bod-mean) (k .exact-bod-mean)))) (k .bod-mixed) (k .exact-bod-mixed));
+      oxygen-near = over-flow Qm c cx (e +ᶠ Qu +ᶠ Qu +ᶠ Qm) (k .flowing) (rounded-near Qm c (Qu *ᶠ w +ᶠ W₃) cx (Qu *ᶠ wx +ᶠ W₃) (e +ᶠ Qu +ᶠ Qu) Qm≥0 (plus-same (Qu *ᶠ w) (Qu *ᶠ wx) W₃ (e +ᶠ Qu +ᶠ Qu) (dam-near Qu v vx cs csx σ w wx e (k .upstream) (bound-nonneg (small (n .oxygen-near))) (k .saturation-low) (k .saturation-high) (k .dam) (k .exact-dam) (rounded-near Qu v t vx tx e (k .upstream) (n .oxygen-near) (k .oxygen-mean) (k .exact-oxygen-mean)))) (k .oxygen-mixed) (k .exact-oxygen-mixed));
+      together = certify-over Qm (k .flowing) (Qm ∷ Qu ∷ inflow ∷ b ∷ d ∷ e ∷ (b ÷ Qm) ∷ ((d +ᶠ Qu +ᶠ Qm) ÷ Qm) ∷ ((e +ᶠ Qu +ᶠ Qu +ᶠ Qm) ÷ Qm) ∷ []) (ofℕ 1 ⋅ ÷-cancel-pos b (k .flowing) & ofℕ 1 ⋅ ÷-cancel-pos (d +ᶠ Qu +ᶠ Qm) (k .flowing) & ofℕ 1 ⋅ ÷-cancel-pos (e +ᶠ Qu +ᶠ Qu +ᶠ Qm) (k .flowing) & ofℕ 3 ⋅ k .flows & no-equations) (slack (n .together) ⊞ number 3 ⊠ k .inflowing) (search quote depth 40 fits 9999) tt;
     }
 
 -- ---- along a reach

@@ -62,7 +62,7 @@ exact-below-dam card false Qu C =
     ring (exactSaturation card ∷ C ∷ []) (search quote depth 40 fits 9999) tt
 exact-below-dam card true Qu C = exact-aerated (card .dam) (exactSaturation card) Qu C
 
--- mixing times Q
+-- mixing times Qm
 pub exact-demand-mixed : (source : Source) (Qu : ℕ) (upstream : Fraction) → 0 < Qu + source .inflow → ofℕ (Qu + source .inflow) *ᶠ exactMixedDemand source Qu upstream ≈ ofℕ Qu *ᶠ upstream +ᶠ ofℕ (1000 * source .inflow * source .concentration) +ᶠ ofℕ (1000000 * source .load)
 unfolding exactMixedDemand
 exact-demand-mixed source Qu upstream p = times (ofℕ Qu *ᶠ upstream +ᶠ ofℕ (1000 * source .inflow * source .concentration) +ᶠ ofℕ (1000000 * source .load)) (Qu + source .inflow) p

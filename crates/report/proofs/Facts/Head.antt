@@ -13,6 +13,7 @@ use Rattle.river.specs.declared.card.Card.{Card}
 use Rattle.river.specs.declared.source.Source.{Source}
 use Rattle.river.specs.Card.{LawfulDam}
 use Rattle.river.specs.Flow.{Feeders, more, fed, flowOf}
+use Rattle.river.proofs.flow.Take.{flow-remains}
 use Rattle.river.specs.Saturation.{saturationOf}
 use Rattle.river.specs.Head.{floor, upstreamDemand, upstreamOxygen, aerated, belowDam, mixedDemand, mixedOxygen}
 use Rattle.report.specs.Program.{bodSum, oxygenSum}
@@ -36,7 +37,7 @@ zero-rounded =
 -- water flows where there are feeders
 pub feeders-flow : {card : Card} {up rest : Feeders} → AllAccepted (more card up rest) → 0 < flowOf (more card up rest)
 unfolding flowOf
-feeders-flow (one-more own above others) = omega (arith, own .flows .flowing)
+feeders-flow (one-more own above others) = omega (arith, flow-remains (own .flows))
 
 -- the means of the feeders' feet
 bod-mean-fed : (Qu sum : ℕ) → 0 < Qu → Rounded (ofℕ Qu) (ofℕ (upstreamDemand true Qu sum)) (ofℕ sum)

@@ -21,6 +21,7 @@ use Rattle.river.specs.Card.{Lawful, blank}
 use Rattle.river.specs.Flow.{feedersAmong, fed, flowOf, reachFlow, flowAt, massAt, depthAt, Flows}
 use Rattle.river.specs.Head.{headBod, headOxygen}
 use Rattle.river.proofs.head.Offset.{sub-pos, sub-neg}
+use Rattle.river.proofs.flow.Take.{flow-within}
 use Rattle.river.proofs.flow.Table.{entered, Adds, TableOf, sum-of-feeders}
 use Rattle.river.proofs.head.Feet.{AddsFlowTimes, StoredTable, oxygen-of-feeders, carried-none, carried-next}
 use Rattle.report.specs.Program.{bodSum, oxygenSum, bodAtHead, oxygenAtHead, bodAt, oxygenAt, figuresBelow, figuresOf, figuresAt, foot}
@@ -145,7 +146,7 @@ module _ {cards : List Card} {flows : FlowTable} {feet : FootTable} {i : ℕ} (r
   reach-saturation ec = rw ec (reach-accepted cards (ready .lawful) (ready .sound) i l .fields .temperature)
 
   pub reach-flow-small : flowAt cards (suc i) ≤ 100_000_000
-  reach-flow-small = reach-accepted cards (ready .lawful) (ready .sound) i l .flows .bounded
+  reach-flow-small = flow-within (ready .sound .each i l)
 
 -- what a line says of its reach
 module _ {cards : List Card} {i : ℕ} {line : Line} (of : LineOf cards i line) where

@@ -17,12 +17,12 @@ use Rattle.river.specs.declared.refusal.Refusal.{Refusal}
 use Rattle.river.proofs.Answers.{need-true, choose-true, choose-false, after-accepted, after-refused, after-after, passed, went, both, both-true}
 use Rattle.river.proofs.bytes.Numbers.{HasMark, true-marked, marked-true, marked-other, bytesFrom, Leads, leads-spelled, leads-more, are-bytes-drop}
 
--- a value that has a record: the record begins with the mark, has the kind's length, passes the test and holds the value
+-- a value that has a record: the record begins with the mark and has the kind's length; where the value is in range, it passes the test and holds the value
 pub record Present (k : Kind) (v : k .Value) : Type 0 where
   pub marks : (post : List ℕ) → HasMark (k .encode v ++ post) (k .mark)
   pub long : length (k .encode v) ≡ k .size
   pub passes : (post : List ℕ) → k .inRange v ≡ true → k .test (k .encode v ++ post) ≡ true
-  pub back : (post : List ℕ) → k .decode (k .encode v ++ post) ≡ v
+  pub back : (post : List ℕ) → k .inRange v ≡ true → k .decode (k .encode v ++ post) ≡ v
 
 -- what a kind must satisfy
 pub record Sound (k : Kind) : Type 0 where
@@ -52,7 +52,7 @@ module _ (k : Kind) (law : Sound k) (i : ℕ) where
           choose-true _ _ _ (marked-true (p .marks post)) ∙
           need-true _ _ _ _ (le-leb _ _ (room p)) ∙
           need-true _ _ _ _ (p .passes post r) ∙
-          ap accepted (p .back post)
+          ap accepted (p .back post r)
 
   readOptional-is : (s : List ℕ) (v : k .Value) → AreBytes s → readOptional k i s ≡ accepted v → IsOptional k s v
   unfolding readOptional
@@ -78,20 +78,26 @@ abbrev pub AllSound : List Kind → Type 0
 AllSound [] = Unit
 AllSound (k ∷ ks) = Sound k × AllSound ks
 
--- what is read of the first kind decides what comes next: a refusal, or the records behind
-module _ {A : Type 0} (k : Kind) (ks : List Kind) (i : ℕ) (s : List ℕ) (f : Values (k ∷ ks) → Answer A) where
-  pub first-refused : {r : Refusal} → readOptional k i s ≡ refused r → after (readOptionals (k ∷ ks) i s) f ≡ refused r
+-- records that are read one by one: an answer is that of the kinds which are still due, on the bytes that remain
+pub record Due {A : Type 0} (x : Answer A) (ks : List Kind) (i : ℕ) (s : List ℕ) (f : Values ks → Answer A) : Type 0 where
+  pub is : x ≡ after (readOptionals ks i s) f
+
+pub all-due : {A : Type 0} (ks : List Kind) (i : ℕ) (f : Values ks → Answer A) {s rest : List ℕ} → rest ≡ s → Due (after (readOptionals ks i s) f) ks i rest f
+all-due ks i f e = record { is = rw e }
+
+-- what is read of the first of them decides what comes next: a refusal, or the records behind
+module _ {A : Type 0} {x : Answer A} {k : Kind} {ks : List Kind} {i : ℕ} {s : List ℕ} {f : Values (k ∷ ks) → Answer A} (due : Due x (k ∷ ks) i s f) where
+  pub refused-here : {r : Refusal} → readOptional k i s ≡ refused r → x ≡ refused r
   unfolding readOptionals
-  first-refused e = after-refused _ _ (after-refused _ _ e)
+  refused-here e = due .is ∙ after-refused _ _ (after-refused _ _ e)
 
-  pub first-read : {v : k .Value} → readOptional k i s ≡ accepted v
-      → after (readOptionals (k ∷ ks) i s) f ≡ after (readOptionals ks i (drop (length (k .encode v)) s)) (λ vs. f (v, vs))
+  pub found-here : {v : k .Value} {rest : List ℕ} → readOptional k i s ≡ accepted v → rest ≡ drop (length (k .encode v)) s → Due x ks i rest (λ vs. f (v, vs))
   unfolding readOptionals after
-  first-read e = rw e (after-after (readOptionals ks i _) _ f)
+  found-here e p = record { is = due .is ∙ rw (e, p) (after-after (readOptionals ks i _) _ f) }
 
-pub last-read : {A : Type 0} (i : ℕ) (s : List ℕ) (f : Values [] → Answer A) → after (readOptionals [] i s) f ≡ f tt
+pub none-due : {A : Type 0} {x : Answer A} {i : ℕ} {s : List ℕ} {f : Values [] → Answer A} → Due x [] i s f → x ≡ f tt
 unfolding readOptionals after
-last-read i s f = refl
+none-due due = due .is
 
 -- tests of marks, which compute for a list that is given: no kind has the mark; all marks differ; no kind's mark is at the start of the bytes
 abbrev unused : Mark → List Kind → Bool

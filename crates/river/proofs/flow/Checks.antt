@@ -1,8 +1,8 @@
 -- The check of one more reach: what the tables of the reaches that passed say of the next, and the tables after it.
 use mathlib.Core.Path.{_≡_, refl, sym, ap, _∙_}
 use mathlib.Core.List.{List}
-use Prim.Native.Nat.{ℕ, suc, _+_, _*_, _<_, _≤_}
-use native.Mathlib.Nat.{le-trans, lt-of-le-of-lt, mul-le-mul-left}
+use Prim.Native.Nat.{ℕ, suc, _+_, _-_, _*_, _<_, _≤_}
+use native.Mathlib.Nat.{le-trans, lt-of-le-of-lt}
 use native.Mathlib.Omega.{arith}
 use lib.ListN.{length}
 use lib.Dec.{ltb, lit<}
@@ -12,9 +12,10 @@ use Rattle.river.specs.declared.flow.FlowTable.{FlowTable}
 use Rattle.river.specs.declared.refusal.Refusal.{Refusal}
 use Rattle.river.specs.declared.flow.Checked.{Checked}
 use Rattle.river.specs.declared.flow.Upstream.{Upstream}
-use Rattle.river.specs.Flow.{flowLimit, massLimit, Feeders, cardOf, above, flowOf, massOf, deepest, reachFlow, reachMass, reachDepth, ownMass, flowAt, massAt, depthAt, checksOf, reachChecks, ReachPasses}
+use Rattle.river.specs.Flow.{flowLimit, massLimit, cardOf, above, flowOf, massOf, deepest, takeOf, reachFlow, remainingMass, reachMass, reachDepth, ownMass, flowAt, massAt, depthAt, checksOf, reachChecks}
 use Rattle.river.specs.FlowTable.{Decides, feederSum, SumsFit, UpstreamOf, Entered, Tabled, Underway, NextChecked}
 use Rattle.river.proofs.Answers.{no-refusal}
+use Rattle.river.proofs.flow.Take.{flow-within, mass-bounded}
 use Rattle.river.proofs.flow.Table.{entered, Adds, TableOf, sum-of-feeders, sum-bounded, max-of-feeders, deepest-few, fed-deepest}
 
 -- Qu and the feeders' undecayed BOD add up what each feeder has
@@ -46,10 +47,6 @@ first-tabled l h =
       depth = λ j k. h .depth j (omega arith);
     }
 
--- the undecayed BOD of a reach that passed is bounded
-pub mass-bounded : {card : Card} {up : Feeders} → ReachPasses card up → reachMass card up ≤ massLimit * flowLimit
-mass-bounded s = le-trans (s .mass-rule) (mul-le-mul-left massLimit (s .bounded))
-
 -- tables of 128 entries
 pub record Full (t : FlowTable) : Type 0 where
   pub outlet : length (t .outlet) ≡ 128
@@ -75,7 +72,7 @@ module _ {cards : List Card} {i : ℕ} {t : FlowTable} (h : Underway cards i t �
   flow-small : feederSum (t .outlet) (t .flow) i ≤ 128 * flowLimit
   flow-small =
       le-trans
-      (sum-bounded (t .outlet) (t .flow) flowLimit i (suc i) (λ j k. rw (h .0 .passed .tabled .flow j k) (h .0 .passed .sound j k .bounded)))
+      (sum-bounded (t .outlet) (t .flow) flowLimit i (suc i) (λ j k. rw (h .0 .passed .tabled .flow j k) (flow-within (h .0 .passed .sound j k))))
       (omega (arith, index-few))
 
   mass-small : feederSum (t .outlet) (t .mass) i ≤ 128 * (massLimit * flowLimit)
@@ -118,11 +115,11 @@ module _ {cards : List Card} {i : ℕ} {t : FlowTable} (h : Underway cards i t �
       pub next-refused : {x : Refusal} → r .outcome ≡ Outcome.Refused x → NextChecked cards i r
       next-refused e = record { answer = next-answer; tabled = λ q. no-refusal (sym q ∙ e) }
 
-      pub next-passed : Full t → Entered t i (card .outlet) (u .flow + card .inflow) (u .mass + own) (u .deepest + 1) (r .flows) → NextChecked cards i r
-      next-passed full k =
+      pub next-passed : {take left : ℕ} → take ≡ takeOf card → left ≡ remainingMass take (u .flow + card .inflow) (u .mass + own) → Full t → Entered t i (card .outlet) (u .flow + card .inflow - take) left (u .deepest + 1) (r .flows) → NextChecked cards i r
+      next-passed et el full k =
           record {
             answer = next-answer;
             tabled =
                 λ _. next-table (h .0 .passed .tabled) index-few full k
-                (ap (λ (x : Card). x .outlet) ec) (cc (flow-here)) (cc (mass-here)) (omega (arith, deepest-here));
+                (ap (λ (x : Card). x .outlet) ec) (rw (et, flow-here, ec)) (rw (el, et, flow-here, mass-here, eo, ec)) (omega (arith, deepest-here));
           }

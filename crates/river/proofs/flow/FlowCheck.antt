@@ -1,4 +1,4 @@
--- The flow check accepts exactly the rivers whose reaches pass the rules 7 to 11, and the laws of the loop over the reaches.
+-- The flow check accepts exactly the rivers whose reaches pass the rules 7 to 11 and 13, and the laws of the loop over the reaches.
 use mathlib.Core.Path.{_≡_, refl, sym, ap, _∙_}
 use mathlib.Core.Logic.{⊎-elim}
 use mathlib.Core.Bool.{true}
@@ -18,10 +18,10 @@ use Rattle.river.specs.declared.flow.FlowTable.{FlowTable}
 use Rattle.river.specs.declared.flow.Checked.{Checked}
 use Rattle.river.specs.Refusal.{accepted, outcomeOf, goOn}
 use Rattle.river.specs.Card.{Lawful}
-use Rattle.river.specs.Flow.{Feeders, cardOf, above, fed, flowOf, reachFlow, reachMass, damFits, DamRule, ReachPasses, Flows, reachChecks, checksFrom, flowCheck}
+use Rattle.river.specs.Flow.{Feeders, cardOf, above, fed, flowOf, mixedFlow, mixedMass, damFits, DamRule, ReachPasses, Flows, reachChecks, checksFrom, flowCheck}
 use Rattle.river.specs.FlowTable.{Underway, NextChecked, FlowChecked}
 use Rattle.river.proofs.Answers.{no-refusal, both-true, both}
-use Rattle.river.proofs.flow.Groups.{Asks, asks-both, flow-rules-ask, load-rule-asks, rate-rules-ask, decided}
+use Rattle.river.proofs.flow.Groups.{Asks, checks-ask, decided}
 
 -- the test of check 9 and its rule
 dam-rule-true : (dam : Dam) (up : Feeders) → DamRule dam up → damFits dam (fed up) (flowOf up) ≡ true
@@ -39,19 +39,21 @@ true-dam-rule (Aerating share generating) up e =
 reach-asks : (card : Card) (up : Feeders) (i : ℕ) → Asks (reachChecks card up i) (ReachPasses card up)
 unfolding reachChecks
 reach-asks card up i =
-    let Q = reachFlow card up in
-    let groups = asks-both (flow-rules-ask (card .dam) (fed up) (flowOf up) Q i) (asks-both (load-rule-asks Q (reachMass card up) i) (rate-rules-ask card Q i)) in
+    let groups = checks-ask card (fed up) (flowOf up) (mixedFlow card up) (mixedMass card up) i in
     record {
-      on = λ s. groups .on ((s .flowing, (s .bounded, dam-rule-true (card .dam) up (s .dam-rule))), (s .mass-rule, (s .decay-rule, s .aeration-rule)));
+      on =
+          λ s. groups .on
+          ((s .flowing, (s .bounded, dam-rule-true (card .dam) up (s .dam-rule))), (s .mass-rule, (s .take-rule, (s .decay-rule, s .aeration-rule))));
       told =
           λ e. let k = groups .told e in
           let flow = k .0 .0 in
-          let rates = k .0 .1 .1 in (
+          let rates = k .0 .1 .1 .1 in (
             record {
               flowing = flow .0;
               bounded = flow .1 .0;
               dam-rule = true-dam-rule (card .dam) up (flow .1 .1);
               mass-rule = k .0 .1 .0;
+              take-rule = k .0 .1 .1 .0;
               decay-rule = rates .0;
               aeration-rule = rates .1;
             },

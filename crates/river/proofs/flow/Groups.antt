@@ -2,7 +2,7 @@
 use mathlib.Core.Path.{_≡_, sym, ap, _∙_}
 use mathlib.Core.Bool.{Bool, true}
 use mathlib.Core.List.{List, []}
-use Prim.Native.Nat.{ℕ, _*_, _<_, _≤_}
+use Prim.Native.Nat.{ℕ, _-_, _*_, _<_, _≤_}
 use lib.Dec.{leb}
 use borrow.Author.Tests.{ltb-true, leb-true, lt-ltb, le-leb}
 use Rattle.river.specs.declared.card.Card.{Card}
@@ -10,7 +10,7 @@ use Rattle.river.specs.declared.card.Dam.{Dam}
 use Rattle.river.specs.declared.refusal.Outcome.{Outcome}
 use Rattle.river.specs.declared.refusal.Refusal.{Refusal}
 use Rattle.river.specs.Refusal.{Answer, accepted, need, goOn}
-use Rattle.river.specs.Flow.{flowLimit, massLimit, rateLimit, damFits, Checks, _then_, flowRules, loadRule, rateRules}
+use Rattle.river.specs.Flow.{flowLimit, massLimit, rateLimit, takeOf, damFits, Checks, _then_, flowRules, loadRule, takeRule, rateRules, checksOf}
 use Rattle.river.specs.FlowTable.{Decides}
 use Rattle.river.proofs.Answers.{need-true, passed}
 
@@ -40,19 +40,30 @@ asks-both a b =
     }
 
 -- what each group asks for
-pub flow-rules-ask : (dam : Dam) (fed : Bool) (Qu Q i : ℕ) → Asks (flowRules dam fed Qu Q i) ((0 < Q) × ((Q ≤ flowLimit) × (damFits dam fed Qu ≡ true)))
+pub flow-rules-ask : (dam : Dam) (fed : Bool) (Qu Qm i : ℕ) → Asks (flowRules dam fed Qu Qm i) ((0 < Qm) × ((Qm ≤ flowLimit) × (damFits dam fed Qu ≡ true)))
 unfolding flowRules
-flow-rules-ask dam fed Qu Q i =
-    asks-both (ask _ 7 i (lt-ltb 0 Q) (ltb-true 0 Q)) (asks-both (ask-most Q flowLimit 8 i) (ask _ 9 i (λ e. e) (λ e. e)))
+flow-rules-ask dam fed Qu Qm i =
+    asks-both (ask _ 7 i (lt-ltb 0 Qm) (ltb-true 0 Qm)) (asks-both (ask-most Qm flowLimit 8 i) (ask _ 9 i (λ e. e) (λ e. e)))
 
-pub load-rule-asks : (Q M i : ℕ) → Asks (loadRule Q M i) (M ≤ massLimit * Q)
+pub load-rule-asks : (Qm Mm i : ℕ) → Asks (loadRule Qm Mm i) (Mm ≤ massLimit * Qm)
 unfolding loadRule
-load-rule-asks Q M i = ask-most M (massLimit * Q) 10 i
+load-rule-asks Qm Mm i = ask-most Mm (massLimit * Qm) 10 i
+
+pub take-rule-asks : (take Qm i : ℕ) → Asks (takeRule take Qm i) (take < Qm)
+unfolding takeRule
+take-rule-asks take Qm i = ask _ 13 i (lt-ltb take Qm) (ltb-true take Qm)
 
 pub rate-rules-ask : (card : Card) (Q i : ℕ) → Asks (rateRules card Q i) ((card .k1 * card .volume ≤ rateLimit * Q) × (card .k2 * card .volume ≤ rateLimit * Q))
 unfolding rateRules
 rate-rules-ask card Q i =
     asks-both (ask-most (card .k1 * card .volume) (rateLimit * Q) 11 i) (ask-most (card .k2 * card .volume) (rateLimit * Q) 11 i)
+
+-- what the checks of a reach ask for, group by group
+pub checks-ask : (card : Card) (fed : Bool) (Qu Qm Mm i : ℕ) → Asks (checksOf card fed Qu Qm Mm i) (((0 < Qm) × ((Qm ≤ flowLimit) × (damFits (card .dam) fed Qu ≡ true))) × ((Mm ≤ massLimit * Qm) × ((takeOf card < Qm) × ((card .k1 * card .volume ≤ rateLimit * (Qm - takeOf card)) × (card .k2 * card .volume ≤ rateLimit * (Qm - takeOf card))))))
+unfolding checksOf
+checks-ask card fed Qu Qm Mm i =
+    asks-both (flow-rules-ask (card .dam) fed Qu Qm i)
+    (asks-both (load-rule-asks Qm Mm i) (asks-both (take-rule-asks (takeOf card) Qm i) (rate-rules-ask card (Qm - takeOf card) i)))
 
 module _ {f : Checks} {r : Outcome} (d : Decides r f) where
   -- an accepted outcome has what its checks ask for

@@ -14,6 +14,7 @@ use Rattle.river.specs.declared.head.FootTable.{FootTable}
 use Rattle.river.specs.declared.head.Head.{Head}
 use Rattle.river.specs.Flow.{flowLimit, Feeders, none, more, feedersAmong, joinedIf, flowOf, reachFlow, flowAt, massAt}
 use Rattle.river.proofs.flow.Table.{entered}
+use Rattle.river.proofs.flow.Take.{flow-within}
 use Rattle.river.proofs.head.Heads.{reach-few}
 use Rattle.river.proofs.head.Offset.{sub-add, times-sub}
 use Rattle.river.specs.FlowTable.{onlyIf, tableSum}
@@ -81,7 +82,7 @@ oxygen-of-feeders {S} {g} {cards} {stored} {outlets} {values} {n = suc n} a t i 
 module _ {cards : List Card} {flows : FlowTable} {feet : FootTable} {i : ℕ} (h : HeadInput cards flows feet i) where
   -- the flow of the reach
   pub flow-bounded : getD (flows .flow) i 0 ≤ flowLimit
-  flow-bounded = rw (h .tabled .flow i (h .within)) (h .sound .each i (h .within) .bounded)
+  flow-bounded = rw (h .tabled .flow i (h .within)) (flow-within (h .sound .each i (h .within)))
 
   -- a foot with at most the head's BOD stays in bounds
   pub foot-carried :

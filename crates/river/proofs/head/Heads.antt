@@ -16,12 +16,13 @@ use Rattle.river.specs.declared.flow.FlowTable.{FlowTable}
 use Rattle.river.specs.declared.head.FootTable.{FootTable}
 use Rattle.river.specs.declared.head.Head.{Head}
 use Rattle.river.specs.Card.{LawfulDam, blank}
-use Rattle.river.specs.Flow.{Feeders, cardOf, above, feedersAmong, joinedIf, flowOf, massOf, deepest, fed, reachFlow, reachMass, ownMass, ReachPasses, DamRule}
+use Rattle.river.specs.Flow.{Feeders, cardOf, above, feedersAmong, joinedIf, flowOf, massOf, deepest, fed, flowLimit, takeOf, mixedFlow, reachFlow, mixedMass, reachMass, ownMass, ReachPasses, DamRule}
 use Rattle.river.specs.Head.{headDemand, headBod, headOxygen}
 use Rattle.river.proofs.range.Ranges.{lawful-at}
 use Rattle.river.proofs.flow.Table.{sum-of-feeders, sum-scaled, fed-deepest}
+use Rattle.river.proofs.flow.Take.{flow-remains, flow-and-take, mixed-bounded, mass-scaled, still-within}
 use Rattle.river.proofs.head.Bounds.{head-demand-kept}
-use Rattle.river.proofs.flow.Checks.{first-tabled, flows-add, masses-add, flow-table, mass-table, mass-bounded}
+use Rattle.river.proofs.flow.Checks.{first-tabled, flows-add, masses-add, flow-table, mass-table}
 use Rattle.river.specs.FlowTable.{tableSum, feederSum, Tabled}
 use Rattle.river.specs.Source.{bodSource}
 use Rattle.river.specs.Stored.{storedLimit, oxygenOf, oxygenSumOf}
@@ -32,7 +33,7 @@ pub flow-of-fed : (cards : List Card) (n i : ℕ) → ((j : ℕ) → j < n → R
 unfolding feedersAmong joinedIf fed flowOf
 flow-of-fed cards zero i s e = let z : _≡_ {A = ℕ} 0 1 = cc in absurd (let h : ⊥ = omega arith in h)
 flow-of-fed cards (suc n) i s e =
-    step (eqb (getD cards n blank .outlet) i) (s n (le-refl (suc n)) .flowing) (flow-of-fed cards n i (λ j l. s j (omega arith))) e
+    step (eqb (getD cards n blank .outlet) i) (flow-remains (s n (le-refl (suc n)))) (flow-of-fed cards n i (λ j l. s j (omega arith))) e
   where
     step : (b : Bool) → 0 < reachFlow (getD cards n blank) (feedersAmong cards n (suc n)) → (fed (feedersAmong cards n i) ≡ true → 0 < flowOf (feedersAmong cards n i)) → fed (joinedIf b (getD cards n blank) (feedersAmong cards n (suc n)) (feedersAmong cards n i)) ≡ true → 0 < flowOf (joinedIf b (getD cards n blank) (feedersAmong cards n (suc n)) (feedersAmong cards n i))
     step true p f e = lt-of-lt-of-le p (le-add-right _ _)
@@ -44,13 +45,14 @@ dam-within Absent up l r = tt
 dam-within (Aerating share generating) up l r = (l .share, r .1)
 
 -- THEOREM: Q × BOD is at most 1,000 × M at the head, if the feeders' sum of Q × BOD is at most 1,000 times theirs
-pub head-bod-within-mass : (card : Card) (up : Feeders) (sum : ℕ) → sum ≤ 1000 * massOf up → reachFlow card up * headBod card (fed up) (flowOf up) sum ≤ 1000 * reachMass card up
-head-bod-within-mass card up sum h =
-    le-trans (head-demand-kept (bodSource card) (fed up) (flowOf up) sum) (omega (arith, h))
+pub head-bod-within-mass : {card : Card} {up : Feeders} (sum : ℕ) → ReachPasses card up → sum ≤ 1000 * massOf up → reachFlow card up * headBod card (fed up) (flowOf up) sum ≤ 1000 * reachMass card up
+head-bod-within-mass {card} {up} sum s h =
+    still-within (mixedFlow card up) (reachFlow card up) (mixedMass card up) (reachMass card up) 1000 (headBod card (fed up) (flowOf up) sum) (s .flowing) (mass-scaled s)
+    (le-trans (head-demand-kept (bodSource card) (fed up) (flowOf up) sum) (omega (arith, h)))
 
 -- Qu of reach i + 1, and whether it has feeders, by the tables
-abbrev quBy : FlowTable → ℕ → Card → ℕ
-quBy flows i card = getD (flows .flow) i 0 - card .inflow
+abbrev quBy : FlowTable → ℕ → Card → (take : ℕ) → ℕ
+quBy flows i card take = getD (flows .flow) i 0 + take - card .inflow
 
 abbrev fedBy : FlowTable → ℕ → Bool
 fedBy flows i = ltb 1 (getD (flows .depth) i 0)
@@ -74,7 +76,7 @@ module _ {cards : List Card} {flows : FlowTable} {feet : FootTable} {i : ℕ} (h
       (sum-scaled (flows .outlet) (feet .oxygen) (flows .flow) storedLimit i (suc i) (λ j l. rw (prior .flow j l) (h .carried .oxygen j l)))
 
   pub sum-bod-fits : feederSum (flows .outlet) (feet .bod) i < 2 ^ 64
-  sum-bod-fits = omega (arith, sum-bod, mass-bounded here)
+  sum-bod-fits = omega (arith, sum-bod, mixed-bounded here)
 
   pub sum-oxygen-fits : feederSum (flows .outlet) (feet .oxygen) i < 2 ^ 64
   sum-oxygen-fits = omega (arith, sum-oxygen, here .bounded)
@@ -82,9 +84,9 @@ module _ {cards : List Card} {flows : FlowTable} {feet : FootTable} {i : ℕ} (h
   pub reach-few : i < 128
   reach-few = omega (arith, h .within, h .lawful .few)
 
-  -- the flow and the depth of the reach by the tables
-  pub flow-here : getD (flows .flow) i 0 ≡ flowOf (above cards (suc i)) + cardOf cards (suc i) .inflow
-  flow-here = h .tabled .flow i (h .within)
+  -- the flow before the take, and the depth of the reach, by the tables
+  flow-here : getD (flows .flow) i 0 + takeOf (cardOf cards (suc i)) ≡ mixedFlow (cardOf cards (suc i)) (above cards (suc i))
+  flow-here = rw (h .tabled .flow i (h .within)) (flow-and-take here)
 
   pub fed-here : fedBy flows i ≡ fed (above cards (suc i))
   fed-here =
@@ -108,27 +110,30 @@ module _ {cards : List Card} {flows : FlowTable} {feet : FootTable} {i : ℕ} (h
   bod-ready = omega (arith, sum-bod, here .mass-rule)
 
   -- the same of the numbers that the program works with
-  module _ {card : Card} (ec : card ≡ cardOf cards (suc i)) where
-    pub inflow-within : card .inflow ≤ getD (flows .flow) i 0
-    inflow-within = omega (arith, flow-here, ap (λ (x : Card). x .inflow) ec)
+  module _ {card : Card} {take : ℕ} (ec : card ≡ cardOf cards (suc i)) (et : take ≡ takeOf card) where
+    pub flow-small : getD (flows .flow) i 0 + take ≤ flowLimit
+    flow-small = rw (et, ec, flow-here) (here .bounded)
 
-    qu-here : quBy flows i card ≡ flowOf (above cards (suc i))
-    qu-here = omega (arith, flow-here, ap (λ (x : Card). x .inflow) ec)
+    pub inflow-within : card .inflow ≤ getD (flows .flow) i 0 + take
+    inflow-within = rw (et, ec, flow-here) (omega arith)
 
-    ready-here : HeadReady card (fedBy flows i) (quBy flows i card)
+    qu-here : quBy flows i card take ≡ flowOf (above cards (suc i))
+    qu-here = rw (et, ec, flow-here) (omega arith)
+
+    ready-here : HeadReady card (fedBy flows i) (quBy flows i card take)
     ready-here = rw (qu-here, fed-here, ec) ready
 
-    pub bod-input : {source : Source} {sum : ℕ} → source ≡ bodSource card → sum ≡ tableSum (flows .outlet) (feet .bod) i (i + 1) → DemandReady source (fedBy flows i) (quBy flows i card) sum
+    pub bod-input : {source : Source} {sum : ℕ} → source ≡ bodSource card → sum ≡ tableSum (flows .outlet) (feet .bod) i (i + 1) → DemandReady source (fedBy flows i) (quBy flows i card take) sum
     bod-input es e = rw es record { flows = ready-here .flows; within = rw (e, add-one, qu-here, ec) bod-ready }
 
-    pub oxygen-input : {sum : ℕ} → sum ≡ tableSum (flows .outlet) (feet .oxygen) i (i + 1) → OxygenReady card (fedBy flows i) (quBy flows i card) sum
+    pub oxygen-input : {sum : ℕ} → sum ≡ tableSum (flows .outlet) (feet .oxygen) i (i + 1) → OxygenReady card (fedBy flows i) (quBy flows i card take) sum
     oxygen-input e = record { ready = ready-here; within = rw (e, add-one, qu-here) sum-oxygen }
 
-    pub head-made : (r : Head) {source : Source} {b o : ℕ} → source ≡ bodSource card → b ≡ tableSum (flows .outlet) (feet .bod) i (i + 1) → o ≡ tableSum (flows .outlet) (feet .oxygen) i (i + 1) → r .bod ≡ headDemand source (fedBy flows i) (quBy flows i card) b → oxygenOf (r .oxygen) ≡ headOxygen card (fedBy flows i) (quBy flows i card) (oxygenSumOf (quBy flows i card) o) → HeadOf cards flows feet i r
+    pub head-made : (r : Head) {source : Source} {b o : ℕ} → source ≡ bodSource card → b ≡ tableSum (flows .outlet) (feet .bod) i (i + 1) → o ≡ tableSum (flows .outlet) (feet .oxygen) i (i + 1) → r .bod ≡ headDemand source (fedBy flows i) (quBy flows i card take) b → oxygenOf (r .oxygen) ≡ headOxygen card (fedBy flows i) (quBy flows i card take) (oxygenSumOf (quBy flows i card take) o) → HeadOf cards flows feet i r
     head-made r es eb eo e f =
         let bod = rw (es, qu-here, fed-here, ec, eb, add-one) at e in
         record {
           bod = bod;
           oxygen = rw (qu-here, fed-here, ec, eo, add-one) at f;
-          mass = rw bod (head-bod-within-mass (cardOf cards (suc i)) (above cards (suc i)) _ sum-bod);
+          mass = rw bod (head-bod-within-mass _ here sum-bod);
         }

@@ -9,11 +9,14 @@ use native.Mathlib.Numerals.{one-add}
 use native.Mathlib.Omega.{arith}
 use lib.ListN.{length, getD}
 use borrow.Author.Tests.{le-leb, leb-true, ltb-true, eq-eqb, eqb-true, ne-eqb}
-use Rattle.river.specs.Card.{FieldsInRange, LawfulDam, LawfulCard, LawfulFrom, Lawful, blank, optional, optionalOf, inRange, damInRange, countOk, outletOk}
+use Rattle.river.specs.Card.{FieldsInRange, LawfulDam, LawfulAmount, LawfulCard, LawfulFrom, Lawful, blank, takeLayout, optional, optionalOf, inRange, damInRange, amountInRange, countOk, outletOk}
 use Rattle.river.specs.Optional.{optionalsInRange}
+use Rattle.river.specs.declared.card.Amount.{Amount}
+use Rattle.river.specs.declared.card.Amount.the-variants.{Without, Given}
 use Rattle.river.specs.declared.card.Card.{Card}
 use Rattle.river.specs.declared.card.Dam.{Dam}
 use Rattle.river.specs.declared.card.Dam.the-variants.{Absent, Aerating}
+use Rattle.river.specs.declared.card.Layout.{Layout}
 use Rattle.river.proofs.Answers.{both, both-true}
 
 pub inRange-true : (c : Card) → FieldsInRange c → inRange c ≡ true
@@ -55,16 +58,34 @@ true-damInRange Absent e = tt
 true-damInRange (Aerating s g) e =
     let t = both-true e in record { share = leb-true _ _ (t .left); generating = leb-true _ _ (t .right) }
 
+pub amountInRange-true : (l : Layout) (a : Amount) → LawfulAmount l a → amountInRange l a ≡ true
+unfolding amountInRange
+amountInRange-true l Without h = refl
+amountInRange-true l (Given n) h = both (le-leb _ _ (h .0)) (le-leb _ _ (h .1))
+
+pub true-amountInRange : (l : Layout) (a : Amount) → amountInRange l a ≡ true → LawfulAmount l a
+unfolding amountInRange
+true-amountInRange l Without e = tt
+true-amountInRange l (Given n) e = let t = both-true e in (leb-true _ _ (t .left), leb-true _ _ (t .right))
+
 -- the tests of a card hold exactly where it is lawful
 pub lawful-optionals : {n i : ℕ} {c : Card} → LawfulCard n i c → optionalsInRange optional (optionalOf c) ≡ true
 unfolding optionalsInRange
-lawful-optionals {n} {i} {c} h = both (damInRange-true (c .dam) (h .dam)) refl
+lawful-optionals {n} {i} {c} h = both (damInRange-true (c .dam) (h .dam)) (both (amountInRange-true takeLayout (c .take) (h .take)) refl)
 
 pub lawful-card : (n i : ℕ) (c : Card) → inRange c ≡ true → c .load < 4294967296 → outletOk n i (c .outlet) ≡ true
     → optionalsInRange optional (optionalOf c) ≡ true → LawfulCard n i c
 unfolding optionalsInRange
 lawful-card n i c r l o e =
-    record { in-range = true-inRange c r; load = l; outlet = o; dam = true-damInRange (c .dam) (both-true e .left) }
+    let a = both-true e in
+    let b = both-true (a .right) in
+    record {
+      in-range = true-inRange c r;
+      load = l;
+      outlet = o;
+      dam = true-damInRange (c .dam) (a .left);
+      take = true-amountInRange takeLayout (c .take) (b .left);
+    }
 
 pub countOk-true : (n : ℕ) → 1 ≤ n → n ≤ 128 → countOk n ≡ true
 unfolding countOk

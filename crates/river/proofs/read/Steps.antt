@@ -2,30 +2,38 @@
 -- Assumes nothing.
 use Prim.Native.Nat.{ℕ, _+_, _≤_}
 use mathlib.Core.Path.{_≡_, ap, sym, _∙_}
-use mathlib.Core.List.{List, _∷_}
-use lib.ListN.{length, drop}
+use mathlib.Core.List.{List}
+use lib.ListN.{drop}
 use Rattle.river.specs.Bytes.{twoAt}
-use Rattle.river.specs.Card.{encodeDam, damRecord, sizeOf}
-use Rattle.river.specs.Optional.{Kind, Values, readOptional, readOptionals}
-use Rattle.river.specs.Read.{headerOf, damOf, reachOf, headerRefusal, reachRefusal, readHeader, readReaches, readFile}
-use Rattle.river.specs.Refusal.{Answer, accepted, refused, after}
+use Rattle.river.specs.Card.{sizeOf}
+use Rattle.river.specs.Read.{headerOf, damOf, amountOf, reachOf, headerRefusal, damRefusal, amountRefusal, reachRefusal, readHeader, readReaches, readFile}
+use Rattle.river.specs.Refusal.{Answer, accepted, refused}
+use Rattle.river.specs.declared.card.Amount.{Amount}
 use Rattle.river.specs.declared.card.Card.{Card}
 use Rattle.river.specs.declared.card.Dam.{Dam}
+use Rattle.river.specs.declared.read.AmountRead.{AmountRead}
 use Rattle.river.specs.declared.read.DamRead.{DamRead}
 use Rattle.river.specs.declared.read.Header.{Header}
 use Rattle.river.specs.declared.read.Reach.{Reach}
 use Rattle.river.specs.declared.refusal.Refusal.{Refusal}
 use Rattle.river.proofs.Answers.{clash, after-accepted, after-refused, passed}
 use Rattle.river.proofs.range.Ranges.{true-countOk}
-use Rattle.river.proofs.card.Optional.{first-refused, first-read}
 
-found : (x : Answer Dam) {d : Dam} → damOf x ≡ DamRead.Found d → x ≡ accepted d
-found (accepted d) e = cc
-found (refused r) e = clash (cc)
+pub dam-found : (x : Answer Dam) {a : DamRead} {d : Dam} → a ≡ damOf x → a ≡ DamRead.Found d → x ≡ accepted d
+dam-found (accepted d) e f = cc
+dam-found (refused r) e f = clash (cc)
 
-not-found : (x : Answer Dam) {r : Refusal} → damOf x ≡ DamRead.Refused r → x ≡ refused r
-not-found (accepted d) e = clash (cc)
-not-found (refused r) e = cc
+pub dam-refused : (x : Answer Dam) {a : DamRead} {r : Refusal} → a ≡ damOf x → a ≡ DamRead.Refused r → x ≡ refused (damRefusal a)
+dam-refused (accepted d) e f = clash (cc)
+dam-refused (refused r) e f = rw e
+
+pub amount-found : (x : Answer Amount) {a : AmountRead} {n : Amount} → a ≡ amountOf x → a ≡ AmountRead.Found n → x ≡ accepted n
+amount-found (accepted n) e f = cc
+amount-found (refused r) e f = clash (cc)
+
+pub amount-refused : (x : Answer Amount) {a : AmountRead} {r : Refusal} → a ≡ amountOf x → a ≡ AmountRead.Refused r → x ≡ refused (amountRefusal a)
+amount-refused (accepted n) e f = clash (cc)
+amount-refused (refused r) e f = rw e
 
 pub header-counted : (x : Answer ℕ) {n next : ℕ} → headerOf x ≡ Header.Count n next → (x ≡ accepted n) × (next ≡ 4)
 header-counted (accepted m) e = (cc, cc)
@@ -69,14 +77,9 @@ pub header-refuses : (s : List ℕ) {r : Refusal} → readHeader s ≡ refused r
 unfolding readFile
 header-refuses s e = after-refused _ _ e
 
--- what is read of a dam decides what comes next: a refusal, or the records behind
-module _ {A : Type 0} (ks : List Kind) (i : ℕ) (s : List ℕ) (f : Values (damRecord ∷ ks) → Answer A) {a : DamRead} (p : a ≡ damOf (readOptional damRecord i s)) where
-  pub dam-refused : {r : Refusal} → a ≡ DamRead.Refused r → after (readOptionals (damRecord ∷ ks) i s) f ≡ refused r
-  dam-refused q = first-refused damRecord ks i s f (not-found _ (sym p ∙ q))
-
-  pub dam-found : {d : Dam} → a ≡ DamRead.Found d
-      → after (readOptionals (damRecord ∷ ks) i s) f ≡ after (readOptionals ks i (drop (length (encodeDam d)) s)) (λ vs. f (d, vs))
-  dam-found q = first-read damRecord ks i s f (found _ (sym p ∙ q))
+-- a card is refused
+pub card-refused : (at : ℕ) {x : Answer Card} {r q : Refusal} → r ≡ q → x ≡ refused q → Reach.Refused r ≡ reachOf at x
+card-refused at e f = rw (f, e)
 
 -- a card is made, and the next position is behind its records
 pub card-made : (at : ℕ) {c d : Card} {k : ℕ} → c ≡ d → k ≡ sizeOf c → Reach.Read c (at + k) ≡ reachOf at (accepted d)

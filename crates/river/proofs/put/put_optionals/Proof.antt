@@ -10,8 +10,16 @@ use Rattle.river.proofs.put.put_optionals.Tie as tie
 put-dam-requires : tie.Need-put-dam-requires
 put-dam-requires c κs = omega (arith, simp length-append at (c .before .before .pre))
 
+put-amount-requires : tie.Need-put-amount-requires
+put-amount-requires c κs =
+    let a = c .before .before .before in
+    omega (arith, a .put-dam .ensures .place, simp length-append at (a .before .before .before .pre))
+
 returns : tie.Need-returns
-returns c = chain (c .before .before .put-dam .ensures) (put-none _ _)
+returns c =
+    let b = c .before .before in
+    chain (b .before .before .before .before .put-dam .ensures) (chain (b .put-amount .ensures) (put-none _ _))
 
 pub put-optionals-spec : {M : Type 1} → statement M
-put-optionals-spec = tie.close (tie.spec put-dam-requires (λ same-length. search needs) returns)
+put-optionals-spec =
+    tie.close (tie.spec put-dam-requires put-amount-requires (λ same-length. search needs) returns)

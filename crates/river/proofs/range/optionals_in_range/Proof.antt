@@ -1,15 +1,23 @@
 -- `river::range::optionals_in_range` meets its contract: the tests of the records, one behind the other.
 -- Assumes nothing.
 use borrow.Author.Needs.{needs}
+use borrow.Author.Tests.{not-true, not-false}
 use mathlib.Core.Bool.{and-true}
-use mathlib.Core.Path.{sym, _∙_}
 use Rattle.river.specs.Optional.{optionalsInRange}
 use Rattle.river.proofs.range.optionals_in_range.Statement.{statement}
 use Rattle.river.proofs.range.optionals_in_range.Tie as tie
 
 returns : tie.Need-returns
 unfolding optionalsInRange
-returns c = c .dam-in-range .ensures ∙ sym (and-true _)
+returns c = rw (← c .before .dam-in-range .ensures, not-true (c .before .dam-in-range .result) (c .if1 .taken))
+
+returns-2 : tie.Need-returns-2
+unfolding optionalsInRange
+returns-2 c =
+    let e1 = c .before in
+    rw (← e1 .before .dam-in-range .ensures, not-false (e1 .before .dam-in-range .result) (e1 .if1 .left), and-true) (c .amount-in-range .ensures)
 
 pub optionals-in-range-spec : {M : Type 1} → statement M
-optionals-in-range-spec = tie.close (tie.spec (λ dam-in-range-requires. search needs) returns)
+optionals-in-range-spec =
+    tie.close
+    (tie.spec (λ dam-in-range-requires. search needs) returns (λ amount-in-range-requires. search needs) returns-2)

@@ -1,45 +1,77 @@
--- `river::read::read_card` meets its contract: the answer about the dam decides the answer about the card.
+-- `river::read::read_card` meets its contract: the records are read one by one, and each answer decides what comes next.
 -- Assumes nothing.
 use borrow.Author.Needs.{needs}
-use mathlib.Core.Path.{_≡_, ap, sym, _∙_}
-use mathlib.Core.List.{List, []}
+use mathlib.Core.Path.{refl, ap, sym, _∙_}
+use mathlib.Core.List.{List, [], _∷_}
 use Prim.Native.Nat.{ℕ}
 use denote.Ref.{now}
 use lib.ListN.{drop}
 use native.Mathlib.Omega.{arith}
-use Rattle.river.specs.Card.{reachBytes, damRecord, optional}
-use Rattle.river.specs.Optional.{Values, readOptional}
-use Rattle.river.specs.Read.{damOf, cardAt, reachOf}
-use Rattle.river.specs.Refusal.{Answer, accepted}
+use Rattle.river.specs.Card.{reachBytes, takeRecord, optional}
+use Rattle.river.specs.Optional.{Values, readOptionals}
+use Rattle.river.specs.Read.{cardAt, reachOf}
+use Rattle.river.specs.Refusal.{Answer, accepted, after}
 use Rattle.river.specs.declared.card.Card.{Card}
 use Rattle.river.proofs.card.Rows.{size-small}
-use Rattle.river.proofs.read.Steps.{dam-refused, dam-found, card-made}
-use Rattle.river.proofs.card.Optional.{last-read}
+use Rattle.river.proofs.card.Optional.{Due, all-due, refused-here, found-here, none-due}
+use Rattle.river.proofs.read.Steps.{dam-found, dam-refused, amount-found, amount-refused, card-refused, card-made}
 use Rattle.river.proofs.read.read_card.Statement.{statement}
 use Rattle.river.proofs.read.read_card.Tie as tie
 
 abbrev made : List ℕ → Values optional → Answer Card
 made s vs = accepted (cardAt s vs)
 
--- what is read of the dam, on the bytes behind the `RE` record
-answer : (c : tie.After-read-dam) → c .read-dam .result ≡ damOf (readOptional damRecord (c .before .before .before .args .reach) (drop reachBytes (now (c .before .before .before .args .s))))
-answer c = rw (← c .before .behind .ensures) (c .read-dam .ensures)
+-- what is to be answered
+abbrev asked : tie.Start → Answer Card
+asked a = let s = now (a .args .s) in after (readOptionals optional (a .args .reach) (drop reachBytes s)) (made s)
 
-add-t11 : tie.Need-add-t11
-add-t11 c = omega (arith, c .before .before .before .before .before .before .before .before .pre, c .size-of .ensures, size-small (c .before .card-at .result))
+-- the records that are due behind the `RE` record
+abbrev start : tie.After-behind → tie.Start
+start c = c .before .before
+
+dam-due : (c : tie.After-behind) → let a = start c in Due (asked a) optional (a .args .reach) (now (c .behind .result)) (made (now (a .args .s)))
+dam-due c = all-due optional _ _ (c .behind .ensures)
 
 returns : tie.Need-returns
 returns c =
-    let call = c .before .before .before in
-    let a = call .before .before .before .args in
-    sym (ap (reachOf (a .at)) (dam-refused [] (a .reach) _ (made (now (a .s))) (answer call) (c .before .r .given .1)))
+    let r = c .before .before .before in
+    card-refused (start (r .before) .args .at) (c .dam-refusal .ensures)
+    (refused-here (dam-due (r .before)) (dam-refused _ (r .read-dam .ensures) (c .before .enum-told .given .1)))
+
+-- behind the dam
+abbrev dam-found-at : tie.After-behind2 → tie.After-found
+dam-found-at c = c .before .before .before
+
+abbrev start-2 : tie.After-behind2 → tie.Start
+start-2 c = start (dam-found-at c .before .before .before)
+
+take-due : (c : tie.After-behind2)
+    → let a = start-2 c in Due (asked a) (takeRecord ∷ []) (a .args .reach) (now (c .behind2 .result)) (λ vs. made (now (a .args .s)) (dam-found-at c .found .given .0 .0, vs))
+take-due c =
+    let d = dam-found-at c in
+    let r = d .before .before in
+    found-here (dam-due (r .before)) (dam-found _ (r .read-dam .ensures) (d .found .given .1))
+    (c .behind2 .ensures ∙ ap (λ (k : ℕ). drop k (now (r .before .behind .result))) (c .before .dam-size .ensures))
 
 returns-2 : tie.Need-returns-2
 returns-2 c =
-    let call = c .before .before .before .before .before in
-    let a = call .before .before .before .args in
-    card-made (a .at) (c .before .card-at .ensures) (c .size-of .ensures) ∙
-    sym (ap (reachOf (a .at)) (dam-found [] (a .reach) _ (made (now (a .s))) (answer call) (c .before .before .before .dam .given .1) ∙ last-read _ _ _))
+    let r = c .before .before .before in
+    card-refused (start-2 (r .before) .args .at) (c .amount-refusal .ensures)
+    (refused-here (take-due (r .before)) (amount-refused _ (r .read-amount .ensures) (c .before .enum-told2 .given .1)))
+
+-- behind the take, the last
+add-next : tie.Need-add-next
+add-next c =
+    let r = c .before .before .before .before .before in
+    omega (arith, start-2 (r .before) .pre, c .size-of .ensures, size-small (c .before .card-at .result))
+
+returns-3 : tie.Need-returns-3
+returns-3 c =
+    let t = c .before .before .before in
+    let r = t .before .before in
+    let at = start-2 (r .before) .args .at in
+    card-made at (c .before .card-at .ensures) (c .size-of .ensures) ∙
+    sym (ap (reachOf at) (none-due (found-here (take-due (r .before)) (amount-found _ (r .read-amount .ensures) (t .found2 .given .1)) refl)))
 
 pub read-card-spec : {M : Type 1} → statement M
 read-card-spec =
@@ -47,10 +79,18 @@ read-card-spec =
     (tie.spec
     (λ behind-requires. search needs)
     (λ read-dam-requires. search needs)
-    (λ enum-known-r. search needs)
-    (λ enum-known-dam. search needs)
+    (λ enum-known-found. search needs)
+    (λ enum-told. search needs)
+    (λ dam-refusal-requires. search needs)
+    returns
+    (λ dam-size-requires. search needs)
+    (λ behind-requires-2. search needs)
+    (λ read-amount-requires. search needs)
+    (λ enum-known-found-2. search needs)
+    (λ enum-told-2. search needs)
+    (λ amount-refusal-requires. search needs)
+    returns-2
     (λ card-at-requires. search needs)
     (λ size-of-requires. search needs)
-    add-t11
-    returns
-    returns-2)
+    add-next
+    returns-3)
