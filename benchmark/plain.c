@@ -9,7 +9,7 @@
 struct reach {
     uint32_t outlet, temperature, k1, k2, volume, inflow, inflow_bod, inflow_oxygen, load;
     int has_dam;
-    uint32_t share, generating, take;
+    uint32_t share, generating, take, pressure;
     /* Worked out: flow from above, before and after the take, undecayed BOD, depth, and sums of flow times the
        feeders' foot values. */
     uint64_t above, mixed, flow, mass;
@@ -38,7 +38,7 @@ static int follows(const uint8_t *file, size_t length, size_t at, const char *ma
     return length - at >= 2 && file[at] == (uint8_t)mark[0] && file[at + 1] == (uint8_t)mark[1];
 }
 
-/* Reads the dam and the take at *at where they are there, and moves *at past them. */
+/* Reads the dam, the take and the pressure at *at where they are there, and moves *at past them. */
 static uint32_t read_added(const uint8_t *file, size_t length, size_t *at, struct reach *r)
 {
     if (follows(file, length, *at, "DM")) {
@@ -59,10 +59,18 @@ static uint32_t read_added(const uint8_t *file, size_t length, size_t *at, struc
             return 4;
         *at += 6;
     }
+    if (follows(file, length, *at, "BP")) {
+        if (length - *at < 4)
+            return 1;
+        r->pressure = number(file + *at + 2, 2);
+        if (r->pressure < 500 || r->pressure > 800)
+            return 4;
+        *at += 4;
+    }
     return 0;
 }
 
-/* Reads one reach with its dam and its take at *at, and moves *at past them. */
+/* Reads one reach with the records that belong to it at *at, and moves *at past them. */
 static uint32_t read_reach(const uint8_t *file, size_t length, size_t *at, uint32_t i, uint32_t n, struct reach *r)
 {
     const uint8_t *p = file + *at;
@@ -141,6 +149,8 @@ static void report_reach(struct reach *reaches, const struct reach *r, uint8_t *
     double t = r->temperature, above = (double)r->above, mixed = (double)r->mixed, flow = (double)r->flow;
     double saturation = 1e6 * (14.652 - 0.41022 * t + 0.007991 * t * t - 0.000077774 * t * t * t);
     double bod = 0, oxygen = 0;
+    if (r->pressure)
+        saturation *= r->pressure / 760.0;
     if (r->feeders) {
         bod = r->bod_above / above;
         oxygen = r->oxygen_above / above;

@@ -37,7 +37,7 @@ says() {
     passed=$((passed + 1))
 }
 
-# Files that no text gives: cut short, with a wrong mark, with a byte too many, too long.
+# Files that no text gives, or only with a warning: cut short, with a wrong mark, with a byte too many, too long, out of range.
 make_odd_files() {
     head -c 3 town.river > "$1/header-cut.river"
     head -c 100 town.river > "$1/reach-cut.river"
@@ -47,6 +47,10 @@ make_odd_files() {
     head -c 35 two-take.river > "$1/take-cut.river"
     { head -c 36 two-take.river; tail -c +31 two-take.river; } > "$1/take-twice.river"
     { head -c 32 two-take.river; printf '\377\377\377\377'; tail -c +37 two-take.river; } > "$1/take-too-large.river"
+    head -c 67 two-pressure.river > "$1/pressure-cut.river"
+    { head -c 66 two-pressure.river; printf '\377\377'; } > "$1/pressure-too-large.river"
+    { head -c 30 two.river; printf 'BP\002\274BP\002\274'; tail -c +31 two.river; } > "$1/pressure-twice.river"
+    { head -c 30 two-take.river; printf 'BP\002\274'; tail -c +31 two-take.river; } > "$1/pressure-before-take.river"
     { cat town.river; echo; } > "$1/line-end-more.river"
     { cat chain.river; head -c 5000000 /dev/zero; } > "$1/long.river"
     cp town.txt "$1/text.river"
@@ -125,6 +129,12 @@ says 'take-cut.river: refused 1 reach 1: fewer bytes'
 says 'take-twice.river: refused 2 reach 2: the mark'
 says 'take-too-large.river: refused 4 reach 1: a field is out of range: take is 4294967295, not from 0 to 100000000 L/s$'
 says 'refused 13 reach 1: the take is not below the flow at the head$'
+expect 1 "$display" "$scratch"/odd/pressure-*.river refused/4-low-pressure.river
+says 'pressure-cut.river: refused 1 reach 2: fewer bytes'
+says 'pressure-too-large.river: refused 4 reach 2: a field is out of range: pressure is 65535, not from 500 to 800 mm of mercury$'
+says 'pressure-twice.river: refused 2 reach 2: the mark'
+says 'pressure-before-take.river: refused 2 reach 2: the mark'
+says '4-low-pressure.river: refused 4 reach 1: a field is out of range: pressure is 499, not from 500 to 800 mm of mercury$'
 expect 1 "$display" refused/5-uphill.river "$scratch"/odd/outlet-*.river "$scratch/odd/text.river"
 says 'refused 5 reach 2: the outlet is wrong: outlet is 2, not 3$'
 says 'refused 5 reach 1: the outlet is wrong: outlet is 1, not from 2 to 5$'
@@ -136,8 +146,13 @@ expect 0 "$collection" .
 expect 1 "$collection" refused
 expect 1 "$collection" "$scratch/odd"
 says '^text.river .*; this looks like a text; tools/river make'
-says '^15 rivers: 0 accepted, 15 refused; rewritten: 0 the same, 0 differ; reports beside them: 0 the same, 0 differ$'
-mkdir "$scratch/changed" "$scratch/none"
+says '^19 rivers: 0 accepted, 19 refused; rewritten: 0 the same, 0 differ; reports beside them: 0 the same, 0 differ$'
+# A pressure of 760, written out, is another file with the figures of none.
+mkdir "$scratch/standard" "$scratch/changed" "$scratch/none"
+{ head -c 66 two-pressure.river; printf '\002\370'; } > "$scratch/standard/two.river"
+cp two-dam.report "$scratch/standard/two.report"
+expect 0 "$collection" "$scratch/standard"
+says '^1 river: 1 accepted, 0 refused; rewritten: 1 the same, 0 differ; reports beside them: 1 the same, 0 differ$'
 cp two.river two.report "$scratch/changed"
 echo >> "$scratch/changed/two.report"
 expect 1 "$collection" "$scratch/changed"

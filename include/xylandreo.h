@@ -22,12 +22,13 @@ extern "C" {
 #define XYLANDREO_RE_BYTES 26
 #define XYLANDREO_DM_BYTES 8
 #define XYLANDREO_WD_BYTES 6
+#define XYLANDREO_BP_BYTES 4
 #define XYLANDREO_RECORD 29
 
 /* Bytes of the longest river file, in which every reach has every record, and of the longest report. */
-#define XYLANDREO_MAX_FILE \
-    (XYLANDREO_RV_BYTES +  \
-     XYLANDREO_MAX_REACHES * (XYLANDREO_RE_BYTES + XYLANDREO_DM_BYTES + XYLANDREO_WD_BYTES))
+#define XYLANDREO_MAX_FILE                                                                   \
+    (XYLANDREO_RV_BYTES + XYLANDREO_MAX_REACHES * (XYLANDREO_RE_BYTES + XYLANDREO_DM_BYTES + \
+                                                   XYLANDREO_WD_BYTES + XYLANDREO_BP_BYTES))
 #define XYLANDREO_MAX_REPORT (XYLANDREO_MAX_REACHES * XYLANDREO_RECORD)
 
 /*
@@ -144,6 +145,9 @@ static const struct xylandreo_kind xylandreo_kinds[] = {
     }},
     {"WD", XYLANDREO_WD_BYTES, 1, {
         {"take", 2, 4, 0, 100000000, "L/s"},
+    }},
+    {"BP", XYLANDREO_BP_BYTES, 1, {
+        {"pressure", 2, 2, 500, 800, "mm of mercury"},
     }},
 };
 

@@ -8,7 +8,7 @@ import sys
 
 import reference
 import vectors
-from reference import LONGEST, Card, Dam, Refused, River, Take
+from reference import LONGEST, Card, Dam, Pressure, Refused, River, Take
 
 CRATE = "crates/file_vectors"
 ROOM = 100              # bytes of the buffer to which a river that was read is written again
@@ -21,6 +21,7 @@ MOST_TAKEN = MOST._replace(take=Take(100000000))
 LEAST = Card(0, 0, 0, 0, 0, 0, 0, 0, 0)
 DM = b"DM\x01\xf4\x00\x00\x03\xe8"
 WD = b"WD\x00\x00\x03\xe8"
+BP = b"BP\x02\xbc"
 
 
 def file(*cards):
@@ -38,6 +39,10 @@ def dammed(share, generating, **fields):
 
 def taken(take, **fields):
     return changed(take=Take(take), **fields)
+
+
+def under(pressure, **fields):
+    return changed(pressure=Pressure(pressure), **fields)
 
 
 ONE = file(PLAIN)
@@ -69,6 +74,11 @@ FILES = {
         file(FIRST._replace(take=Take(4294967295)), PLAIN._replace(outlet=1)), file(FIRST, PLAIN._replace(take=Take(100000001))),
         ONE + WD + DM, TWO[:30] + WD + DM + TWO[30:], ONE + WD + WD, TWO[:30] + WD + WD + TWO[30:], ONE[:4] + WD + ONE[4:],
     ],
+    "pressures": [
+        ONE + b"BP", ONE + WD + BP[:3], under(499), under(801), under(801, outlet=1), taken(100000001, pressure=Pressure(801)),
+        file(FIRST._replace(pressure=Pressure(801)), PLAIN._replace(outlet=1)), file(FIRST, PLAIN._replace(pressure=Pressure(499))),
+        ONE + BP + WD, TWO[:30] + BP + DM + TWO[30:], TWO[:30] + BP + BP + TWO[30:], ONE[:4] + BP + ONE[4:],
+    ],
     "trailing": [ONE + b"D", ONE + b"\x00", ONE + ONE[4:], TWO + b"RE", DAMMED + b"M", DAMMED + DM, TWO[:2] + b"\x00\x01" + changed()[4:] + TWO[30:]],
     "lawful": [
         ONE, file(LEAST), file(MOST), TWO, DAMMED, dammed(0, 0), dammed(0, 1), dammed(1000, 100000000), taken(0), taken(100000000),
@@ -76,6 +86,7 @@ FILES = {
         file(PLAIN._replace(outlet=3), PLAIN._replace(outlet=3), PLAIN),
         file(PLAIN._replace(outlet=2), PLAIN._replace(outlet=3, dam=Dam(7, 8)), PLAIN),
         file(FIRST, PLAIN._replace(dam=Dam(7, 8), take=Take(2999))), file(MOST_TAKEN),
+        under(500), under(760), dammed(7, 8, pressure=Pressure(634)), file(FIRST, MOST_TAKEN._replace(pressure=Pressure(800))),
     ],
 }
 
@@ -91,6 +102,9 @@ RIVERS = [
     ([PLAIN._replace(take=Take(0))], 36), ([PLAIN._replace(take=Take(0))], 35), ([PLAIN._replace(take=Take(100000001))], 40),
     ([PLAIN._replace(outlet=1, take=Take(100000001))], 40), ([FIRST._replace(take=Take(100000001)), PLAIN._replace(outlet=9)], 70),
     ([FIRST, PLAIN._replace(dam=Dam(1, 2), take=Take(4294967295))], 70), ([FIRST._replace(take=Take(5)), MOST_TAKEN], 76),
+    ([PLAIN._replace(pressure=Pressure(500))], 34), ([PLAIN._replace(pressure=Pressure(500))], 33), ([PLAIN._replace(pressure=Pressure(499))], 40),
+    ([PLAIN._replace(outlet=1, pressure=Pressure(801))], 40), ([FIRST, PLAIN._replace(dam=Dam(1, 2), take=Take(3), pressure=Pressure(65536 + 700))], 80),
+    ([FIRST._replace(pressure=Pressure(760)), PLAIN._replace(dam=Dam(1, 2), take=Take(3), pressure=Pressure(800))], 78),
 ]
 
 # Chains of so many reaches are written and read again.
@@ -150,23 +164,27 @@ def dam_value(dam):
     return "Dam::Absent" if dam is None else f"Dam::Aerating {{ share: {dam.share}, generating: {dam.generating} }}"
 
 
-def take_value(take):
-    return "Amount::Without" if take is None else f"Amount::Given({take.take})"
+def amount_value(amount):
+    """Of an optional record of one number."""
+    return "Amount::Without" if amount is None else f"Amount::Given({amount[0]})"
 
 
 def card_function(head, card, *given):
     """A function that yields a card, with some of its fields given as parameters of the same name."""
-    fields = reference.reach_values(card)._asdict() | {"dam": dam_value(card.dam), "take": take_value(card.take)}
+    fields = reference.reach_values(card)._asdict() | {"dam": dam_value(card.dam), "take": amount_value(card.take), "pressure": amount_value(card.pressure)}
     return [f"fn {head} -> Card {{", "Card { " + ", ".join(name if name in given else f"{name}: {value}" for name, value in fields.items()) + " }", "}", ""]
 
 
 def card_statements(name, card):
     """The statements that make a card: the largest, or a plain one with some fields changed."""
     if card in (MOST, MOST_TAKEN):
-        return [f"let {name} = most({take_value(card.take)});"]
+        return [f"let {name} = most({amount_value(card.take)});"]
     changes = [f"{name}.{field} = {number};" for field, number in reference.reach_values(card)._asdict().items()
                if field != "outlet" and number != getattr(PLAIN, field)]
-    return [f"let {'mut ' if changes else ''}{name} = plain({card.outlet}, {dam_value(card.dam)}, {take_value(card.take)});"] + changes
+    made, records = "plain", [dam_value(card.dam), amount_value(card.take)]
+    if card.pressure:
+        made, records = "plain_with", records + [amount_value(card.pressure)]
+    return [f"let {'mut ' if changes else ''}{name} = {made}({card.outlet}, {', '.join(records)});"] + changes
 
 
 def writing(cards, room):
@@ -190,9 +208,11 @@ def source():
     bodies |= functions("counts", [f"many({count});" for count in COUNTS] + ["longest();"], each=7)
     lines = ["// Vectors of the test program, made by tests/file_vectors.py from the reference program.",
              "use crate::shown::{longest, many, show, wrote, wrote_two};", "use river::card::{Amount, Card, Dam};", "",
-             "// The plain card with this outlet, dam and take."]
-    lines += card_function("plain(outlet: u8, dam: Dam, take: Amount)", PLAIN, "outlet", "dam", "take")
-    lines += ["// The card with the largest number in every field, and this take."] + card_function("most(take: Amount)", MOST, "take")
+             "// The plain card with this outlet, dam, take and pressure."]
+    lines += card_function("plain_with(outlet: u8, dam: Dam, take: Amount, pressure: Amount)", PLAIN, "outlet", "dam", "take", "pressure")
+    lines += ["// The plain card with this outlet, dam and take.", "fn plain(outlet: u8, dam: Dam, take: Amount) -> Card {",
+              "plain_with(outlet, dam, take, Amount::Without)", "}", ""]
+    lines += ["// The card with the largest numbers in its reach and its dam, and this take."] + card_function("most(take: Amount)", MOST, "take")
     for name, body in bodies.items():
         lines += [f"fn {name}() {{"] + body + ["}", ""]
     lines += ["// Every vector, in the order of the stored output.", "pub fn all() {"] + [f"{name}();" for name in bodies] + ["}", ""]

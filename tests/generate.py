@@ -1,14 +1,15 @@
 """Generated river files of every kind: accepted ones of many shapes and sizes, and refused ones for every rule.
 
 `files(seed, total)` gives them one by one, accepted and refused in turn. The kinds of each sort come round in a shuffled order, so that
-some 320 files hold every kind. Nothing of the program under test goes into them, and reference.py says which answer is due.
+`every_kind()` files hold all of them. Nothing of the program under test goes into them, and reference.py says which answer is due.
 """
 
 import os
 import random
 
 import reference
-from reference import AFTER_REACH, DAM, HEADER, LONGEST, REACH, TAKE, Card, Dam, Reach, Refused, River, Take
+from reference import (AFTER_REACH, DAM, HEADER, LONGEST, PRESSURE, REACH, STANDARD_PRESSURE, TAKE,
+                       Card, Dam, Pressure, Reach, Refused, River, Take)
 
 MOST_FLOW = 100_000_000
 MOST_RATE = 20_000
@@ -16,6 +17,7 @@ MOST_VOLUME = 1_000_000_000
 MOST_BOD = 1_000_000
 MOST_OXYGEN = 20_000
 MOST_LOAD = 2 ** 32 - 1
+LEAST_PRESSURE, MOST_PRESSURE = 500, 800
 
 
 def pick(rng, most):
@@ -87,6 +89,7 @@ DAMS = {
     "some": lambda rng, Qu: rng.choice((None, Dam(rng.randint(0, 1_000), rng.randint(0, Qu)))),
     "all": lambda rng, Qu: Dam(pick(rng, 1_000), rng.choice((0, Qu, rng.randint(0, Qu)))),
     "ends": lambda rng, Qu: Dam(rng.choice((0, 1, 999, 1_000)), rng.choice((0, min(1, Qu), Qu - 1, Qu))),
+    "full": lambda rng, Qu: Dam(1_000, 0),      # where nothing joins, the head has saturation
 }
 
 # The take from a mixed flow, or None.
@@ -97,13 +100,22 @@ TAKES = {
     "ends": lambda rng, Qm: Take(rng.choice((0, min(1, Qm - 1), Qm - 1))),
 }
 
+# The pressure, or None.
+PRESSURES = {
+    "none": lambda rng: None,
+    "some": lambda rng: rng.choice((None, Pressure(rng.randint(LEAST_PRESSURE, MOST_PRESSURE)))),
+    "all": lambda rng: Pressure(rng.randint(LEAST_PRESSURE, MOST_PRESSURE)),
+    "ends": lambda rng: Pressure(rng.choice((LEAST_PRESSURE, LEAST_PRESSURE + 1, STANDARD_PRESSURE - 1, STANDARD_PRESSURE, STANDARD_PRESSURE + 1, MOST_PRESSURE))),
+}
+
 TEMPERATURES = {
     "any": lambda rng: rng.randint(0, 35),
     "ends": lambda rng: rng.choice((0, 35)),
     "warm": lambda rng: rng.randint(25, 35),
 }
 
-TABLES = {"shape": SHAPES, "flow": FLOWS, "rates": RATES, "volume": VOLUMES, "water": WATERS, "dams": DAMS, "takes": TAKES, "temperature": TEMPERATURES}
+TABLES = {"shape": SHAPES, "flow": FLOWS, "rates": RATES, "volume": VOLUMES, "water": WATERS, "dams": DAMS, "takes": TAKES, "pressures": PRESSURES,
+          "temperature": TEMPERATURES}
 
 # What a style fixes; the rest is drawn once for a river. "each" draws anew for each reach.
 STYLES = {
@@ -124,6 +136,15 @@ STYLES = {
     "takes of sources": {"takes": "all", "flow": "sources", "volume": "long"},
     "takes and dams at ends": {"takes": "ends", "dams": "ends", "flow": "tiny"},
     "foul takes": {"takes": "some", "water": "foul", "volume": "long"},
+    "pressures": {"pressures": "all", "volume": "half"},
+    "pressure ends": {"pressures": "ends", "rates": "no decay", "volume": "long"},
+    "pressures at dams": {"pressures": "all", "dams": "all", "takes": "none", "shape": "chain"},
+    "pressures at full dams": {"pressures": "all", "dams": "full", "flow": "sources", "shape": "brooks"},
+    "pressure ends at full dams": {"pressures": "ends", "dams": "full", "flow": "sources", "shape": "chain"},
+    "pressures at rich dams": {"pressures": "ends", "dams": "ends", "shape": "near", "water": "rich"},
+    "pressures and takes at dams": {"pressures": "all", "takes": "all", "dams": "all", "shape": "near"},
+    "some pressures": {"pressures": "some", "dams": "some", "takes": "some", "shape": "near"},
+    "no added records": {"dams": "none", "takes": "none", "pressures": "none"},
     "tiny": {"flow": "tiny", "volume": "small"},
     "tiny long": {"flow": "tiny", "volume": "long"},
     "huge": {"flow": "huge", "volume": "long"},
@@ -175,7 +196,7 @@ def lawful_card(rng, fixed, outlet, feeders, room):
     load = (1_000_000 * so_far.Qm - so_far.Mm) // 1_000 * hundredths // 100
     volume = way("volume")(rng, min(MOST_VOLUME, 345_600 * so_far.Q // max(k1, k2, 1)))
     dam = way("dams")(rng, so_far.Qu) if feeders else None
-    return so_far.card._replace(load=min(load, MOST_LOAD), volume=volume, dam=dam)
+    return so_far.card._replace(load=min(load, MOST_LOAD), volume=volume, dam=dam, pressure=way("pressures")(rng))
 
 
 # ---- Rivers on a limit and just past it
@@ -316,9 +337,9 @@ def any_reach(rng, n):
 
 
 def most_reaches(rng):
-    """The longest file that is accepted: 128 reaches, each with a take and each but the first with a dam."""
+    """The longest file that is accepted: 128 reaches, each with a take and a pressure and each but the first with a dam."""
     river = accepted_river(rng, "chain", 128)
-    cards = [card if card.take else card._replace(take=Take(0)) for card in river.cards]
+    cards = [card._replace(take=card.take or Take(0), pressure=card.pressure or Pressure(STANDARD_PRESSURE)) for card in river.cards]
     return River(cards[:1] + [card._replace(dam=Dam(rng.randint(0, 1_000), 0)) for card in cards[1:]])
 
 
@@ -330,34 +351,42 @@ def longest_file(rng):
 
 # ---- Files that reading refuses
 
+KINDS = (HEADER, REACH) + AFTER_REACH
+
+
 def base_river(rng):
-    """An accepted river with a dam and a take on its last reach, and each on some other, so that each kind of record is met inside and at the end."""
-    river = replaced(accepted_river(rng, "dams", rng.randint(3, 8)), 2, take=Take(0))
-    return replaced(river, len(river.cards), dam=Dam(rng.randint(0, 1_000), 0), take=Take(0))
+    """An accepted river with every kind of record on its last reach, and each on some other, so that each is met inside and at the end."""
+    river = replaced(accepted_river(rng, "dams", rng.randint(3, 8)), 2, take=Take(0), pressure=Pressure(STANDARD_PRESSURE))
+    return replaced(river, len(river.cards), dam=Dam(rng.randint(0, 1_000), 0), take=Take(0), pressure=Pressure(LEAST_PRESSURE))
 
 
 def starts(river):
-    """Where the records of a river's file begin: lists of offsets by kind."""
-    result, at = {kind.name: [] for kind in (HEADER, REACH) + AFTER_REACH}, HEADER.size
-    result[HEADER.name].append(0)
-    for card in river.cards:
+    """Where the records of a river's file begin: offsets by kind and by reach, 0 for the header."""
+    result, at = {kind.name: {} for kind in KINDS}, HEADER.size
+    result[HEADER.name][0] = 0
+    for reach, card in enumerate(river.cards, 1):
         for kind in [REACH] + [kind for kind, _ in reference.added_records(card)]:
-            result[kind.name].append(at)
+            result[kind.name][reach] = at
             at += kind.size
     return result
+
+
+def any_start(rng, river, kind):
+    """Where some record of a kind begins."""
+    return rng.choice(list(starts(river)[kind.name].values()))
 
 
 def cut(kind, offset):
     """The file ends inside a record."""
     def damage(rng, river):
-        return reference.encode(river)[:rng.choice(starts(river)[kind.name]) + offset]
+        return reference.encode(river)[:any_start(rng, river, kind) + offset]
     return damage
 
 
 def mark(kind, letters):
     """A record has another mark."""
     def damage(rng, river):
-        at = rng.choice(starts(river)[kind.name])
+        at = any_start(rng, river, kind)
         file = reference.encode(river)
         return file[:at] + letters + file[at + 2:]
     return damage
@@ -396,17 +425,20 @@ def inserted(where, record):
     kind, behind = where
 
     def damage(rng, river):
-        at = rng.choice(starts(river)[kind.name]) + behind * kind.size
+        at = any_start(rng, river, kind) + behind * kind.size
         file = reference.encode(river)
         return file[:at] + record + file[at:]
     return damage
 
 
-def exchanged(rng, river):
-    """Dam and take in the wrong order, after some reach that has both."""
-    file, both = reference.encode(river), DAM.size + TAKE.size
-    at = rng.choice([at for at in starts(river)[DAM.name] if file[at + DAM.size:].startswith(TAKE.mark)])
-    return file[:at] + file[at + DAM.size:at + both] + file[at:at + DAM.size] + file[at + both:]
+def moved_up(second, first):
+    """A record before one that is due earlier, after some reach that has both."""
+    def damage(rng, river):
+        i = rng.choice([i for i in starts(river)[first.name] if i in starts(river)[second.name]])
+        without = replaced(river, i, **{second.name: None})
+        at, file = starts(without)[first.name][i], reference.encode(without)
+        return file[:at] + second.encode(getattr(river.cards[i - 1], second.name)) + file[at:]
+    return damage
 
 
 def two_faults(*changes):
@@ -429,9 +461,6 @@ def flipped(rng, river):
 def noise(rng, river):
     """Bytes that are no file, with or without a lawful header."""
     return rng.choice((b"", HEADER.encode([rng.randint(1, 128)]))) + rng.randbytes(rng.randint(0, 5_000))
-
-
-KINDS = (HEADER, REACH) + AFTER_REACH
 
 
 def cut_and_marked():
@@ -471,6 +500,7 @@ OUTLETS_AND_ENDS = {
     "trailing mark": trailing(lambda rng, file: rng.choice(KINDS).mark),
     "trailing dam": trailing(lambda rng, file: DAM.encode(Dam(0, 0))),
     "trailing take": trailing(lambda rng, file: TAKE.encode(Take(0))),
+    "trailing pressure": trailing(lambda rng, file: PRESSURE.encode(Pressure(STANDARD_PRESSURE))),
     "trailing file": trailing(lambda rng, file: file),
     "trailing to one too many": trailing(lambda rng, file: bytes(LONGEST + 1 - len(file))),
     "trailing long": trailing(lambda rng, file: rng.randbytes(LONGEST + rng.randint(0, 9_000))),
@@ -485,11 +515,20 @@ TWO_FAULTS = {
     "outlet and take": two_faults((lambda n: n, {"outlet": 1, "take": Take(100_000_001)})),
     "take, then outlet": two_faults((lambda n: 1, {"take": Take(100_000_001)}), (lambda n: 2, {"outlet": 0})),
     "dam, then take": two_faults((lambda n: n - 1, {"dam": Dam(1_001, 0)}), (lambda n: n, {"take": Take(100_000_001)})),
+    "outlet and pressure": two_faults((lambda n: n, {"outlet": 1, "pressure": Pressure(MOST_PRESSURE + 1)})),
+    "pressure, then outlet": two_faults((lambda n: 1, {"pressure": Pressure(LEAST_PRESSURE - 1)}), (lambda n: 2, {"outlet": 0})),
+    "take, then pressure": two_faults((lambda n: n - 1, {"take": Take(100_000_001)}), (lambda n: n, {"pressure": Pressure(0)})),
+    "no flow, then pressure": two_faults((lambda n: 1, {"inflow": 0}), (lambda n: n, {"pressure": Pressure(MOST_PRESSURE + 1)})),
     "no flow, then field": two_faults((lambda n: 1, {"inflow": 0}), (lambda n: n, {"volume": 1_000_000_001})),
 }
 
 NOT_DUE = {
-    "take before dam": exchanged,
+    "take before dam": moved_up(TAKE, DAM),
+    "pressure before take": moved_up(PRESSURE, TAKE),
+    "pressure before dam": moved_up(PRESSURE, DAM),
+    "pressure twice": inserted((PRESSURE, True), PRESSURE.encode(Pressure(LEAST_PRESSURE))),
+    "take after pressure": inserted((PRESSURE, True), TAKE.encode(Take(1))),
+    "pressure before reach": inserted((HEADER, True), PRESSURE.encode(Pressure(MOST_PRESSURE))),
     "take twice": inserted((TAKE, True), TAKE.encode(Take(1))),
     "dam twice": inserted((DAM, True), DAM.encode(Dam(1, 1))),
     "dam after take": inserted((TAKE, True), DAM.encode(Dam(1, 1))),
@@ -532,6 +571,11 @@ def refused_kinds():
     kinds |= {f"check 10 {name}": lambda rng, first=first: reference.encode(bod_below_take(first, 1)(rng)) for name, first in BELOW_A_TAKE.items()}
     kinds |= {"longest file": longest_file, "longest file and a byte": lambda rng: longest_file(rng) + b"\0"}
     return kinds
+
+
+def every_kind():
+    """The number of files that hold every kind."""
+    return 2 * max(len(accepted_kinds()), len(refused_kinds()))
 
 
 def files(seed, total):

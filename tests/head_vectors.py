@@ -9,14 +9,15 @@ import sys
 
 import reference
 import vectors
-from reference import Card, Dam, Refused, River, Take
+from reference import Card, Dam, Pressure, Refused, River, Take
 
 CRATE = "crates/head_vectors"
 OFFSET = 2 ** 31        # the program holds oxygen as units + 2^31
 
 
-def card(outlet, temperature=20, k1=0, k2=0, volume=1000, inflow=3000, bod=2000, oxygen=8000, load=0, dam=None, take=None):
-    return Card(outlet, temperature, k1, k2, volume, inflow, bod, oxygen, load, Dam(*dam) if dam else None, None if take is None else Take(take))
+def card(outlet, temperature=20, k1=0, k2=0, volume=1000, inflow=3000, bod=2000, oxygen=8000, load=0, dam=None, take=None, pressure=None):
+    return Card(outlet, temperature, k1, k2, volume, inflow, bod, oxygen, load, Dam(*dam) if dam else None, None if take is None else Take(take),
+                Pressure(pressure) if pressure else None)
 
 
 def two(dam=None, above=None, **more):
@@ -47,6 +48,12 @@ def dams():
     return cards
 
 
+def saturations(*places):
+    """A source, and below it a reach at each temperature and pressure, whose dam fills the whole deficit: its head has saturation."""
+    return [card(2)] + [card(reach + 1 if reach <= len(places) else 0, temperature, inflow=0, dam=(1000, 0), pressure=pressure)
+                        for reach, (temperature, pressure) in enumerate(places, 2)]
+
+
 def made(star):
     """The rivers of src/made.rt."""
     return [card(0 if i == 127 else 128 if star else i + 2, i % 36, 100, 200, 50, 0x0B00 + i, 2000, 8000, 5) for i in range(128)]
@@ -59,6 +66,10 @@ GROUPS = {
     "takes": [
         (two(above=1000), LEVEL, 0), (two(take=1000), LEVEL, 0), (two((500, 1000), above=1999, take=0), LEVEL, 0),
         ([card(2, inflow=1, bod=999999), card(3, inflow=2, bod=1000000, take=2), card(0, inflow=5, bod=1000000)], LEVEL, 0),
+    ],
+    "pressures": [
+        (two((500, 1000), pressure=700), LEVEL, 0),
+        (saturations((0, 700), (20, 700), (25, 700), (35, 700), (20, 500), (20, 760), (20, 800)), LEVEL, 12345),
     ],
     "confluences": [(confluence(), LEVEL, 12345), (confluence(), HIGH, 1), (confluence(), LOW, 1234567)],
     "confluences_taken": [(confluence(333, 1), LOW, 1234567)],

@@ -23,6 +23,7 @@ from fractions import Fraction
 INSTANTS = 1_024
 SERIES = (40, 41)       # the sums S(x) of all longer series lie between those of these two
 UNITS_A_STEP = 100      # the allowance for each step of depth, in units
+STANDARD_PRESSURE = 760     # mm of mercury, that of a reach without the record
 
 
 # ---- The river file: the table of records
@@ -78,13 +79,15 @@ DAM = Kind("DM", "dam",
            ("generating", 4, 0, 100_000_000, "flow through turbines, not aerated, litres a second"))
 TAKE = Kind("WD", "take",
             ("take", 4, 0, 100_000_000, "water drawn off at the head, after mixing, litres a second"))
-AFTER_REACH = (DAM, TAKE)       # the records that may follow a reach, in this order, at most one of a kind
+PRESSURE = Kind("BP", "pressure",
+                ("pressure", 2, 500, 800, "air pressure as it is at the reach, not reduced to sea level, for its saturation, mm of mercury; 760 without it"))
+AFTER_REACH = (DAM, TAKE, PRESSURE)     # the records that may follow a reach, in this order, at most one of a kind
 
 LONGEST = HEADER.size + 128 * (REACH.size + sum(kind.size for kind in AFTER_REACH))
 
 # A card has the numbers of its reach, and for each kind of record after it the values or None.
 Card = namedtuple("Card", [field.name for field in REACH.fields] + [kind.name for kind in AFTER_REACH], defaults=[None] * len(AFTER_REACH))
-Dam, Take = DAM.values, TAKE.values
+Dam, Take, Pressure = DAM.values, TAKE.values, PRESSURE.values
 River = namedtuple("River", "cards")
 
 
@@ -228,7 +231,7 @@ class Reach:
         self.Q = self.Qm - self.take
         self.depth = 1 + max((feeder.depth for feeder in feeders), default=0)
         self.allowance = UNITS_A_STEP * self.depth
-        self.saturation = saturation(card.temperature)
+        self.saturation = saturation(card.temperature, STANDARD_PRESSURE if card.pressure is None else card.pressure.pressure)
 
     @property
     def M(self):
@@ -272,9 +275,10 @@ def accept(file):
 
 # ---- Head of a reach
 
-def saturation(T):
-    """Saturation at T degrees, in units, not rounded."""
-    return 1_000_000 * (Fraction("14.652") - Fraction("0.41022") * T + Fraction("0.007991") * T ** 2 - Fraction("0.000077774") * T ** 3)
+def saturation(T, pressure=STANDARD_PRESSURE):
+    """Saturation at T degrees and so many mm of mercury, in units, not rounded."""
+    milligrams = Fraction("14.652") - Fraction("0.41022") * T + Fraction("0.007991") * T ** 2 - Fraction("0.000077774") * T ** 3
+    return 1_000_000 * milligrams * Fraction(pressure, STANDARD_PRESSURE)
 
 
 def exactly(figure):

@@ -13,7 +13,7 @@ from fractions import Fraction
 
 import generate
 import reference
-from reference import BITS, INSTANTS, SERIES, Card, Dam, Point, Reach, Record, Refused, River, Take
+from reference import BITS, INSTANTS, SERIES, STANDARD_PRESSURE, Card, Dam, Point, Pressure, Reach, Record, Refused, River, Take
 from testing import expect, run_tests
 
 WORKED = [Card(2, 20, 0, 0, 1_000, 3_000, 2_000, 8_000, 0), Card(0, 20, 0, 0, 1_000, 1_000, 30_000, 2_000, 0)]
@@ -122,6 +122,61 @@ def takes():
     expect("M cut to the limit", (feeder.M, cut.Qm, cut.Mm, cut.Q, cut.M), (999_999, 3, 2_999_999, 1, 1_000_000))
     expect("no take and a take of 0", worked(None, None) != worked(0, None) != worked(0, 0), True)
     return "takes"
+
+
+def saturations():
+    """The bench values of the paper on saturation under a pressure."""
+    def rounded(*places):
+        return [math.floor(reference.saturation(*place)) for place in places]
+
+    expect("saturation at 700 mm", rounded((0, 700), (20, 700), (25, 700), (35, 700)), [13_495_263, 8_309_560, 7_530_209, 6_215_921])
+    expect("rounded before the pressure it would be one unit less", rounded((35,))[0] * 700 // STANDARD_PRESSURE, 6_215_920)
+    expect("saturation at 20 degrees", rounded((20, 500), (20, 760), (20, 800)), [5_935_400, 9_021_808, 9_496_640])
+    for T in range(36):
+        thousandths = 14_652_000_000 - 410_220_000 * T + 7_991_000 * T ** 2 - 77_774 * T ** 3
+        for pressure in (500, 633, 800):
+            expect(f"{T} degrees at {pressure} mm", *rounded((T, pressure)), thousandths * pressure // 760_000)
+    return "saturation under a pressure"
+
+
+def pressures():
+    """The bench values of the paper that have a pressure."""
+    def worked(first, second, **fields):
+        cards = [card._replace(pressure=None if pressure is None else Pressure(pressure)) for card, pressure in zip(WORKED, (first, second))]
+        return River([cards[0], cards[1]._replace(**fields)])
+
+    dam, sums = Dam(500, 1_000), (3_000 * 2_000_000, 3_000 * 8_000_000)
+    for pressure, below, head in ((700, 8_103_186, 6_577_389), (500, 7_311_800, 5_983_850), (760, 8_340_602, 6_755_451), (800, 8_498_880, 6_874_160)):
+        reach = reference.flows(worked(None, pressure, dam=dam))[1]
+        expect(f"below the dam at {pressure} mm", reference.upstream(reach, *sums, math.floor)[1], below)
+        expect(f"at the head at {pressure} mm", reference.head(reach, *sums, math.floor)[1], head)
+    reach = reference.flows(worked(700, None, dam=dam))[1]
+    expect("the pressure of the reach above plays no part", reference.upstream(reach, *sums, math.floor)[1], 8_340_602)
+    expect("no dam, rates of 0", is_right(reference.encode(worked(500, 800)), WORKED_LINES), True)
+
+    equal = Card(0, 0, 1_000, 1_000, 864_000, 10_000, 10_000, 14_652, 0, pressure=Pressure(700))
+    foot = reference.recurrence(reference.flows(River([equal])), 40)[1][1]
+    expect("the foot at equal rates and 700 mm", [figure // foot.over for figure in foot.figures], [3_678_794, 10_242_008])
+    printed = text(right_report(reference.flows(River([equal._replace(pressure=None)]))))
+    expect("a report by the standard pressure is found", is_right(reference.encode(River([equal])), printed), False)
+    standard = River([equal._replace(pressure=Pressure(STANDARD_PRESSURE))])
+    expect("a pressure of 760 gives the same figures", is_right(reference.encode(standard), printed), True)
+    return "pressures"
+
+
+def pressure_records():
+    """Files with a pressure: where it may stand, and its range."""
+    plain, record = reference.encode(River(WORKED)), reference.PRESSURE.encode
+    dam, take, pressure = reference.DAM.encode(Dam(500, 1_000)), reference.TAKE.encode(Take(1)), record([700])
+    expect("a pressure of 760 is in the file", reference.encode(River([WORKED[0], WORKED[1]._replace(pressure=Pressure(STANDARD_PRESSURE))])), plain + b"BP\2\370")
+    for what, file, due in (
+            ("500 mm", plain + record([500]), "accepted"), ("800 mm", plain + record([800]), "accepted"), ("499 mm", plain + record([499]), "refused 4 reach 2"),
+            ("801 mm at reach 1", plain[:30] + record([801]) + plain[30:], "refused 4 reach 1"), ("a cut pressure", plain + pressure[:3], "refused 1 reach 2"),
+            ("two pressures", plain + 2 * pressure, "refused 6 reach 0"), ("two at reach 1", plain[:30] + 2 * pressure + plain[30:], "refused 2 reach 2"),
+            ("a pressure before a take", plain + pressure + take, "refused 6 reach 0"), ("a pressure before a dam", plain + pressure + dam, "refused 6 reach 0"),
+            ("dam, take and pressure", plain + dam + take + pressure, "accepted"), ("dam, pressure and take", plain + dam + pressure + take, "refused 6 reach 0")):
+        expect(what, answer_line(file), due)
+    return "records of a pressure"
 
 
 # ---- Bounds
@@ -266,9 +321,9 @@ def same_at_both_speeds():
 # ---- Generated files
 
 def every_kind():
-    """320 generated files hold every kind, every refusal of reading and of the flow check, and many accepted rivers."""
+    """As many generated files as it takes hold every kind, every refusal of reading and of the flow check, and many accepted rivers."""
     answers, names = [], set()
-    for name, file in generate.files(1, 320):
+    for name, file in generate.files(1, generate.every_kind()):
         names.add(name.split("-", 1)[1])
         answers.append(answer_line(file))
     expect("kinds", len(names), len(generate.accepted_kinds()) + len(generate.refused_kinds()))
@@ -278,7 +333,7 @@ def every_kind():
     return f"{len(names)} kinds of generated files"
 
 
-TESTS = (paper_agrees, bench_values, takes, exact_values, bounds_hold, exact_limits, verdicts, same_at_both_speeds, every_kind)
+TESTS = (paper_agrees, bench_values, takes, saturations, pressures, pressure_records, exact_values, bounds_hold, exact_limits, verdicts, same_at_both_speeds, every_kind)
 
 
 if __name__ == "__main__":

@@ -77,6 +77,22 @@ def takes():
     return "texts with takes"
 
 
+def pressures():
+    """Texts with an air pressure."""
+    all_three = make(NINE + " dam 5 6 take 7 pressure 634")
+    expect("dam, take and pressure", (all_three[0], all_three[1][-18:], all_three[2]), (0, b"DM\0\5\0\0\0\6WD\0\0\0\7BP\2\x7a", ""))
+    expect("pressure, take and dam", make(NINE + " pressure 634 take 7 dam 5 6"), all_three)
+    expect("a pressure of 760", make(NINE + " pressure 760"), (0, make(NINE)[1] + b"BP\2\370", ""))
+    shown = river("show", "-", given=all_three[1])[1].decode()
+    expect("a text with a pressure", ("[pressure N]" in shown, "  take 7  pressure 634  # 1\n" in shown), (True, True))
+    for text, parts in (
+            (NINE + " pressure", ("line 1", "0 numbers where pressure has 1")),
+            (NINE + " pressure 700 take 5 pressure 700", ("line 1", "'pressure' stands twice")),
+            (NINE + " pressure 65_536", ("line 1", "pressure", "0 to 65535"))):
+        one_line(f"'{text[:60]}'", make(text), 1, *parts)
+    return "texts with pressures"
+
+
 def texts():
     """Texts that are taken, and texts that are not."""
     plain = make(NINE)[1]
@@ -97,7 +113,7 @@ def texts():
             (NINE + " 1", ("line 1", "10 numbers")),
             (NINE + " dam 5", ("line 1", "1 number where dam", "share generating")),
             (NINE + " dam 5 6 dam 5 6", ("line 1", "'dam' stands twice")),
-            (NINE + " weir 5 6", ("line 1", "'weir'", "dam, take")),
+            (NINE + " weir 5 6", ("line 1", "'weir'", "dam, take, pressure")),
             (NINE + " dam 5 65536000000", ("line 1", "generating", "0 to 4294967295"))):
         one_line(f"'{text[:60]}'", make(text), 1, *parts)
     for text, parts in (
@@ -106,6 +122,8 @@ def texts():
             (f"{NINE}\n{NINE}", ("line 1", "outlet", "0", "2 to 2")),
             (NINE + " dam 1001 0", ("line 1", "share", "1001", "0 to 1000")),
             (NINE + " take 100_000_001", ("line 1", "take", "100000001", "0 to 100000000")),
+            (NINE + " pressure 499", ("line 1", "pressure", "499", "500 to 800")),
+            (NINE + " pressure 801", ("line 1", "pressure", "801", "500 to 800")),
             ("", ("count", "0", "1 to 128"))):
         status, file, said = make(text)
         if status or not file or "warning" not in said or not all(part in said for part in parts):
@@ -117,12 +135,14 @@ def broken_files():
     """Files without a text."""
     file = river("make", "-", "-", given=f"2{NINE[1:]}\n{NINE} dam 5 6".encode())[1]
     taken = river("make", "-", "-", given=f"{NINE} take 5".encode())[1]
+    with_pressure = river("make", "-", "-", given=f"{NINE} pressure 700".encode())[1]
     for broken, parts in (
             (b"", ("byte 0", "4 bytes")), (file[:3], ("byte 0", "4 bytes", "are 3")), (file[:40], ("reach 2", "byte 30", "26 bytes", "are 10", "counts 2")),
             (file[:-1], ("reach 2", "byte 56", "8 bytes", "are 7")), (file + b"\n", ("byte 64", "1 byte too many")), (b"XV" + file[2:], ("byte 0", "XV", "RV")),
             (file[:30] + b"RX" + file[32:], ("reach 2", "byte 30", "RX", "RE")), (file[:3] + b"\1" + file[4:], ("byte 30", "34 bytes", "counts 1")),
             (file[:2] + b"\xff\xff" + file[4:], ("reach 3", "byte 64", "counts 65535")), (taken[:-1], ("reach 1", "byte 30", "WD", "6 bytes", "are 5")),
-            (taken + taken[30:], ("byte 36", "6 bytes too many")), (taken + file[56:], ("byte 36", "8 bytes too many"))):
+            (taken + taken[30:], ("byte 36", "6 bytes too many")), (taken + file[56:], ("byte 36", "8 bytes too many")),
+            (with_pressure[:-1], ("reach 1", "byte 30", "BP", "4 bytes", "are 3")), (with_pressure + taken[30:], ("byte 34", "6 bytes too many"))):
         one_line(f"{broken[:40]}", river("show", "-", given=broken), 1, *parts)
     return "broken files"
 
@@ -164,7 +184,7 @@ def wrong_uses():
     return "wrong uses"
 
 
-TESTS = (examples_come_back, generated_come_back, texts, takes, broken_files, wrong_uses)
+TESTS = (examples_come_back, generated_come_back, texts, takes, pressures, broken_files, wrong_uses)
 
 
 if __name__ == "__main__":

@@ -132,16 +132,20 @@ def pictures():
             root = xml.etree.ElementTree.fromstring(contents(out))
             expect(f"{what}: title", (root.tag, root[0].text), ("{http://www.w3.org/2000/svg}svg", name))
             os.remove(out)
-            return "".join(root.itertext())
+            return root
 
         for path in ACCEPTED:
             drawn(path, path, name=path)
             drawn(f"{path} with a limit", path, "--limit", "8.4", name=path)
         drawn("a pipe", "/dev/stdin", given=contents(TOWN), name="/dev/stdin")
         odd = stored(os.path.join(folder, "a<b>&\"c\".river"), contents(TOWN))
-        text = drawn("an odd name", odd, "--limit", "7.0", name=odd)
+        text = "".join(drawn("an odd name", odd, "--limit", "7.0", name=odd).itertext())
         expect("reaches below the limit are named", "2 of 5 below 7.0 mg/L: 4, 5" in text, True)
-    return f"{2 * len(ACCEPTED) + 2} pictures"
+        for name, levels in (("two-dam", 1), ("two-pressure", 2)):
+            path = os.path.join(EXAMPLES, f"{name}.river")
+            root = drawn(f"{name} once more", path, name=path)
+            expect(f"levels of saturation in {name}", sum(element.get("stroke-dasharray") == "5 3" for element in root.iter()), levels)
+    return f"{2 * len(ACCEPTED) + 4} pictures"
 
 
 TESTS = (wrong_uses, refusals, reports, tables, pictures)

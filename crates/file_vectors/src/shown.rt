@@ -48,12 +48,13 @@ fn dam(d: Dam) {
     }
 }
 
-fn take(t: Amount) {
-    match t {
+// An optional record of one number: its name and the number.
+fn amount(name: &[u8], a: Amount) {
+    match a {
         Amount::Without => {}
-        Amount::Given(litres) => {
-            io::write_all(1, b" take ");
-            io::print_decimal(1, litres as u64);
+        Amount::Given(n) => {
+            io::write_all(1, name);
+            io::print_decimal(1, n as u64);
         }
     }
 }
@@ -77,7 +78,9 @@ fn card(c: Card) {
     let d = c.dam;
     dam(d);
     let t = c.take;
-    take(t);
+    amount(b" take ", t);
+    let p = c.pressure;
+    amount(b" pressure ", p);
     end();
 }
 

@@ -43,6 +43,7 @@ fn card(i: usize, star: bool) -> Card
         load: 5,
         dam: Dam::Absent,
         take: Amount::Without,
+        pressure: Amount::Without,
     }
 }
 

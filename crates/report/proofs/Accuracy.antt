@@ -64,10 +64,10 @@ near-join {bx = bx} {ox = ox} {a = a} {sx = sx} {tx = tx} {e = e} Q p ec eu m n 
     }
 
 -- the deficit at a head
-deficit-small : (cs c k : Fraction) → Nonneg cs → cs ≼ ofℕ 14_652_000 → ofℕ 0 ≼ c +ᶠ ofℕ 1_000_000_384 → c ≼ k → k ≼ ofℕ 20_000_128 → Small (cs -ᶠ c) (ofℕ 1_020_000_000)
+deficit-small : (cs c k : Fraction) → Nonneg cs → cs ≼ ofℕ 15_423_157 → ofℕ 0 ≼ c +ᶠ ofℕ 1_000_000_384 → c ≼ k → k ≼ ofℕ 20_000_128 → Small (cs -ᶠ c) (ofℕ 1_020_000_000)
 deficit-small cs c k p h low high hk =
     record {
-      high = certify (cs ∷ c ∷ []) (slack h ⊞ low ⊞ number 5_347_616) (search quote depth 40 fits 9999) tt;
+      high = certify (cs ∷ c ∷ []) (slack h ⊞ low ⊞ number 4_576_459) (search quote depth 40 fits 9999) tt;
       low = certify (cs ∷ c ∷ k ∷ []) (p ⊞ slack high ⊞ slack hk ⊞ number 999_999_872) (search quote depth 40 fits 9999) tt;
     }
 
@@ -157,7 +157,7 @@ module _ (N : ℕ) (long : 40 ≤ N) {units : ℕ} (covers : Covers units) where
         turned-floored = product-floored (f .turned) L;
         kept-floored = kept-floored f Cs C;
         head-bod = number L;
-        head-deficit = deficit-small (ofℕ Cs) (ofℤ C) (ofℕ (20000000 + deepest up)) (number Cs) (ofℕ-mono (saturation-of-small card (own .fields .temperature))) (range .oxygen-low) (range .oxygen-high) (ofℕ-mono (omega arith));
+        head-deficit = deficit-small (ofℕ Cs) (ofℤ C) (ofℕ (20000000 + deepest up)) (number Cs) (ofℕ-mono (saturation-of-small card (own .saturation))) (range .oxygen-low) (range .oxygen-high) (ofℕ-mono (omega arith));
         saturation-near = rounded-saturation card;
       }
       in

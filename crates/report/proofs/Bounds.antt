@@ -132,7 +132,7 @@ mixed-in-bounds {card} {up} own above b =
     (≼-refl (ofℕ k))
     (number (mixedFlow card up))
     (head-bounded (ofℕ Qu) (ofℕ (Qu + i)) (ofℕ i) (ofℕ (bodSum up)) (ofℤ (oxygenSum up)) (ofℕ u) (ofℤ v) (ofℤ (belowDam card (fed up) Qu v)) (ofℕ (bodAtHead card up)) (ofℤ (oxygenAtHead card up)) (ofℕ W₁) (ofℕ W₂) (ofℕ W₃) (ofℕ (saturationOf card)) (damPart (fed up) (card .dam) Qu) (ofℕ (1000 * massOf up)) (ofℕ (3 * deepest up * Qu)) (ofℕ k)
-    (number Qu) (number (3 * deepest up * Qu)) (number (saturationOf card)) (saturation-below card (deepest up) (own .fields .temperature)) (number W₃)
+    (number Qu) (number (3 * deepest up * Qu)) (number (saturationOf card)) (saturation-below card (deepest up) (own .saturation)) (number W₃)
     (≼-by (≈-refl (ofℕ W₃)) (ofℕ-mono (oxygen-in i (card .«inflow_oxygen») (deepest up) (own .fields .inflow-oxygen))) (ofℕ-* i k))
     (ofℕ-+ Qu i) (bod-mean above) (oxygen-mean above) (below-dam card above (own .dam) v) (demand-mixed (bodSource card) Qu u (own .flows .flowing)) (oxygen-mixed card Qu (belowDam card (fed up) Qu v) (own .flows .flowing)) b)
   where
@@ -187,7 +187,7 @@ instant-in-bounds {card} {up} own b m =
     bounded-by (≼-refl (ofℕ (1000 * reachMass card up))) (≼-refl (ofℕ deep)) (≼-by (≈-sym (ofℕ-+ k 1)) (ofℕ-mono (one-more-unit (deepest up))) (≈-refl (ofℕ (20000000 + reachDepth up)))) (number Q)
     (bounded-at (*ᶠ-cong (≈-refl (ofℕ Q)) (≈-sym (oxygen-parts f Cs L C)))
     (instant-bounded (ofℕ Q) (ofℕ L) (ofℤ C) (ofℕ Cs) (share (f .left)) (share (f .turned)) (share (f .kept)) (ofℕ (product (f .left) L)) (ofℕ (product (f .turned) L)) (ofℤ (keptDeficit f Cs C)) (ofℕ (1000 * reachMass card up)) (ofℕ deep) (ofℕ k)
-    (number Q) (number L) (number deep) (number Cs) (saturation-below card (deepest up) (own .fields .temperature)) (shares-in-range f (factors-range own m)) (number (product (f .turned) L)) (product-floored (f .left) L) (product-floored (f .turned) L) (kept-floored f Cs C) b))
+    (number Q) (number L) (number deep) (number Cs) (saturation-below card (deepest up) (own .saturation)) (shares-in-range f (factors-range own m)) (number (product (f .turned) L)) (product-floored (f .left) L) (product-floored (f .turned) L) (kept-floored f Cs C) b))
   where
     one-more-unit : (d : ℕ) → 20000000 + d + 1 ≤ 20000000 + (1 + d)
     one-more-unit d = omega arith

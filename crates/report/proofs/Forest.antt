@@ -8,7 +8,9 @@ use lib.Dec.{eqb}
 use Rattle.decay.specs.Step.{RatesPass}
 use Rattle.river.specs.declared.card.Card.{Card}
 use Rattle.river.specs.Card.{FieldsInRange, LawfulDam, Lawful, blank}
+use Rattle.river.specs.Saturation.{SaturationInRange}
 use Rattle.river.proofs.range.Ranges.{lawful-at}
+use Rattle.river.proofs.head.Bounds.{conditions-in-range}
 use Rattle.river.proofs.flow.Table.{deepest-few}
 use Rattle.river.proofs.flow.Take.{flow-remains, flow-within}
 use Rattle.river.specs.Flow.{Feeders, none, more, joinedIf, feedersAmong, reachFlow, reachDepth, ReachPasses, Flows}
@@ -16,6 +18,7 @@ use Rattle.river.specs.Flow.{Feeders, none, more, joinedIf, feedersAmong, reach
 -- an accepted reach: its fields lie in range, and it passes the flow check
 pub record AcceptedReach (card : Card) (up : Feeders) : Type 0 where
   pub fields : FieldsInRange card
+  pub saturation : SaturationInRange card
   pub dam : LawfulDam (card .dam)
   pub flows : ReachPasses card up
 
@@ -50,6 +53,7 @@ module _ (cards : List Card) (lawful : Lawful cards) (flows : Flows cards) where
       let own = lawful-at lawful n l in
       record {
         fields = own .in-range;
+        saturation = conditions-in-range own;
         dam = own .dam;
         flows = flows .each n l;
       }

@@ -36,6 +36,7 @@ reach outlet inflow =
       load = 0;
       dam = Absent;
       take = Without;
+      pressure = Without;
     }
 
 -- that reach, and below it as long a one with no inflow of its own

@@ -23,6 +23,7 @@ withOutlet o card =
       load = card .load;
       dam = card .dam;
       take = card .take;
+      pressure = card .pressure;
     }
 
 -- two cards are the same but for their outlets

@@ -9,12 +9,12 @@ use Rattle.river.specs.declared.card.Dam.the-variants.{Absent, Aerating}
 use Rattle.river.specs.declared.card.Card.{Card}
 use Rattle.river.specs.declared.source.Source.{Source}
 use Rattle.river.specs.Flow.{Feeders, none, more, fed, flowOf, reachFlow}
-use Rattle.river.specs.Saturation.{saturationThousandths}
+use Rattle.river.specs.Saturation.{saturationThousandths, standardPressure, pressureOf}
 use Rattle.river.specs.Source.{bodSource}
 
--- saturation of a reach, unrounded
+-- saturation of a reach, at its own temperature and pressure, unrounded
 unfoldable pub exactSaturation : Card → Fraction
-exactSaturation card = ofℕ (saturationThousandths (card .temperature)) ÷ ofℕ 1_000
+exactSaturation card = ofℕ (saturationThousandths (card .temperature) * pressureOf card) ÷ ofℕ (1_000 * standardPressure)
 
 -- 1. upstream BOD or oxygen: the flow-weighted mean of the feeders' exact foot values, 0 without feeders
 unfoldable pub exactMean : (fed : Bool) (Qu : ℕ) (sum : Fraction) → Fraction

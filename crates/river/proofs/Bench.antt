@@ -8,17 +8,20 @@ use Rattle.river.specs.declared.card.Dam.the-variants.{Absent, Aerating}
 use Rattle.river.specs.declared.card.Amount.{Amount}
 use Rattle.river.specs.declared.card.Amount.the-variants.{Without, Given}
 use Rattle.river.specs.declared.card.Card.{Card}
-use Rattle.river.specs.Refusal.{accepted, refused, refuse, need, after}
-use Rattle.river.specs.Card.{longestFile}
-use Rattle.river.specs.Read.{readFile, readHeader}
+use Rattle.river.specs.Refusal.{accepted, refused, refuse, need, choose, after}
+use Rattle.river.specs.Card.{longestFile, countOk, inRange, outletOk, damInRange, amountInRange}
+use Rattle.river.specs.Optional.{readOptional, readOptionals}
+use Rattle.river.specs.Read.{readFile, readHeader, readReaches, readReach, cardAt}
+use Rattle.river.specs.Write.{encode}
 use Rattle.river.specs.Flow.{fed, above, flowOf, massOf, deepest, feedersAmong, joinedIf, flowAt, massAt, depthAt, damFits, flowCheck, checksFrom, reachChecks}
 use Rattle.river.specs.Saturation.{saturation, saturationThousandths, saturationOf}
 use Rattle.river.specs.Head.{floor, upstreamDemand, upstreamOxygen, aerated, belowDam, headDemand, headBod, headOxygen}
 use Rattle.river.specs.Accept.{acceptFile}
+use Rattle.river.proofs.head.SaturationRows.{Rows as SaturationRows, rows as saturation-rows}
 
 -- a reach at 20 degrees
-abbrev pub reach : (outlet k1 volume inflow bod oxygen load : ℕ) → Dam → Amount → Card
-reach outlet k1 volume inflow bod oxygen load dam take =
+abbrev pub reach : (outlet k1 volume inflow bod oxygen load : ℕ) → Dam → (take pressure : Amount) → Card
+reach outlet k1 volume inflow bod oxygen load dam take pressure =
     record {
       outlet = outlet;
       temperature = 20;
@@ -31,38 +34,39 @@ reach outlet k1 volume inflow bod oxygen load dam take =
       load = load;
       dam = dam;
       take = take;
+      pressure = pressure;
     }
 
 -- the two reaches of the printing program's example, with a dam on reach 2 or without, and with takes or without
 abbrev pub first : Amount → Card
-first take = reach 2 0 1000 3000 2000 8000 0 Absent take
+first take = reach 2 0 1000 3000 2000 8000 0 Absent take Without
 
-abbrev pub second : Dam → Amount → Card
-second dam take = reach 0 0 1000 1000 30000 2000 0 dam take
+abbrev pub second : Dam → (take pressure : Amount) → Card
+second dam take pressure = reach 0 0 1000 1000 30000 2000 0 dam take pressure
 
 abbrev pub two : Dam → List Card
-two dam = first Without ∷ second dam Without ∷ []
+two dam = first Without ∷ second dam Without Without ∷ []
 
 abbrev pub drawn : (take-1 take-2 : Amount) → List Card
-drawn take-1 take-2 = first take-1 ∷ second Absent take-2 ∷ []
+drawn take-1 take-2 = first take-1 ∷ second Absent take-2 Without ∷ []
 
 abbrev weir : Dam
 weir = Aerating 500 1000
 
+-- reach 2 below a dam and at a pressure
+abbrev pub hilly : (pressure : Amount) → List Card
+hilly pressure = first Without ∷ second weir Without pressure ∷ []
+
 -- one reach by its k1, volume, inflow and take
 abbrev one : (k1 volume inflow : ℕ) → Amount → List Card
-one k1 volume inflow take = reach 0 k1 volume inflow 0 0 0 Absent take ∷ []
+one k1 volume inflow take = reach 0 k1 volume inflow 0 0 0 Absent take Without ∷ []
 
 -- one reach with Qm 3 and Mm 2,999,999
 abbrev full : Amount → List Card
-full take = reach 0 0 0 3 999_333 0 2 Absent take ∷ []
+full take = reach 0 0 0 3 999_333 0 2 Absent take Without ∷ []
 
 pub record Rows : Type 0 where
-  pub saturation-0 : saturation 0 ≡ 14652000
-  pub saturation-10 : saturation 10 ≡ 11271126
-  pub saturation-20 : saturation 20 ≡ 9021808
-  pub saturation-25 : saturation 25 ≡ 8175656
-  pub saturation-35 : saturation 35 ≡ 6748714
+  pub saturation-rows : SaturationRows
   pub accepted-two : flowCheck (two Absent) ≡ accepted (two Absent)
   pub depth-1 : depthAt (two Absent) 1 ≡ 1
   pub flow-1 : flowAt (two Absent) 1 ≡ 3000
@@ -70,11 +74,11 @@ pub record Rows : Type 0 where
   pub oxygen-1 : headOxygen (first Without) (fed (above (two Absent) 1)) (flowOf (above (two Absent) 1)) (pos 0) ≡ pos 8000000
   pub depth-2 : depthAt (two Absent) 2 ≡ 2
   pub flow-2 : flowAt (two Absent) 2 ≡ 4000
-  pub bod-2 : headBod (second Absent Without) (fed (above (two Absent) 2)) (flowOf (above (two Absent) 2)) (3000 * 2000000) ≡ 9000000
-  pub oxygen-2 : headOxygen (second Absent Without) (fed (above (two Absent) 2)) (flowOf (above (two Absent) 2)) (pos (3000 * 8000000)) ≡ pos 6500000
+  pub bod-2 : headBod (second Absent Without Without) (fed (above (two Absent) 2)) (flowOf (above (two Absent) 2)) (3000 * 2000000) ≡ 9000000
+  pub oxygen-2 : headOxygen (second Absent Without Without) (fed (above (two Absent) 2)) (flowOf (above (two Absent) 2)) (pos (3000 * 8000000)) ≡ pos 6500000
   pub accepted-dam : flowCheck (two weir) ≡ accepted (two weir)
-  pub below-dam : belowDam (second weir Without) (fed (above (two weir) 2)) (flowOf (above (two weir) 2)) (pos 8000000) ≡ pos 8340602
-  pub oxygen-dam : headOxygen (second weir Without) (fed (above (two weir) 2)) (flowOf (above (two weir) 2)) (pos (3000 * 8000000)) ≡ pos 6755451
+  pub below-dam : belowDam (second weir Without Without) (fed (above (two weir) 2)) (flowOf (above (two weir) 2)) (pos 8000000) ≡ pos 8340602
+  pub oxygen-dam : headOxygen (second weir Without Without) (fed (above (two weir) 2)) (flowOf (above (two weir) 2)) (pos (3000 * 8000000)) ≡ pos 6755451
   pub volume-passes : flowCheck (one 1000 3456000 10000 Without) ≡ accepted (one 1000 3456000 10000 Without)
   pub volume-refused : flowCheck (one 1000 3456001 10000 Without) ≡ refused (refuse 11 1)
   pub inflow-zero : flowCheck (one 0 0 0 Without) ≡ refused (refuse 7 1)
@@ -94,19 +98,28 @@ pub record Rows : Type 0 where
   -- M without a take, and cut after one
   pub mass-full : massAt (full Without) 1 ≡ 2_999_999
   pub mass-cut : massAt (full (Given 2)) 1 ≡ 1_000_000
+  -- saturation of a card: 760 mm without a record, and with one of 760
+  pub standard : saturationOf (second Absent Without Without) ≡ 9021808
+  pub written-out : saturationOf (second Absent Without (Given 760)) ≡ 9021808
+  pub own-pressure : saturationOf (second Absent Without (Given 700)) ≡ 8309560
+  -- the dam of reach 2 at 700 mm
+  pub accepted-hilly : flowCheck (hilly (Given 700)) ≡ accepted (hilly (Given 700))
+  pub below-dam-700 : belowDam (second weir Without (Given 700)) (fed (above (hilly (Given 700)) 2)) (flowOf (above (hilly (Given 700)) 2)) (pos 8000000) ≡ pos 8103186
+  pub oxygen-dam-700 : headOxygen (second weir Without (Given 700)) (fed (above (hilly (Given 700)) 2)) (flowOf (above (hilly (Given 700)) 2)) (pos (3000 * 8000000)) ≡ pos 6577389
+  -- a pressure at either end of its range, and one past it
+  pub lowest-read : readFile (encode (hilly (Given 500))) ≡ accepted (hilly (Given 500))
+  pub highest-read : readFile (encode (hilly (Given 800))) ≡ accepted (hilly (Given 800))
+  pub too-low : readFile (encode (hilly (Given 499))) ≡ refused (refuse 4 2)
+  pub too-high : readFile (encode (hilly (Given 801))) ≡ refused (refuse 4 2)
   -- the longest file
-  pub longest : longestFile ≡ 5_124
+  pub longest : longestFile ≡ 5_636
 
 -- THEOREM: the bench values of the paper for flows and heads, and the empty file, a row each
 pub bench : Rows
-unfolding saturation saturationThousandths saturationOf flowCheck checksFrom reachChecks need damFits fed flowOf massOf deepest feedersAmong joinedIf headDemand headOxygen upstreamDemand upstreamOxygen belowDam aerated floor acceptFile readFile readHeader after
+unfolding saturation saturationThousandths saturationOf flowCheck checksFrom reachChecks need damFits fed flowOf massOf deepest feedersAmong joinedIf headDemand headOxygen upstreamDemand upstreamOxygen belowDam aerated floor acceptFile readFile readHeader readReaches readReach readOptionals readOptional cardAt countOk inRange outletOk damInRange amountInRange choose after encode
 bench =
     record {
-      saturation-0 = refl;
-      saturation-10 = refl;
-      saturation-20 = refl;
-      saturation-25 = refl;
-      saturation-35 = refl;
+      saturation-rows = saturation-rows;
       accepted-two = refl;
       depth-1 = refl;
       flow-1 = refl;
@@ -133,5 +146,15 @@ bench =
       rate-after-take = refl;
       mass-full = refl;
       mass-cut = refl;
+      standard = refl;
+      written-out = refl;
+      own-pressure = refl;
+      accepted-hilly = refl;
+      below-dam-700 = refl;
+      oxygen-dam-700 = refl;
+      lowest-read = refl;
+      highest-read = refl;
+      too-low = refl;
+      too-high = refl;
       longest = refl;
     }

@@ -153,6 +153,10 @@ dam-or-none c d p q e = let z : _≡_ {A = ℕ} 0 1 = cc (ap (λ (x : Card). x .
 pub take-or-none : {n : ℕ} (c d : Card) → c .take ≡ Without → d .take ≡ Given n → c ≡ d → ⊥
 take-or-none c d p q e = let z : _≡_ {A = ℕ} 0 1 = cc (ap (λ (x : Card). x .take) e) in omega arith
 
+-- THEOREM: a pressure likewise, 760 too
+pub pressure-or-none : {n : ℕ} (c d : Card) → c .pressure ≡ Without → d .pressure ≡ Given n → c ≡ d → ⊥
+pressure-or-none c d p q e = let z : _≡_ {A = ℕ} 0 1 = cc (ap (λ (x : Card). x .pressure) e) in omega arith
+
 -- each card's records are at most as long as the longest card's
 cards-length : (cs : List Card) → length (encodeCards cs) ≤ longestCard * length cs
 cards-length [] = omega arith

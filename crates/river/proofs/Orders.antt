@@ -10,16 +10,16 @@ use Rattle.river.specs.declared.card.Card.{Card}
 use Rattle.river.specs.declared.card.Dam.{Dam}
 use Rattle.river.specs.declared.card.Dam.the-variants.{Absent, Aerating}
 use Rattle.river.specs.Refusal.{accepted, refused, refuse, need, choose, after}
-use Rattle.river.specs.Card.{countOk, inRange, outletOk, encodeDam, damInRange, takeLayout, encodeAmount, amountInRange}
+use Rattle.river.specs.Card.{countOk, inRange, outletOk, encodeDam, damInRange, takeLayout, pressureLayout, encodeAmount, amountInRange}
 use Rattle.river.specs.Optional.{readOptional, readOptionals, optionalsInRange}
 use Rattle.river.specs.Read.{readHeader, readReach, readReaches, readFile, cardAt}
 use Rattle.river.specs.Write.{encode, encodeCard, encodeHeader, checkCard, checkFrom, writeAnswer}
 use Rattle.river.specs.Rewrite.{rewriteAnswer}
 use Rattle.river.specs.Flow.{fed, flowOf, massOf, feedersAmong, joinedIf, damFits, flowCheck, checksFrom, reachChecks}
 
--- a reach by the fields that break a rule
-abbrev reach : (outlet temperature volume inflow load : ℕ) → Dam → Amount → Card
-reach outlet temperature volume inflow load dam amount =
+-- a reach by the fields that break a rule, and one without a pressure
+abbrev reach-at : (pressure : Amount) (outlet temperature volume inflow load : ℕ) → Dam → (amount : Amount) → Card
+reach-at pressure outlet temperature volume inflow load dam amount =
     record {
       outlet = outlet;
       temperature = temperature;
@@ -32,7 +32,11 @@ reach outlet temperature volume inflow load dam amount =
       load = load;
       dam = dam;
       take = amount;
+      pressure = pressure;
     }
+
+abbrev reach : (outlet temperature volume inflow load : ℕ) → Dam → (amount : Amount) → Card
+reach = reach-at Without
 
 -- a dam in range, and one out of range
 abbrev weir : Dam
@@ -41,9 +45,12 @@ weir = Aerating 500 0
 abbrev weir-out : Dam
 weir-out = Aerating 1_001 0
 
--- a take out of range
+-- a take and a pressure out of range
 abbrev take-out : Amount
 take-out = Given 100_000_001
+
+abbrev pressure-out : Amount
+pressure-out = Given 499
 
 -- the file of one reach, whatever its fields
 abbrev file : Card → List ℕ
@@ -69,16 +76,26 @@ pub record Reading : Type 0 where
   pub next-after-dam : readFile (encodeHeader 2 ++ encodeCard (reach 2 20 0 1 0 Absent (Given 0)) ++ encodeDam weir ++ encodeCard (reach 0 20 0 1 0 Absent Without)) ≡ refused (refuse 2 2)
   -- nor is a second take
   pub take-twice : readFile (file (reach 0 20 0 1 0 Absent (Given 0)) ++ encodeAmount takeLayout (Given 0)) ≡ refused (refuse 6 0)
+  -- then its pressure: 1, 4
+  pub outlet-and-pressure : readFile (file (reach-at pressure-out 9 20 0 1 0 Absent Without)) ≡ refused (refuse 5 1)
+  pub take-and-cut-pressure : readFile (take 39 (file (reach-at pressure-out 0 20 0 1 0 Absent take-out))) ≡ refused (refuse 4 1)
+  pub cut-pressure : readFile (take 33 (file (reach-at pressure-out 0 20 0 1 0 Absent Without))) ≡ refused (refuse 1 1)
+  -- a take behind a pressure is no record that is due, nor is a second pressure
+  pub pressure-then-take : readFile (file (reach-at (Given 760) 0 20 0 1 0 Absent Without) ++ encodeAmount takeLayout (Given 0)) ≡ refused (refuse 6 0)
+  pub pressure-twice : readFile (file (reach-at (Given 760) 0 20 0 1 0 Absent Without) ++ encodeAmount pressureLayout (Given 760)) ≡ refused (refuse 6 0)
   -- 6 comes last
   pub dam-and-more : readFile (file (reach 0 20 0 1 0 weir-out Without) ++ (0 ∷ [])) ≡ refused (refuse 4 1)
   pub take-and-more : readFile (file (reach 0 20 0 1 0 weir take-out) ++ (0 ∷ [])) ≡ refused (refuse 4 1)
+  pub pressure-and-more : readFile (file (reach-at pressure-out 0 20 0 1 0 weir Without) ++ (0 ∷ [])) ≡ refused (refuse 4 1)
 
 pub record Writing : Type 0 where
-  -- 3, then 4 and 5 of a reach, then the 4 of its dam and its take, then 12
+  -- 3, then 4 and 5 of a reach, then the 4 of its dam, its take and its pressure, then 12
   pub count-and-range : writeAnswer 0 (reach 9 36 0 1 0 Absent Without ∷ []) 0 ≡ refused (refuse 3 0)
   pub range-and-outlet : writeAnswer 1 (reach 9 36 0 1 0 Absent Without ∷ []) 0 ≡ refused (refuse 4 1)
   pub outlet-and-dam : writeAnswer 1 (reach 9 20 0 1 0 weir-out Without ∷ []) 0 ≡ refused (refuse 5 1)
   pub outlet-and-take : writeAnswer 1 (reach 9 20 0 1 0 Absent take-out ∷ []) 0 ≡ refused (refuse 5 1)
+  pub outlet-and-pressure : writeAnswer 1 (reach-at pressure-out 9 20 0 1 0 Absent Without ∷ []) 0 ≡ refused (refuse 5 1)
+  pub pressure-and-room : writeAnswer 1 (reach-at pressure-out 0 20 0 1 0 weir (Given 0) ∷ []) 0 ≡ refused (refuse 4 1)
   pub take-and-room : writeAnswer 1 (reach 0 20 0 1 0 weir take-out ∷ []) 0 ≡ refused (refuse 4 1)
   pub dam-and-room : writeAnswer 1 (reach 0 20 0 1 0 weir-out Without ∷ []) 0 ≡ refused (refuse 4 1)
   -- rewriting: a rule of reading, then 12
@@ -116,8 +133,14 @@ reading-order =
       take-then-dam = refl;
       next-after-dam = refl;
       take-twice = refl;
+      outlet-and-pressure = refl;
+      take-and-cut-pressure = refl;
+      cut-pressure = refl;
+      pressure-then-take = refl;
+      pressure-twice = refl;
       dam-and-more = refl;
       take-and-more = refl;
+      pressure-and-more = refl;
     }
 
 -- THEOREM: the same for writing and rewriting
@@ -129,6 +152,8 @@ writing-order =
       range-and-outlet = refl;
       outlet-and-dam = refl;
       outlet-and-take = refl;
+      outlet-and-pressure = refl;
+      pressure-and-room = refl;
       take-and-room = refl;
       dam-and-room = refl;
       cut-and-room = refl;

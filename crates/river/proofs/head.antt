@@ -1,4 +1,5 @@
 -- Laws of the head of a reach.
+pub mod SaturationRows
 pub mod Bounds
 pub mod Offset
 pub mod Stored

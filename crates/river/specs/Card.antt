@@ -40,6 +40,7 @@ blank =
       load = 0;
       dam = Absent;
       take = Without;
+      pressure = Without;
     }
 
 -- the ranges of an `RE` record's fields
@@ -66,6 +67,10 @@ LawfulDam (Aerating s g) = DamInRange s g
 abbrev pub takeLayout : Layout
 takeLayout = record { first = code "W"; second = code "D"; wide = true; least = 0; most = 100_000_000 }
 
+-- the `BP` record: mark; pressure (2; 500 to 800)
+abbrev pub pressureLayout : Layout
+pressureLayout = record { first = code "B"; second = code "P"; wide = false; least = 500; most = 800 }
+
 -- an amount is none, or a number in the range of its layout
 abbrev pub LawfulAmount : Layout → Amount → Type 0
 LawfulAmount l Without = Unit
@@ -82,6 +87,7 @@ pub record LawfulCard (n i : ℕ) (c : Card) : Type 0 where
   pub outlet : outletOk n i (c .outlet) ≡ true
   pub dam : LawfulDam (c .dam)
   pub take : LawfulAmount takeLayout (c .take)
+  pub pressure : LawfulAmount pressureLayout (c .pressure)
 
 -- lawful cards of the reaches from i on, of n
 abbrev pub LawfulFrom : ℕ → ℕ → List Card → Type 0
@@ -186,17 +192,20 @@ amountRecord l =
       inRange = amountInRange l;
     }
 
--- the `WD` record among them
+-- the `WD` and `BP` records among them
 abbrev pub takeRecord : Kind
 takeRecord = amountRecord takeLayout
 
+abbrev pub pressureRecord : Kind
+pressureRecord = amountRecord pressureLayout
+
 -- the records that may follow an `RE` record, in file order
 abbrev pub optional : List Kind
-optional = damRecord ∷ takeRecord ∷ []
+optional = damRecord ∷ takeRecord ∷ pressureRecord ∷ []
 
 -- what a card holds of them
 abbrev pub optionalOf : Card → Values optional
-optionalOf c = (c .dam, (c .take, tt))
+optionalOf c = (c .dam, (c .take, (c .pressure, tt)))
 
 -- the length of a card's records, and that of the longest card's
 abbrev pub sizeOf : Card → ℕ

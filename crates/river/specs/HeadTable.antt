@@ -13,6 +13,7 @@ use Rattle.river.specs.declared.flow.FlowTable.{FlowTable}
 use Rattle.river.specs.declared.head.FootTable.{FootTable}
 use Rattle.river.specs.declared.head.Head.{Head}
 use Rattle.river.specs.Card.{FieldsInRange, Lawful}
+use Rattle.river.specs.Saturation.{SaturationInRange}
 use Rattle.river.specs.Source.{sourceMass}
 use Rattle.river.specs.Flow.{flowLimit, massLimit, Flows, cardOf, above, fed, flowOf, flowAt, massAt}
 use Rattle.river.specs.Head.{headBod, headOxygen}
@@ -39,6 +40,7 @@ pub record HeadFlows (inflow : ℕ) (fed : Bool) (Qu : ℕ) : Type 0 where
 -- what it ensures of the reach's card too
 pub record HeadReady (card : Card) (fed : Bool) (Qu : ℕ) : Type 0 where
   pub fields : FieldsInRange card
+  pub saturation : SaturationInRange card
   pub dam : DamWithin (card .dam) Qu
   pub flows : HeadFlows (card .inflow) fed Qu
 

@@ -3,7 +3,7 @@ ghost use mathlib.Core.Path.{_≡_};
 ghost use lib.ListN.{length};
 ghost use Rattle.river.specs.Card.{blank, encodeDam, layoutSize, encodeAmount, amountOr, sizeOf, longestFile};
 
-// The lengths of the records `RV`, `RE`, `DM` and `WD`.
+// The lengths of the records `RV`, `RE`, `DM`, `WD` and `BP`.
 pub const HEADER_BYTES: usize = 4;
 
 pub const REACH_BYTES: usize = 26;
@@ -11,6 +11,8 @@ pub const REACH_BYTES: usize = 26;
 pub const DAM_BYTES: usize = 8;
 
 const TAKE_BYTES: usize = WIDE_BYTES;
+
+const PRESSURE_BYTES: usize = NARROW_BYTES;
 
 // The lengths of a record of one number: a mark and four bytes, or two.
 const WIDE_BYTES: usize = 6;
@@ -24,7 +26,7 @@ pub(crate) const FLOW_MOST: u32 = 100_000_000;
 pub const REACHES: usize = 128;
 
 // The length of the longest card's records, and of the longest file.
-pub const LONGEST_CARD: usize = REACH_BYTES + DAM_BYTES + TAKE_BYTES;
+pub const LONGEST_CARD: usize = REACH_BYTES + DAM_BYTES + TAKE_BYTES + PRESSURE_BYTES;
 
 pub const LONGEST_FILE: usize = HEADER_BYTES + REACHES * LONGEST_CARD;
 
@@ -58,19 +60,30 @@ pub(crate) const TAKE: Layout = Layout {
     most: FLOW_MOST,
 };
 
-// A reach card: the numbers of its `RE` record, in file order, its dam and its take, in litres a second.
+// The layout of a `BP` record.
+pub(crate) const PRESSURE: Layout = Layout {
+    first: b'B',
+    second: b'P',
+    wide: false,
+    least: 500,
+    most: 800,
+};
+
+// A reach card: the numbers of its `RE` record, the short ones first so that there is no padding between them, its dam, its take in litres a
+// second and its pressure in mm of mercury.
 pub struct Card {
     pub outlet: u8,
     pub temperature: u8,
     pub k1: u16,
     pub k2: u16,
+    pub inflow_oxygen: u16,
     pub volume: u32,
     pub inflow: u32,
     pub inflow_bod: u32,
-    pub inflow_oxygen: u16,
     pub load: u32,
     pub dam: Dam,
     pub take: Amount,
+    pub pressure: Amount,
 }
 
 // The cards of a river: the first `count` of them.
@@ -95,6 +108,7 @@ pub fn blank() -> Card
         load: 0,
         dam: Dam::Absent,
         take: Amount::Without,
+        pressure: Amount::Without,
     }
 }
 
@@ -155,5 +169,6 @@ pub fn size_of(c: Card) -> usize
 {
     let dam = c.dam;
     let take = c.take;
-    REACH_BYTES + dam_size(dam) + amount_size(TAKE, take)
+    let pressure = c.pressure;
+    REACH_BYTES + dam_size(dam) + amount_size(TAKE, take) + amount_size(PRESSURE, pressure)
 }

@@ -5,7 +5,7 @@ ghost use Prim.Native.Nat.{_*_, _/_, _<_, _≤_};
 ghost use lib.ListN.{set};
 ghost use lib.IntN.{pos, _+ℤ_, _-ℤ_, _*ℤ_};
 ghost use Rattle.river.specs.Saturation as Sat;
-ghost use Rattle.river.specs.Saturation.{saturationOf, TemperatureInRange, SaturationInRange};
+ghost use Rattle.river.specs.Saturation.{saturationOf, pressureOf, ConditionsInRange, SaturationInRange};
 ghost use Rattle.river.specs.Flow.{flowLimit};
 ghost use Rattle.river.specs.Head.{floor, upstreamDemand, upstreamOxygen, belowDam, headDemand, headOxygen};
 ghost use Rattle.river.specs.Card.{river};
@@ -15,6 +15,7 @@ use crate::card::Card;
 use crate::card::Cards;
 use crate::card::Dam;
 use crate::card::REACHES;
+use crate::card::amount_or;
 use crate::flow::FlowTable;
 use crate::flow::feeder_sum;
 use crate::flow::take_of;
@@ -39,23 +40,38 @@ pub struct Head {
     pub oxygen: u32,
 }
 
-// Saturation in units at a temperature in degrees C.
-fn saturation(temperature: u8) -> u32
-    requires { ⌜ TemperatureInRange temperature ⌝ }
-    ensures { λ r. ⌜ r ≡ Sat.saturation temperature ⌝ }
+// The standard pressure in mm of mercury.
+const STANDARD_PRESSURE: u32 = 760;
+
+// Thousandths of a unit × mm of mercury in a unit: 1,000 × the standard pressure.
+const SATURATION_DIVISOR: u64 = 1_000 * (STANDARD_PRESSURE as u64);
+
+// Saturation in units at a temperature in degrees C and a pressure in mm of mercury, rounded once.
+fn saturation(temperature: u8, pressure: u32) -> u32
+    requires { ⌜ ConditionsInRange temperature pressure ⌝ }
+    ensures { λ r. ⌜ r ≡ Sat.saturation temperature pressure ⌝ }
 {
     let t = temperature as u64;
     let square = t * t;
-    ((14_652_000_000 + 7_991_000 * square - (410_220_000 * t + 77_774 * (square * t)))
-        / 1_000) as u32
+    let thousandths = 14_652_000_000 + 7_991_000 * square
+        - (410_220_000 * t + 77_774 * (square * t));
+    (thousandths * (pressure as u64) / SATURATION_DIVISOR) as u32
 }
 
-// Saturation of a reach in units. The report has the card of an accepted river, whose temperature is in range.
+// Pressure of a reach in mm of mercury.
+fn pressure_of(card: Card) -> u32
+    ensures { λ r. ⌜ r ≡ pressureOf card ⌝ }
+{
+    let pressure = card.pressure;
+    amount_or(STANDARD_PRESSURE, pressure)
+}
+
+// Saturation of a reach in units. The report has the card of an accepted river, whose temperature and pressure are in range.
 pub fn saturation_of(card: Card) -> u32
     requires { ⌜ SaturationInRange card ⌝ }
     ensures { λ r. ⌜ r ≡ saturationOf card ⌝ }
 {
-    saturation(card.temperature)
+    saturation(card.temperature, pressure_of(card))
 }
 
 // A long division goes on by 16 bits.

@@ -13,6 +13,7 @@ use crate::card::Amount;
 use crate::card::Card;
 use crate::card::Dam;
 use crate::card::Layout;
+use crate::card::PRESSURE;
 use crate::card::TAKE;
 
 // How many numbers two bytes hold.
@@ -102,8 +103,10 @@ fn put_optionals(out: &mut [u8], at: usize, c: Card) -> usize
 {
     let dam = c.dam;
     let take = c.take;
+    let pressure = c.pressure;
     let next = put_dam(out, at, dam);
-    put_amount(out, next, TAKE, take)
+    let next = put_amount(out, next, TAKE, take);
+    put_amount(out, next, PRESSURE, pressure)
 }
 
 // The records of a card.

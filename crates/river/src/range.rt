@@ -7,6 +7,7 @@ use crate::card::Card;
 use crate::card::Dam;
 use crate::card::FLOW_MOST;
 use crate::card::Layout;
+use crate::card::PRESSURE;
 use crate::card::REACHES;
 use crate::card::TAKE;
 
@@ -83,7 +84,11 @@ pub fn optionals_in_range(c: Card) -> bool
         return false;
     }
     let take = c.take;
-    amount_in_range(TAKE, take)
+    if !amount_in_range(TAKE, take) {
+        return false;
+    }
+    let pressure = c.pressure;
+    amount_in_range(PRESSURE, pressure)
 }
 
 // Whether reach i of n may have an outlet.

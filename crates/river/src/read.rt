@@ -17,8 +17,10 @@ use crate::card::DAM_BYTES;
 use crate::card::Dam;
 use crate::card::HEADER_BYTES;
 use crate::card::Layout;
+use crate::card::PRESSURE;
 use crate::card::REACH_BYTES;
 use crate::card::TAKE;
+use crate::card::amount_size;
 use crate::card::dam_size;
 use crate::card::layout_size;
 use crate::card::size_of;
@@ -74,9 +76,9 @@ pub fn read_header(file: &[u8]) -> Header
     }
 }
 
-// The card in an `RE` record, with a dam and a take.
-pub fn card_at(s: &[u8], dam: Dam, take: Amount) -> Card
-    ensures { λ r. ⌜ r ≡ cardAt (now (s .entry)) (dam, (take, tt)) ⌝ }
+// The card in an `RE` record, with a dam, a take and a pressure.
+pub fn card_at(s: &[u8], dam: Dam, take: Amount, pressure: Amount) -> Card
+    ensures { λ r. ⌜ r ≡ cardAt (now (s .entry)) (dam, (take, (pressure, tt))) ⌝ }
 {
     Card {
         outlet: byte_at(s, 2),
@@ -90,6 +92,7 @@ pub fn card_at(s: &[u8], dam: Dam, take: Amount) -> Card
         load: four_at(s, 22),
         dam,
         take,
+        pressure,
     }
 }
 
@@ -156,7 +159,12 @@ fn read_card(s: &[u8], at: usize, reach: u8) -> Reach
     let AmountRead::Found(take) = found else {
         return Reach::Refused(amount_refusal(found));
     };
-    let card = card_at(s, dam, take);
+    let rest = behind(rest, amount_size(TAKE, take));
+    let found = read_amount(rest, reach, PRESSURE);
+    let AmountRead::Found(pressure) = found else {
+        return Reach::Refused(amount_refusal(found));
+    };
+    let card = card_at(s, dam, take, pressure);
     let next = at + size_of(card);
     Reach::Read { card, next }
 }
@@ -172,7 +180,7 @@ fn read_here(s: &[u8], at: usize, count: u8, reach: u8) -> Reach
     if !marked(s, b'R', b'E') {
         return Reach::Refused(refuse(2, reach));
     }
-    let card = card_at(s, Dam::Absent, Amount::Without);
+    let card = card_at(s, Dam::Absent, Amount::Without, Amount::Without);
     if !in_range(card) {
         return Reach::Refused(refuse(4, reach));
     }

@@ -1,11 +1,11 @@
--- Texts of the river file paper, computed from the definitions: both lines of the printing program's example, also with takes, and its refusal;
+-- Texts of the river file paper, computed from the definitions: both lines of the printing program's example, also with takes and a pressure, and its refusal;
 -- and a few numbers.
 use mathlib.Core.Path.{_≡_, refl}
 use lib.IntN.{pos, negsuc}
 use Rattle.river.specs.declared.card.Dam.the-variants.{Absent}
 use Rattle.river.specs.declared.card.Amount.the-variants.{Without, Given}
 use Rattle.river.specs.Refusal.{accepted, refused, refuse}
-use Rattle.river.proofs.Bench.{two, drawn}
+use Rattle.river.proofs.Bench.{two, drawn, hilly}
 use Rattle.report.proofs.Bench.{bench}
 use Rattle.text.specs.Text.{ascii, digitsBy, decimal, number, signed, afterWord, line, numbersOf, linesOf, refusalLine, textOf}
 
@@ -16,6 +16,8 @@ pub record Rows : Type 0 where
       textOf (accepted (drawn (Given 1000) Without)) ≡ ascii "1 1 2000 2000000 2000000 8000000 0 8000000 8000000\n2 2 3000 11333333 11333333 6000000 0 6000000 6000000\n"
   pub drawn-2 :
       textOf (accepted (drawn Without (Given 1000))) ≡ ascii "1 1 3000 2000000 2000000 8000000 0 8000000 8000000\n2 2 3000 9000000 9000000 6500000 0 6500000 6500000\n"
+  pub hilly-700 :
+      textOf (accepted (hilly (Given 700))) ≡ ascii "1 1 3000 2000000 2000000 8000000 0 8000000 8000000\n2 2 4000 9000000 9000000 6577389 0 6577389 6577389\n"
   pub refusal : textOf (refused (refuse 5 2)) ≡ ascii "refused 5 reach 2\n"
   pub zero : signed (pos 0) ≡ ascii "0"
   pub ten : signed (pos 10) ≡ ascii "10"
@@ -30,6 +32,7 @@ text-bench =
       example = rw (bench .line-1, bench .line-2);
       drawn-1 = rw (bench .drawn-1-line-1, bench .drawn-1-line-2);
       drawn-2 = rw (bench .drawn-2-line-1, bench .drawn-2-line-2);
+      hilly-700 = rw (bench .hilly-line-1, bench .hilly-line-2);
       refusal = refl;
       zero = refl;
       ten = refl;

@@ -10,7 +10,7 @@ use Rattle.river.specs.declared.card.Dam.the-variants.{Absent, Aerating}
 use Rattle.river.specs.declared.card.Card.{Card}
 use Rattle.river.specs.declared.source.Source.{Source}
 use Rattle.river.specs.Flow.{Feeders, more, fed, flowOf}
-use Rattle.river.specs.Saturation.{saturation, saturationThousandths, saturationOf}
+use Rattle.river.specs.Saturation.{saturation, saturationThousandths, pressureOf, saturationOf}
 use Rattle.report.specs.Recurrence.{exactSaturation, exactMean, exactAerated, exactBelowDam, exactMixedDemand, exactMixedOxygen, exactBodSum, exactOxygenSum}
 use Rattle.report.proofs.Forest.{AllAccepted, no-more, one-more}
 use Rattle.report.proofs.Facts.Head.{feeders-flow, damPart}
@@ -18,11 +18,11 @@ use Rattle.report.proofs.Facts.Head.{feeders-flow, damPart}
 -- rounded saturation lies less than a unit below saturation
 pub saturation-low : (card : Card) → ofℕ (saturationOf card) ≼ exactSaturation card
 unfolding saturationOf saturation exactSaturation
-saturation-low card = floor-low (saturationThousandths (card .temperature)) (lit< tt)
+saturation-low card = floor-low (saturationThousandths (card .temperature) * pressureOf card) (lit< tt)
 
 pub saturation-high : (card : Card) → exactSaturation card ≼ ofℕ (saturationOf card) +ᶠ ofℕ 1
 unfolding saturationOf saturation exactSaturation
-saturation-high card = floor-high (saturationThousandths (card .temperature)) (lit< tt)
+saturation-high card = floor-high (saturationThousandths (card .temperature) * pressureOf card) (lit< tt)
 
 -- a quotient times its divisor
 times : (total : Fraction) (d : ℕ) → 0 < d → ofℕ d *ᶠ (total ÷ ofℕ d) ≈ total

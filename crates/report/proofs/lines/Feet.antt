@@ -143,7 +143,7 @@ module _ {cards : List Card} {flows : FlowTable} {feet : FootTable} {i : ℕ} (r
   reach-passed ec ef = rw (ec, ef) (rates-pass (reach-accepted cards (ready .lawful) (ready .sound) i l))
 
   pub reach-saturation : {card : Card} → card ≡ getD cards i blank → SaturationInRange card
-  reach-saturation ec = rw ec (reach-accepted cards (ready .lawful) (ready .sound) i l .fields .temperature)
+  reach-saturation ec = rw ec (reach-accepted cards (ready .lawful) (ready .sound) i l .saturation)
 
   pub reach-flow-small : flowAt cards (suc i) ≤ 100_000_000
   reach-flow-small = flow-within (ready .sound .each i l)

@@ -2,31 +2,56 @@
 use mathlib.Core.Path.{_≡_, sym, ap, _∙_}
 use mathlib.Core.Bool.{Bool, true, false}
 use Prim.Native.Nat.{ℕ, _+_, _*_, _/_, _%_, _^_, _≤_, _<_}
-use native.Mathlib.Nat.{le-trans, mul-le-mul, mul-le-mul-left, mul-le-mul-right, mul-comm, mul-div-le, div-le-of-le-mul, div-add-mod', mul-add-div-right}
+use native.Mathlib.Nat.{le-trans, mul-le-mul, mul-le-mul-left, mul-le-mul-right, mul-comm, mul-div-le, div-le-of-le-mul, div-add-mod', mul-div-mul-right, mul-add-div-right}
 use native.Mathlib.Omega.{arith}
+use lib.Dec.{lit<}
 use Rattle.river.specs.declared.card.Dam.{Dam}
 use Rattle.river.specs.declared.card.Dam.the-variants.{Aerating}
+use Rattle.river.specs.declared.card.Amount.{Amount}
+use Rattle.river.specs.declared.card.Amount.the-variants.{Without, Given}
 use Rattle.river.specs.declared.card.Card.{Card}
 use Rattle.river.specs.declared.source.Source.{Source}
+use Rattle.river.specs.Card.{LawfulAmount, pressureLayout, amountOr, LawfulCard}
 use Rattle.river.specs.Source.{sourceMass}
 use Rattle.river.specs.Flow.{flowLimit}
-use Rattle.river.specs.Saturation.{saturation, saturationThousandths, saturationOf, SaturationInRange}
+use Rattle.river.specs.Saturation.{saturation, saturationThousandths, standardPressure, pressureOf, saturationOf, ConditionsInRange, SaturationInRange}
 use Rattle.river.specs.Head.{upstreamDemand, mixedDemand, headDemand}
 use Rattle.river.specs.HeadTable.{DamWithin, demandLimit, DemandReady}
 use Rattle.river.specs.Stored.{storedZero, storedLimit}
+use Rattle.river.proofs.head.SaturationRows
 
 -- the falling terms of the polynomial are at most the others
 pub saturation-positive : (T : ℕ) → T ≤ 35 → 410220000 * T + 77774 * (T * T * T) ≤ 14652000000 + 7991000 * (T * T)
 saturation-positive T h = omega (arith, mul-le-mul-left (T * T) h)
 
--- saturation at 0 to 35 degrees is at most 14,652,000
-pub saturation-small : (T : ℕ) → T ≤ 35 → saturation T ≤ 14652000
-unfolding saturation saturationThousandths
-saturation-small T h = omega (arith, mul-le-mul-right T h)
+-- saturation at 0 to 35 degrees and at most 800 mm is at most 15,423,157
+polynomial-small : (T : ℕ) → T ≤ 35 → saturationThousandths T ≤ 14652000000
+unfolding saturationThousandths
+polynomial-small T h = omega (arith, mul-le-mul-right T h)
 
-pub saturation-of-small : (card : Card) → SaturationInRange card → saturationOf card ≤ 14652000
+pub product-small : {T p : ℕ} → ConditionsInRange T p → saturationThousandths T * p ≤ 14652000000 * 800
+product-small {T} {p} h = mul-le-mul (polynomial-small T (h .temperature)) (h .pressure)
+
+pub saturation-small : {T p : ℕ} → ConditionsInRange T p → saturation T p ≤ 15423157
+unfolding saturation
+saturation-small h = omega (arith, product-small h)
+
+pub saturation-of-small : (card : Card) → SaturationInRange card → saturationOf card ≤ 15423157
 unfolding saturationOf
-saturation-of-small card h = saturation-small (card .temperature) h
+saturation-of-small card h = saturation-small h
+
+-- THEOREM: at 760 mm, written out or not, saturation is the polynomial rounded to a unit
+pub standard-saturation : (card : Card) → pressureOf card ≡ standardPressure → saturationOf card ≡ saturationThousandths (card .temperature) / 1000
+unfolding saturationOf saturation
+standard-saturation card e = rw e (mul-div-mul-right (saturationThousandths (card .temperature)) 1000 (lit< tt))
+
+-- a lawful card has what saturation asks
+pressure-small : (a : Amount) → LawfulAmount pressureLayout a → amountOr standardPressure a ≤ 800
+pressure-small Without h = omega arith
+pressure-small (Given p) h = h .1
+
+pub conditions-in-range : {n i : ℕ} {c : Card} → LawfulCard n i c → SaturationInRange c
+conditions-in-range {c = c} h = record { temperature = h .in-range .temperature; pressure = pressure-small (c .pressure) (h .pressure) }
 
 -- a share is at most the whole
 pub share-small : (a b d : ℕ) → b ≤ d → a * b / d ≤ a

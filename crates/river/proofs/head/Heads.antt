@@ -21,7 +21,7 @@ use Rattle.river.specs.Head.{headDemand, headBod, headOxygen}
 use Rattle.river.proofs.range.Ranges.{lawful-at}
 use Rattle.river.proofs.flow.Table.{sum-of-feeders, sum-scaled, fed-deepest}
 use Rattle.river.proofs.flow.Take.{flow-remains, flow-and-take, mixed-bounded, mass-scaled, still-within}
-use Rattle.river.proofs.head.Bounds.{head-demand-kept}
+use Rattle.river.proofs.head.Bounds.{head-demand-kept, conditions-in-range}
 use Rattle.river.proofs.flow.Checks.{first-tabled, flows-add, masses-add, flow-table, mass-table}
 use Rattle.river.specs.FlowTable.{tableSum, feederSum, Tabled}
 use Rattle.river.specs.Source.{bodSource}
@@ -97,6 +97,7 @@ module _ {cards : List Card} {flows : FlowTable} {feet : FootTable} {i : ℕ} (h
   ready =
       record {
         fields = lawful-at (h .lawful) i (h .within) .in-range;
+        saturation = conditions-in-range (lawful-at (h .lawful) i (h .within));
         dam = dam-within (cardOf cards (suc i) .dam) (above cards (suc i)) (lawful-at (h .lawful) i (h .within) .dam) (here .dam-rule);
         flows =
             record {

@@ -9,7 +9,7 @@ use native.Mathlib.Numerals.{one-add}
 use native.Mathlib.Omega.{arith}
 use lib.ListN.{length, getD}
 use borrow.Author.Tests.{le-leb, leb-true, ltb-true, eq-eqb, eqb-true, ne-eqb}
-use Rattle.river.specs.Card.{FieldsInRange, LawfulDam, LawfulAmount, LawfulCard, LawfulFrom, Lawful, blank, takeLayout, optional, optionalOf, inRange, damInRange, amountInRange, countOk, outletOk}
+use Rattle.river.specs.Card.{FieldsInRange, LawfulDam, LawfulAmount, LawfulCard, LawfulFrom, Lawful, blank, takeLayout, pressureLayout, optional, optionalOf, inRange, damInRange, amountInRange, countOk, outletOk}
 use Rattle.river.specs.Optional.{optionalsInRange}
 use Rattle.river.specs.declared.card.Amount.{Amount}
 use Rattle.river.specs.declared.card.Amount.the-variants.{Without, Given}
@@ -71,7 +71,10 @@ true-amountInRange l (Given n) e = let t = both-true e in (leb-true _ _ (t .left
 -- the tests of a card hold exactly where it is lawful
 pub lawful-optionals : {n i : ℕ} {c : Card} → LawfulCard n i c → optionalsInRange optional (optionalOf c) ≡ true
 unfolding optionalsInRange
-lawful-optionals {n} {i} {c} h = both (damInRange-true (c .dam) (h .dam)) (both (amountInRange-true takeLayout (c .take) (h .take)) refl)
+lawful-optionals {n} {i} {c} h =
+    both (damInRange-true (c .dam) (h .dam))
+    (both (amountInRange-true takeLayout (c .take) (h .take))
+    (both (amountInRange-true pressureLayout (c .pressure) (h .pressure)) refl))
 
 pub lawful-card : (n i : ℕ) (c : Card) → inRange c ≡ true → c .load < 4294967296 → outletOk n i (c .outlet) ≡ true
     → optionalsInRange optional (optionalOf c) ≡ true → LawfulCard n i c
@@ -79,12 +82,14 @@ unfolding optionalsInRange
 lawful-card n i c r l o e =
     let a = both-true e in
     let b = both-true (a .right) in
+    let d = both-true (b .right) in
     record {
       in-range = true-inRange c r;
       load = l;
       outlet = o;
       dam = true-damInRange (c .dam) (a .left);
       take = true-amountInRange takeLayout (c .take) (b .left);
+      pressure = true-amountInRange pressureLayout (c .pressure) (d .left);
     }
 
 pub countOk-true : (n : ℕ) → 1 ≤ n → n ≤ 128 → countOk n ≡ true

@@ -11,14 +11,20 @@ use Rattle.river.proofs.card.size_of.Statement.{statement}
 use Rattle.river.proofs.card.size_of.Tie as tie
 
 -- the lengths of the records, added up
-added : (c : tie.After-amount-size) → reachBytes + c .before .dam-size .result + c .amount-size .result ≡ sizeOf (c .before .before .args .c)
-added c = simp length-append (omega (arith, c .before .dam-size .ensures, c .amount-size .ensures))
+added : (c : tie.After-amount-size2) → let t = c .before in reachBytes + t .before .dam-size .result + t .amount-size .result + c .amount-size2 .result ≡ sizeOf (t .before .before .args .c)
+added c =
+    let t = c .before in
+    simp length-append (omega (arith, t .before .dam-size .ensures, t .amount-size .ensures, c .amount-size2 .ensures))
 
 add-result : tie.Need-add-result
 add-result c = omega (arith, c .dam-size .ensures, simp length-append at (size-small (c .before .args .c)))
 
 add-result-2 : tie.Need-add-result-2
-add-result-2 c = omega (arith, added c, size-small (c .before .before .args .c))
+add-result-2 c =
+    omega (arith, c .before .dam-size .ensures, c .amount-size .ensures, simp length-append at (size-small (c .before .before .args .c)))
+
+add-result-3 : tie.Need-add-result-3
+add-result-3 c = omega (arith, added c, size-small (c .before .before .before .args .c))
 
 returns : tie.Need-returns
 returns c = added c
@@ -26,4 +32,11 @@ returns c = added c
 pub size-of-spec : {M : Type 1} → statement M
 size-of-spec =
     tie.close
-    (tie.spec (λ dam-size-requires. search needs) add-result (λ amount-size-requires. search needs) add-result-2 returns)
+    (tie.spec
+    (λ dam-size-requires. search needs)
+    add-result
+    (λ amount-size-requires. search needs)
+    add-result-2
+    (λ amount-size-requires-2. search needs)
+    add-result-3
+    returns)

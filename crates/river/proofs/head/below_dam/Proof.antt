@@ -12,7 +12,7 @@ use Rattle.river.proofs.head.below_dam.Tie as tie
 add-aerate : tie.Need-add-aerate
 add-aerate c =
     let start = c .before .before .before .before in
-    omega (arith, saturation-of-small (start .args .card) (start .pre .fields .temperature))
+    omega (arith, saturation-of-small (start .args .card) (start .pre .saturation))
 
 sub-aerate : tie.Need-sub-aerate
 sub-aerate c =

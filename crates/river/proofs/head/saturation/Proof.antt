@@ -1,37 +1,41 @@
--- `river::head::saturation` meets its contract: at 0 to 35 degrees no term and no sum leaves its type.
+-- `river::head::saturation` meets its contract: at 0 to 35 degrees and at most 800 mm no term, sum or product leaves its type.
 use borrow.Author.Needs.{needs}
 use mathlib.Core.Path.{refl}
 use native.Mathlib.Nat.{mul-le-mul}
 use native.Mathlib.Omega.{arith}
 use Rattle.river.specs.Saturation.{saturation, saturationThousandths}
-use Rattle.river.proofs.head.Bounds.{saturation-positive, saturation-small}
+use Rattle.river.proofs.head.Bounds.{saturation-positive, product-small, saturation-small}
 use Rattle.river.proofs.head.saturation.Statement.{statement}
 use Rattle.river.proofs.head.saturation.Tie as tie
 
 mul-square : tie.Need-mul-square
-mul-square c = omega (arith, mul-le-mul (c .pre) (c .pre))
+mul-square c = let t = c .pre .temperature in omega (arith, mul-le-mul t t)
+
+mul-thousandths : tie.Need-mul-thousandths
+mul-thousandths c = let t = c .pre .temperature in omega (arith, mul-le-mul t t)
+
+add-thousandths : tie.Need-add-thousandths
+add-thousandths c = let t = c .pre .temperature in omega (arith, mul-le-mul t t)
+
+mul-thousandths-3 : tie.Need-mul-thousandths-3
+mul-thousandths-3 c = let t = c .pre .temperature in omega (arith, mul-le-mul (mul-le-mul t t) t)
+
+mul-thousandths-4 : tie.Need-mul-thousandths-4
+mul-thousandths-4 c = let t = c .pre .temperature in omega (arith, mul-le-mul (mul-le-mul t t) t)
+
+add-thousandths-2 : tie.Need-add-thousandths-2
+add-thousandths-2 c = let t = c .pre .temperature in omega (arith, mul-le-mul (mul-le-mul t t) t)
+
+sub-thousandths : tie.Need-sub-thousandths
+sub-thousandths c = saturation-positive (c .args .temperature) (c .pre .temperature)
 
 mul-result : tie.Need-mul-result
-mul-result c = omega (arith, mul-le-mul (c .pre) (c .pre))
-
-add-result : tie.Need-add-result
-add-result c = omega (arith, mul-le-mul (c .pre) (c .pre))
-
-mul-result-3 : tie.Need-mul-result-3
-mul-result-3 c = omega (arith, mul-le-mul (mul-le-mul (c .pre) (c .pre)) (c .pre))
-
-mul-result-4 : tie.Need-mul-result-4
-mul-result-4 c = omega (arith, mul-le-mul (mul-le-mul (c .pre) (c .pre)) (c .pre))
-
-add-result-2 : tie.Need-add-result-2
-add-result-2 c = omega (arith, mul-le-mul (mul-le-mul (c .pre) (c .pre)) (c .pre))
-
-sub-result : tie.Need-sub-result
-sub-result c = saturation-positive (c .args .temperature) (c .pre)
+unfolding saturationThousandths
+mul-result c = omega (arith, product-small (c .pre))
 
 cast-result : tie.Need-cast-result
 unfolding saturation saturationThousandths
-cast-result c = omega (arith, saturation-small (c .args .temperature) (c .pre))
+cast-result c = omega (arith, saturation-small (c .pre))
 
 returns : tie.Need-returns
 unfolding saturation saturationThousandths
@@ -42,12 +46,13 @@ saturation-spec =
     tie.close
     (tie.spec
     mul-square
+    mul-thousandths
+    add-thousandths
+    (λ mul-thousandths-2. search needs)
+    mul-thousandths-3
+    mul-thousandths-4
+    add-thousandths-2
+    sub-thousandths
     mul-result
-    add-result
-    (λ mul-result-2. search needs)
-    mul-result-3
-    mul-result-4
-    add-result-2
-    sub-result
     cast-result
     returns)

@@ -15,11 +15,19 @@ put-amount-requires c κs =
     let a = c .before .before .before in
     omega (arith, a .put-dam .ensures .place, simp length-append at (a .before .before .before .pre))
 
+put-amount-requires-2 : tie.Need-put-amount-requires-2
+put-amount-requires-2 c κs =
+    let b = c .before .before .before in
+    let a = b .before .before .before .before in
+    omega (arith, b .put-amount .ensures .place, a .put-dam .ensures .place, simp length-append at (a .before .before .before .pre))
+
 returns : tie.Need-returns
 returns c =
-    let b = c .before .before in
-    chain (b .before .before .before .before .put-dam .ensures) (chain (b .put-amount .ensures) (put-none _ _))
+    let d = c .before .before in
+    let b = d .before .before .before .before in
+    chain (b .before .before .before .before .put-dam .ensures) (chain (b .put-amount .ensures) (chain (d .put-amount2 .ensures) (put-none _ _)))
 
 pub put-optionals-spec : {M : Type 1} → statement M
 put-optionals-spec =
-    tie.close (tie.spec put-dam-requires put-amount-requires (λ same-length. search needs) returns)
+    tie.close
+    (tie.spec put-dam-requires put-amount-requires put-amount-requires-2 (λ same-length. search needs) returns)

@@ -14,10 +14,23 @@ returns c = rw (← c .before .dam-in-range .ensures, not-true (c .before .dam-i
 returns-2 : tie.Need-returns-2
 unfolding optionalsInRange
 returns-2 c =
-    let e1 = c .before in
-    rw (← e1 .before .dam-in-range .ensures, not-false (e1 .before .dam-in-range .result) (e1 .if1 .left), and-true) (c .amount-in-range .ensures)
+    let e1 = c .before .before in
+    rw (← e1 .before .dam-in-range .ensures, not-false (e1 .before .dam-in-range .result) (e1 .if1 .left), ← c .before .amount-in-range .ensures, not-true (c .before .amount-in-range .result) (c .if2 .taken))
+
+returns-3 : tie.Need-returns-3
+unfolding optionalsInRange
+returns-3 c =
+    let e2 = c .before in
+    let e1 = e2 .before .before in
+    rw (← e1 .before .dam-in-range .ensures, not-false (e1 .before .dam-in-range .result) (e1 .if1 .left), ← e2 .before .amount-in-range .ensures, not-false (e2 .before .amount-in-range .result) (e2 .if2 .left), and-true) (c .amount-in-range2 .ensures)
 
 pub optionals-in-range-spec : {M : Type 1} → statement M
 optionals-in-range-spec =
     tie.close
-    (tie.spec (λ dam-in-range-requires. search needs) returns (λ amount-in-range-requires. search needs) returns-2)
+    (tie.spec
+    (λ dam-in-range-requires. search needs)
+    returns
+    (λ amount-in-range-requires. search needs)
+    returns-2
+    (λ amount-in-range-requires-2. search needs)
+    returns-3)

@@ -7,7 +7,7 @@ use Prim.Native.Nat.{ℕ}
 use denote.Ref.{now}
 use lib.ListN.{drop}
 use native.Mathlib.Omega.{arith}
-use Rattle.river.specs.Card.{reachBytes, takeRecord, optional}
+use Rattle.river.specs.Card.{reachBytes, takeRecord, pressureRecord, optional}
 use Rattle.river.specs.Optional.{Values, readOptionals}
 use Rattle.river.specs.Read.{cardAt, reachOf}
 use Rattle.river.specs.Refusal.{Answer, accepted, after}
@@ -46,7 +46,7 @@ abbrev start-2 : tie.After-behind2 → tie.Start
 start-2 c = start (dam-found-at c .before .before .before)
 
 take-due : (c : tie.After-behind2)
-    → let a = start-2 c in Due (asked a) (takeRecord ∷ []) (a .args .reach) (now (c .behind2 .result)) (λ vs. made (now (a .args .s)) (dam-found-at c .found .given .0 .0, vs))
+    → let a = start-2 c in Due (asked a) (takeRecord ∷ pressureRecord ∷ []) (a .args .reach) (now (c .behind2 .result)) (λ vs. made (now (a .args .s)) (dam-found-at c .found .given .0 .0, vs))
 take-due c =
     let d = dam-found-at c in
     let r = d .before .before in
@@ -59,19 +59,43 @@ returns-2 c =
     card-refused (start-2 (r .before) .args .at) (c .amount-refusal .ensures)
     (refused-here (take-due (r .before)) (amount-refused _ (r .read-amount .ensures) (c .before .enum-told2 .given .1)))
 
--- behind the take, the last
-add-next : tie.Need-add-next
-add-next c =
-    let r = c .before .before .before .before .before in
-    omega (arith, start-2 (r .before) .pre, c .size-of .ensures, size-small (c .before .card-at .result))
+-- behind the take
+abbrev take-found-at : tie.After-behind3 → tie.After-found2
+take-found-at c = c .before .before .before
+
+abbrev dam-found-before : tie.After-behind3 → tie.After-found
+dam-found-before c = dam-found-at (take-found-at c .before .before .before)
+
+abbrev start-3 : tie.After-behind3 → tie.Start
+start-3 c = start-2 (take-found-at c .before .before .before)
+
+pressure-due : (c : tie.After-behind3)
+    → let a = start-3 c in Due (asked a) (pressureRecord ∷ []) (a .args .reach) (now (c .behind3 .result)) (λ vs. made (now (a .args .s)) (dam-found-before c .found .given .0 .0, (take-found-at c .found2 .given .0 .0, vs)))
+pressure-due c =
+    let d = take-found-at c in
+    let r = d .before .before in
+    found-here (take-due (r .before)) (amount-found _ (r .read-amount .ensures) (d .found2 .given .1))
+    (c .behind3 .ensures ∙ ap (λ (k : ℕ). drop k (now (r .before .behind2 .result))) (c .before .amount-size .ensures))
 
 returns-3 : tie.Need-returns-3
 returns-3 c =
+    let r = c .before .before .before in
+    card-refused (start-3 (r .before) .args .at) (c .amount-refusal2 .ensures)
+    (refused-here (pressure-due (r .before)) (amount-refused _ (r .read-amount2 .ensures) (c .before .enum-told3 .given .1)))
+
+-- behind the pressure, the last
+add-next : tie.Need-add-next
+add-next c =
+    let r = c .before .before .before .before .before in
+    omega (arith, start-3 (r .before) .pre, c .size-of .ensures, size-small (c .before .card-at .result))
+
+returns-4 : tie.Need-returns-4
+returns-4 c =
     let t = c .before .before .before in
     let r = t .before .before in
-    let at = start-2 (r .before) .args .at in
+    let at = start-3 (r .before) .args .at in
     card-made at (c .before .card-at .ensures) (c .size-of .ensures) ∙
-    sym (ap (reachOf at) (none-due (found-here (take-due (r .before)) (amount-found _ (r .read-amount .ensures) (t .found2 .given .1)) refl)))
+    sym (ap (reachOf at) (none-due (found-here (pressure-due (r .before)) (amount-found _ (r .read-amount2 .ensures) (t .found3 .given .1)) refl)))
 
 pub read-card-spec : {M : Type 1} → statement M
 read-card-spec =
@@ -90,7 +114,14 @@ read-card-spec =
     (λ enum-told-2. search needs)
     (λ amount-refusal-requires. search needs)
     returns-2
+    (λ amount-size-requires. search needs)
+    (λ behind-requires-3. search needs)
+    (λ read-amount-requires-2. search needs)
+    (λ enum-known-found-3. search needs)
+    (λ enum-told-3. search needs)
+    (λ amount-refusal-requires-2. search needs)
+    returns-3
     (λ card-at-requires. search needs)
     (λ size-of-requires. search needs)
     add-next
-    returns-3)
+    returns-4)
