@@ -103,7 +103,7 @@ RIVERS = [
     ([PLAIN._replace(outlet=1, take=Take(100000001))], 40), ([FIRST._replace(take=Take(100000001)), PLAIN._replace(outlet=9)], 70),
     ([FIRST, PLAIN._replace(dam=Dam(1, 2), take=Take(4294967295))], 70), ([FIRST._replace(take=Take(5)), MOST_TAKEN], 76),
     ([PLAIN._replace(pressure=Pressure(500))], 34), ([PLAIN._replace(pressure=Pressure(500))], 33), ([PLAIN._replace(pressure=Pressure(499))], 40),
-    ([PLAIN._replace(outlet=1, pressure=Pressure(801))], 40), ([FIRST, PLAIN._replace(dam=Dam(1, 2), take=Take(3), pressure=Pressure(65536 + 700))], 80),
+    ([PLAIN._replace(outlet=1, pressure=Pressure(801))], 40), ([FIRST, PLAIN._replace(pressure=Pressure(65536 + 700))], 80),
     ([FIRST._replace(pressure=Pressure(760)), PLAIN._replace(dam=Dam(1, 2), take=Take(3), pressure=Pressure(800))], 78),
 ]
 

@@ -592,15 +592,7 @@ fn rivers9() {
     let mut out = [7u8; 40];
     wrote(c, &mut out);
     let c = plain(2, Dam::Absent, Amount::Without);
-    let d = plain_with(
-        0,
-        Dam::Aerating {
-            share: 1,
-            generating: 2,
-        },
-        Amount::Given(3),
-        Amount::Given(66236),
-    );
+    let d = plain_with(0, Dam::Absent, Amount::Without, Amount::Given(66236));
     let mut out = [7u8; 80];
     wrote_two(c, d, &mut out);
     let c = plain_with(2, Dam::Absent, Amount::Without, Amount::Given(760));

@@ -43,7 +43,7 @@ pub struct Head {
 // The standard pressure in mm of mercury.
 const STANDARD_PRESSURE: u32 = 760;
 
-// Thousandths of a unit × mm of mercury in a unit: 1,000 × the standard pressure.
+// What thousandths of a unit times mm of mercury are divided by to give units.
 const SATURATION_DIVISOR: u64 = 1_000 * (STANDARD_PRESSURE as u64);
 
 // Saturation in units at a temperature in degrees C and a pressure in mm of mercury, rounded once.
