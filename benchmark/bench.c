@@ -1,9 +1,9 @@
 /*
- * Times the proved entry against the plain C program on the same files: bench FILE..
+ * Times the proved entry against three plain C programs on the same files: bench FILE..
  *
- * The two take turns in short batches. A time is that of the fastest batch, in microseconds a call; the ratio is
- * also given for the medians. The report buffers are not cleared in between. The part that reads the file
- * and checks the flows is timed by calls with an empty buffer, which are refused after both.
+ * The four take turns in batches of about a millisecond. A time is that of the fastest batch; ratios are also given for
+ * the medians. The report buffers are not cleared in between. The part that reads the file and checks the
+ * flows is timed by calls with no room for a report, which are refused after both.
  */
 #define _POSIX_C_SOURCE 199309L
 #include <stdio.h>
@@ -19,9 +19,35 @@
 
 typedef uint32_t entry(const uint8_t *file, size_t file_len, uint8_t *report, size_t report_len);
 
+/* What is timed: the programs, and reading and flow check alone, proved and as the plain programs share them. */
+enum { PROVED, EXP, STEPPED, CLOSED, PROGRAMS, PROVED_CHECKS = PROGRAMS, PLAIN_CHECKS, TIMED };
+
+static const struct timed {
+    entry *call;
+    size_t report_len;
+    uint32_t result;
+} timed[TIMED] = {
+    [PROVED] = {xylandreo_report, XYLANDREO_MAX_REPORT, 0},
+    [EXP] = {exp_report, XYLANDREO_MAX_REPORT, 0},
+    [STEPPED] = {stepped_report, XYLANDREO_MAX_REPORT, 0},
+    [CLOSED] = {closed_report, XYLANDREO_MAX_REPORT, 0},
+    [PROVED_CHECKS] = {xylandreo_report, 0, 12},
+    [PLAIN_CHECKS] = {exp_report, 0, 12},
+};
+
+/* What is measured on a river: microseconds a call, and how far each report lies from the proved one. */
+struct river {
+    const char *name;
+    uint32_t reaches;
+    double fastest[TIMED], median[TIMED];
+    struct distance {
+        long units, instants;
+    } distance[PROGRAMS];
+};
+
 static uint8_t file[XYLANDREO_MAX_FILE];
 static size_t file_len;
-static uint8_t proved[XYLANDREO_MAX_REPORT], plain[XYLANDREO_MAX_REPORT];
+static uint8_t reports[TIMED][XYLANDREO_MAX_REPORT];
 
 static double now(void)
 {
@@ -31,11 +57,11 @@ static double now(void)
 }
 
 /* Microseconds a call over a batch. */
-static double batch(entry *call, uint8_t *report, size_t report_len, long calls, uint32_t result)
+static double batch(int k, long calls)
 {
     double start = now();
     for (long i = 0; i < calls; i++)
-        if (call(file, file_len, report, report_len) != result) {
+        if (timed[k].call(file, file_len, reports[k], timed[k].report_len) != timed[k].result) {
             fprintf(stderr, "bench: unexpected result\n");
             exit(1);
         }
@@ -48,24 +74,26 @@ static int ascending(const void *a, const void *b)
     return (x > y) - (x < y);
 }
 
-static void sort(double *times)
+static void raise_to(long *largest, long difference)
 {
-    qsort(times, BATCHES, sizeof *times, ascending);
+    if (labs(difference) > *largest)
+        *largest = labs(difference);
 }
 
-/* The largest difference of a concentration between the two reports, in units of 0.000001 mg/L. */
-static long difference(uint32_t reaches)
+/* The largest differences of a program's report from the proved one: of a concentration, in units, and of an instant. */
+static struct distance distance(int k, uint32_t reaches)
 {
-    long largest = 0;
+    struct distance d = {0, 0};
     for (uint32_t i = 1; i <= reaches; i++) {
-        struct xylandreo_record a = xylandreo_record_of(proved, i), b = xylandreo_record_of(plain, i);
-        long d[] = {(long)a.head_bod - b.head_bod, (long)a.foot_bod - b.foot_bod, (long)a.head_oxygen - b.head_oxygen,
-            (long)a.critical_oxygen - b.critical_oxygen, (long)a.foot_oxygen - b.foot_oxygen};
-        for (size_t k = 0; k < sizeof d / sizeof *d; k++)
-            if (labs(d[k]) > largest)
-                largest = labs(d[k]);
+        struct xylandreo_record a = xylandreo_record_of(reports[PROVED], i), b = xylandreo_record_of(reports[k], i);
+        raise_to(&d.units, (long)a.head_bod - b.head_bod);
+        raise_to(&d.units, (long)a.foot_bod - b.foot_bod);
+        raise_to(&d.units, (long)a.head_oxygen - b.head_oxygen);
+        raise_to(&d.units, (long)a.critical_oxygen - b.critical_oxygen);
+        raise_to(&d.units, (long)a.foot_oxygen - b.foot_oxygen);
+        raise_to(&d.instants, (long)a.critical_instant - b.critical_instant);
     }
-    return largest;
+    return d;
 }
 
 static void load(const char *path)
@@ -77,31 +105,60 @@ static void load(const char *path)
     }
     file_len = fread(file, 1, sizeof file, in);
     fclose(in);
-    if (xylandreo_report(file, file_len, proved, sizeof proved) != 0 || plain_report(file, file_len, plain, sizeof plain) != 0) {
-        fprintf(stderr, "bench: %s is refused\n", path);
-        exit(2);
-    }
+    for (int k = 0; k < PROGRAMS; k++)
+        if (timed[k].call(file, file_len, reports[k], timed[k].report_len) != 0) {
+            fprintf(stderr, "bench: %s is refused\n", path);
+            exit(2);
+        }
 }
 
-static void measure(const char *path)
+static struct river measure(const char *path)
 {
-    static double entry_times[BATCHES], plain_times[BATCHES], checks_times[BATCHES];
+    static double times[TIMED][BATCHES];
+    long calls[TIMED];
     load(path);
-    long calls = 1 + (long)(BATCH_SECONDS * 1e6 / batch(plain_report, plain, sizeof plain, 3, 0));
-    for (int i = 0; i < BATCHES; i++) {
-        entry_times[i] = batch(xylandreo_report, proved, sizeof proved, calls, 0);
-        plain_times[i] = batch(plain_report, plain, sizeof plain, calls, 0);
-        checks_times[i] = batch(xylandreo_report, proved, 0, calls, 12);
-    }
-    sort(entry_times);
-    sort(plain_times);
-    sort(checks_times);
-    uint32_t reaches = xylandreo_reaches(file);
-    double ours = entry_times[0], theirs = plain_times[0], checks = checks_times[0];
-    double of_medians = entry_times[BATCHES / 2] / plain_times[BATCHES / 2];
+    for (int k = 0; k < TIMED; k++)
+        calls[k] = 1 + (long)(BATCH_SECONDS * 1e6 / batch(k, 3));
+    for (int i = 0; i < BATCHES; i++)
+        for (int k = 0; k < TIMED; k++)
+            times[k][i] = batch(k, calls[k]);
+
     const char *slash = strrchr(path, '/');
-    printf("%-16s %7u %11.2f %10.2f %6.2f %8.2f %11.2f %11.2f %10.2f %11ld\n", slash ? slash + 1 : path, reaches, ours, theirs,
-           ours / theirs, of_medians, checks, ours / reaches, (ours - checks) * 1000 / reaches / 1024, difference(reaches));
+    struct river r = {.name = slash ? slash + 1 : path, .reaches = xylandreo_reaches(file)};
+    for (int k = 0; k < TIMED; k++) {
+        qsort(times[k], BATCHES, sizeof *times[k], ascending);
+        r.fastest[k] = times[k][0];
+        r.median[k] = times[k][BATCHES / 2];
+    }
+    for (int k = 0; k < PROGRAMS; k++)
+        r.distance[k] = distance(k, r.reaches);
+    return r;
+}
+
+static void print_times(const struct river *r)
+{
+    printf("%-16s %7u ", r->name, r->reaches);
+    for (int k = 0; k < PROGRAMS; k++)
+        printf(" %8.2f", r->fastest[k]);
+    printf(" ");
+    for (int k = 0; k < PROGRAMS; k++)
+        printf(" %7.3f", r->fastest[k] / r->reaches);
+    printf("  %7.2f %7.2f  %9.2f\n", r->fastest[PROVED_CHECKS], r->fastest[PLAIN_CHECKS],
+           (r->fastest[PROVED] - r->fastest[PROVED_CHECKS]) * 1000 / r->reaches / 1024);
+}
+
+static void print_comparison(const struct river *r)
+{
+    printf("%-16s %7u ", r->name, r->reaches);
+    for (int k = 1; k < PROGRAMS; k++)
+        printf(" %6.2f (%6.2f)", r->fastest[PROVED] / r->fastest[k], r->median[PROVED] / r->median[k]);
+    printf(" ");
+    for (int k = 1; k < PROGRAMS; k++)
+        printf(" %7ld", r->distance[k].units);
+    printf(" ");
+    for (int k = 1; k < PROGRAMS; k++)
+        printf(" %7ld", r->distance[k].instants);
+    printf("\n");
 }
 
 int main(int argc, char **argv)
@@ -110,9 +167,23 @@ int main(int argc, char **argv)
         fprintf(stderr, "usage: bench FILE..\n");
         return 2;
     }
-    printf("%-16s %7s %11s %10s %6s %8s %11s %11s %10s %11s\n", "river", "reaches", "proved, us", "plain, us", "ratio", "(median)",
-           "checks, us", "us a reach", "ns a step", "difference");
+    struct river *rivers = calloc((size_t)argc, sizeof *rivers);
+    if (!rivers) {
+        perror("bench");
+        return 2;
+    }
+    printf("%24s  %-35s  %-31s  %s\n", "", "microseconds a call", "microseconds a reach", "checks, us a call");
+    printf("%-16s %7s  %8s %8s %8s %8s  %7s %7s %7s %7s  %7s %7s  %9s\n", "river", "reaches", "proved", "exp", "stepped",
+           "closed", "proved", "exp", "stepped", "closed", "proved", "plain", "ns a step");
+    for (int i = 1; i < argc; i++) {
+        rivers[i] = measure(argv[i]);
+        print_times(&rivers[i]);
+    }
+    printf("\n%24s  %-47s  %-23s  %s\n", "", "proved time over that of (medians)", "difference", "of instants");
+    printf("%-16s %7s  %15s %15s %15s  %7s %7s %7s  %7s %7s %7s\n", "river", "reaches", "exp", "stepped", "closed",
+           "exp", "stepped", "closed", "exp", "stepped", "closed");
     for (int i = 1; i < argc; i++)
-        measure(argv[i]);
+        print_comparison(&rivers[i]);
+    free(rivers);
     return 0;
 }

@@ -1,6 +1,7 @@
 /*
- * The report as a plain C program would compute it: the same checks and records as xylandreo_report,
- * concentrations in double precision, and exp() twice at each instant. The benchmark's other side.
+ * The report as a C programmer would compute it, in three ways: the benchmark's other sides. Checks and records
+ * are those of xylandreo_report, concentrations are in double precision, in units of 0.000001 mg/L. The three
+ * differ in how they go along a reach, and in nothing else.
  */
 #include <math.h>
 
@@ -143,8 +144,107 @@ static uint32_t check_flows(struct reach *reaches, uint32_t n)
     return 0;
 }
 
-/* Works out one reach in units of 0.000001 mg/L and writes its record. */
-static void report_reach(struct reach *reaches, const struct reach *r, uint8_t *record)
+/* BOD and oxygen of the water at one place. */
+struct water {
+    double bod, oxygen;
+};
+
+/* What a way along a reach starts from: x1 and x2 are the paper's, ratio is x1 / (x2 - x1), 0 for equal rates. */
+struct head {
+    struct water water;
+    double saturation, x1, x2, ratio;
+};
+
+/* What it gives: the water at the foot, the lowest oxygen, and the instant of that. */
+struct course {
+    struct water foot;
+    double lowest;
+    uint32_t instant;
+};
+
+typedef struct course way(const struct head *h);
+
+/* The water after a part of the travel time, by the formulas. */
+static inline struct water water_at(const struct head *h, double part)
+{
+    double s1 = exp(-h->x1 * part), s2 = exp(-h->x2 * part);
+    double turned = h->x1 == h->x2 ? h->x1 * part * s1 : h->ratio * (s1 - s2);
+    double oxygen = h->saturation - turned * h->water.bod - s2 * (h->saturation - h->water.oxygen);
+    return (struct water){h->water.bod * s1, oxygen};
+}
+
+/* The formulas at every instant. */
+static struct course by_exp(const struct head *h)
+{
+    struct course c = {h->water, h->water.oxygen, 0};
+    for (uint32_t m = 1; m <= 1024; m++) {
+        c.foot = water_at(h, m / 1024.0);
+        if (c.foot.oxygen < c.lowest) {
+            c.lowest = c.foot.oxygen;
+            c.instant = m;
+        }
+    }
+    return c;
+}
+
+/*
+ * The deficit stepped from instant to instant by multiplication, with no exp() in the loop. Over what is left of a head
+ * deficit it is a sum whose terms grow by s1 / s2 a step, so that each step waits for one product of the step before.
+ * The deficit that a step makes of BOD, f, is y1 / (y2 - y1) * (s1 - s2), written so that no digits are lost as the
+ * rates nearly meet.
+ */
+static struct course stepped(const struct head *h)
+{
+    double y1 = h->x1 / 1024, y2 = h->x2 / 1024, apart = y1 - y2;
+    double s1 = exp(-y1), s2 = exp(-y2), growth = exp(-apart);
+    double f = y1 * s1 * (apart == 0 ? 1 : expm1(apart) / apart);
+    double left = 1, sum = h->saturation - h->water.oxygen, term = f / s2 * h->water.bod;
+    double deficit = sum, largest = sum;
+    uint32_t instant = 0;
+    for (uint32_t m = 1; m <= 1024; m++) {
+        sum += term;
+        term *= growth;
+        left *= s2;
+        deficit = sum * left;
+        if (deficit > largest) {
+            largest = deficit;
+            instant = m;
+        }
+    }
+    return (struct course){{h->water.bod * exp(-h->x1), h->saturation - deficit}, h->saturation - largest, instant};
+}
+
+/*
+ * The part of the travel time after which oxygen is lowest, as textbooks give it. Where that does not lie between
+ * head and foot, the result is not between 0 and 1: it may be infinite or no number.
+ */
+static double critical_part(const struct head *h)
+{
+    double deficit = h->saturation - h->water.oxygen, apart = h->x2 - h->x1;
+    if (apart == 0)
+        return (1 - deficit / h->water.bod) / h->x1;
+    return log(h->x2 / h->x1 * (1 - deficit * apart / (h->x1 * h->water.bod))) / apart;
+}
+
+/*
+ * Foot and critical point in closed form. This answers a slightly different question: the lowest oxygen is that at
+ * the critical time itself, not the lowest of 1,025 values, and the instant is that time to the nearest 1024th.
+ */
+static struct course closed(const struct head *h)
+{
+    struct course c = {water_at(h, 1), h->water.oxygen, 0};
+    double part = critical_part(h);
+    if (part > 0 && part < 1) { /* false for no number */
+        c.lowest = h->saturation - h->x1 / h->x2 * h->water.bod * exp(-h->x1 * part);
+        c.instant = (uint32_t)(1024 * part + 0.5);
+    } else if (c.foot.oxygen < c.lowest) {
+        c.lowest = c.foot.oxygen;
+        c.instant = 1024;
+    }
+    return c;
+}
+
+static struct head head_of(const struct reach *r)
 {
     double t = r->temperature, above = (double)r->above, mixed = (double)r->mixed, flow = (double)r->flow;
     double saturation = 1e6 * (14.652 - 0.41022 * t + 0.007991 * t * t - 0.000077774 * t * t * t);
@@ -161,46 +261,65 @@ static void report_reach(struct reach *reaches, const struct reach *r, uint8_t *
     oxygen = (above * oxygen + 1e3 * r->inflow * r->inflow_oxygen) / mixed;
 
     double x1 = (double)r->k1 * r->volume / (86400 * flow), x2 = (double)r->k2 * r->volume / (86400 * flow);
-    double ratio = r->k1 == r->k2 ? 0 : (double)r->k1 / ((double)r->k2 - r->k1);
-    double lowest = oxygen, value = oxygen, left = 1;
-    uint32_t instant = 0;
-    for (uint32_t m = 1; m <= 1024; m++) {
-        double part = m / 1024.0, s1 = exp(-x1 * part), s2 = exp(-x2 * part);
-        double turned = r->k1 == r->k2 ? x1 * part * s1 : ratio * (s1 - s2);
-        left = s1;
-        value = saturation - turned * bod - s2 * (saturation - oxygen);
-        if (value < lowest) {
-            lowest = value;
-            instant = m;
-        }
-    }
-    reaches[r->outlet].bod_above += flow * bod * left;
-    reaches[r->outlet].oxygen_above += flow * value;
+    return (struct head){{bod, oxygen}, saturation, x1, x2, x1 == x2 ? 0 : x1 / (x2 - x1)};
+}
 
+static void write_record(const struct reach *r, const struct head *h, const struct course *c, uint8_t *record)
+{
     record[0] = 'R';
     record[1] = 'P';
     record[2] = (uint8_t)r->depth;
     put(record + 3, (uint32_t)r->flow, 4);
-    put(record + 7, (uint32_t)bod, 4);
-    put(record + 11, (uint32_t)(bod * left), 4);
-    put(record + 15, (uint32_t)(int32_t)floor(oxygen), 4);
-    put(record + 19, instant, 2);
-    put(record + 21, (uint32_t)(int32_t)floor(lowest), 4);
-    put(record + 25, (uint32_t)(int32_t)floor(value), 4);
+    put(record + 7, (uint32_t)h->water.bod, 4);
+    put(record + 11, (uint32_t)c->foot.bod, 4);
+    put(record + 15, (uint32_t)(int32_t)floor(h->water.oxygen), 4);
+    put(record + 19, c->instant, 2);
+    put(record + 21, (uint32_t)(int32_t)floor(c->lowest), 4);
+    put(record + 25, (uint32_t)(int32_t)floor(c->foot.oxygen), 4);
 }
 
-uint32_t plain_report(const uint8_t *file, size_t file_len, uint8_t *report, size_t report_len)
+/* Reads and checks the river file; the result is that of a report, 12 for a short buffer included. */
+static uint32_t accept(const uint8_t *file, size_t file_len, size_t report_len, struct reach *reaches, uint32_t *n)
+{
+    uint32_t refusal = read_river(file, file_len, reaches, n);
+    if (!refusal)
+        refusal = check_flows(reaches, *n);
+    if (!refusal && report_len < 29 * *n)
+        refusal = 12;
+    return refusal;
+}
+
+/* The report with one of the ways along a reach. It is inlined, so that each entry below is compiled for its own way. */
+static inline __attribute__((always_inline)) uint32_t
+report_by(way *along, const uint8_t *file, size_t file_len, uint8_t *report, size_t report_len)
 {
     struct reach reaches[129]; /* reach i at i; 0 takes what the last reach passes on */
-    uint32_t n, refusal = read_river(file, file_len, reaches, &n);
-    if (!refusal)
-        refusal = check_flows(reaches, n);
+    uint32_t n, refusal = accept(file, file_len, report_len, reaches, &n);
     if (refusal)
         return refusal;
-    if (report_len < 29 * n)
-        return 12;
     reaches[0].bod_above = reaches[0].oxygen_above = 0;
-    for (uint32_t i = 1; i <= n; i++)
-        report_reach(reaches, &reaches[i], report + 29 * (i - 1));
+    for (uint32_t i = 1; i <= n; i++) {
+        struct reach *r = &reaches[i], *next = &reaches[r->outlet];
+        struct head h = head_of(r);
+        struct course c = along(&h);
+        next->bod_above += (double)r->flow * c.foot.bod;
+        next->oxygen_above += (double)r->flow * c.foot.oxygen;
+        write_record(r, &h, &c, report + 29 * (i - 1));
+    }
     return 0;
+}
+
+uint32_t exp_report(const uint8_t *file, size_t file_len, uint8_t *report, size_t report_len)
+{
+    return report_by(by_exp, file, file_len, report, report_len);
+}
+
+uint32_t stepped_report(const uint8_t *file, size_t file_len, uint8_t *report, size_t report_len)
+{
+    return report_by(stepped, file, file_len, report, report_len);
+}
+
+uint32_t closed_report(const uint8_t *file, size_t file_len, uint8_t *report, size_t report_len)
+{
+    return report_by(closed, file, file_len, report, report_len);
 }

@@ -1,10 +1,17 @@
-/* The report in double precision; its parameters and result are those of xylandreo_report. */
+/* The report in double precision, in three ways; parameters and results are those of xylandreo_report. */
 #ifndef PLAIN_H
 #define PLAIN_H
 
 #include <stddef.h>
 #include <stdint.h>
 
-uint32_t plain_report(const uint8_t *file, size_t file_len, uint8_t *report, size_t report_len);
+/* With exp() twice at each of the 1,025 instants but the head. */
+uint32_t exp_report(const uint8_t *file, size_t file_len, uint8_t *report, size_t report_len);
+
+/* Stepped from instant to instant by multiplication. */
+uint32_t stepped_report(const uint8_t *file, size_t file_len, uint8_t *report, size_t report_len);
+
+/* By the closed formula for the critical time: the lowest oxygen is that at this time, not the lowest of 1,025 values. */
+uint32_t closed_report(const uint8_t *file, size_t file_len, uint8_t *report, size_t report_len);
 
 #endif

@@ -1,6 +1,6 @@
 #!/usr/bin/env bash
-# Times the proved entry against a plain C program that computes the same report in double precision with exp(),
-# on the same files, both built for release. It needs the toolchain, a C compiler (CC, or else cc) and Python.
+# Times the proved entry against three plain C programs that compute the report in double precision, on the same
+# files, all built for release. It needs the toolchain, a C compiler (CC, or else cc) and Python.
 set -eu
 cd "$(dirname -- "$(readlink -f -- "${BASH_SOURCE[0]}")")"
 
@@ -24,8 +24,13 @@ done
 "$scratch/bench" ../examples/town.river ../examples/chain.river "${rivers[@]}"
 cat <<'END'
 
-ratio       proved / plain, of the fastest of 201 batches each that take turns, and of the median batches
-checks      reading and flow check alone (calls that are refused with 12); part of the proved time
-ns a step   the rest of the proved time over 1,024 steps a reach: head, step shares, instants, record
-difference  largest distance between the two reports' concentrations, in units of 0.000001 mg/L
+proved       xylandreo_report
+exp          plain C in doubles: exp() twice at each instant
+stepped      plain C in doubles: stepped from instant to instant by multiplication
+closed       plain C in doubles: the closed formula for the critical time; oxygen at that time, not the lowest of 1,025 values
+             Times are those of the fastest of 201 batches each that take turns; (medians) are ratios of the median batches.
+checks       reading and flow check alone (calls that are refused with 12), part of the times; the plain programs share theirs
+ns a step    the rest of the proved time over 1,024 steps a reach: head, step shares, instants, record
+difference   largest distance of a concentration from that of the proved report, in units of 0.000001 mg/L
+of instants  the same of the critical instant, in 1024ths of the travel time
 END
