@@ -3,8 +3,9 @@
 
     tests/decay_vectors.py --check | --write
 
-For each reach the program prints the shares of a step and the factors at some instants, in parts of 2^-44. The shares are held to
-1 − S(x1), F and 1 − S(x2) at instant 1, the factors to S(x1), F and S(x2) at theirs, with 60 terms. --write builds and runs the program.
+For each reach the program prints the shares of a step, how many terms the series of each share has, and the factors at some instants, in
+parts of 2^-44. The shares are held to 1 − S(x1), F and 1 − S(x2) at instant 1, the factors to S(x1), F and S(x2) at theirs, with 60 terms, and
+the counts to the terms worked out here. --write builds and runs the program.
 """
 
 import math
@@ -19,7 +20,8 @@ from reference import Card, Reach
 CRATE = "crates/decay_vectors"
 ONE = 2 ** 44
 TERMS = 60
-MOST_OFF = {"step": 10, "instant": 2_000}       # parts of 2^-44
+MOST_TERMS = 4                                  # of a step's series
+MOST_OFF = {"step": 5, "instant": 11_264}       # parts of 2^-44, as proved
 
 
 def off(printed, shares):
@@ -29,9 +31,26 @@ def off(printed, shares):
     return max(math.ceil(abs(number - share * ONE)) for number, share in zip(printed, shares))
 
 
+def terms_of(y, z):
+    """How many terms a series has: up to the first after the leading one that is 0 in parts of 2^-44, or to its end."""
+    lost, back, count = y, 0, 1
+    while count < MOST_TERMS:
+        lost, back = lost * y // ONE // (count + 1), (lost + back) * z // ONE // (count + 1)
+        if lost + back == 0:
+            break
+        count += 1
+    return count
+
+
+def counts(card):
+    """How many terms the series of BOD lost, BOD used and deficit filled have in a step of a reach."""
+    y, z = (k * card.volume * ONE // (86_400 * 1_024 * card.inflow) for k in (card.k1, card.k2))
+    return [terms_of(y, 0), terms_of(y, z), terms_of(z, 0)]
+
+
 def distances(text):
-    """How many reaches an output has, and the largest distances of its steps and of its instants."""
-    reaches, largest = 0, {"step": 0, "instant": 0}
+    """How many reaches an output has, and the largest distances of its steps and of its instants. Wrong or missing counts of terms are a failure."""
+    reaches, counted, largest = 0, 0, {"step": 0, "instant": 0}
     for line in text.splitlines():
         label, *numbers = line.split()
         numbers = [int(number) for number in numbers]
@@ -39,12 +58,19 @@ def distances(text):
             flow, reaches = numbers[0], reaches + 1
         elif label == "card":
             k1, k2, volume = numbers
-            reach = Reach(1, Card(0, 20, k1, k2, volume, flow, 0, 0, 0), [])
+            card = Card(0, 20, k1, k2, volume, flow, 0, 0, 0)
+            reach = Reach(1, card, [])
         elif label == "step":
             S1, F, S2 = reference.factors(reach, 1, TERMS)
             largest["step"] = max(largest["step"], off(numbers, (1 - S1, F, 1 - S2)))
+        elif label == "terms":
+            if numbers != counts(card):
+                raise vectors.Failed(f"reach {reaches}: terms {numbers} are printed where {counts(card)} are due")
+            counted += 1
         else:
             largest["instant"] = max(largest["instant"], off(numbers, reference.factors(reach, int(label), TERMS)))
+    if counted != reaches:
+        raise vectors.Failed(f"{counted} lines of terms are printed for {reaches} reaches")
     return reaches, largest
 
 

@@ -2,7 +2,7 @@
 use mathlib.Core.Path.{_≡_, refl}
 use lib.Dec.{lit≤}
 use Rattle.decay.specs.Fixed.{product, quotient}
-use Rattle.decay.specs.Step.{RatesPass, exponentOf, termOf, nextTerms, termsAt, alternatingSum, seriesOf, stepOf}
+use Rattle.decay.specs.Step.{RatesPass, exponentOf, termOf, nextTerms, termsAt, termAt, withTerm, sumOf, countFrom, seriesOf, stepOf}
 use Rattle.decay.specs.Factors.{headFactors, nextFactors, factorsAt}
 use Rattle.decay.specs.Promise.{factorsOf, Accurate}
 use Rattle.decay.proofs.Accuracy.{accuracy}
@@ -20,7 +20,7 @@ passed =
     }
 
 foot : product ((factorsOf 1000 1000 864000 10000 1024) .left) 10000000 ≡ 3678794
-unfolding product quotient exponentOf termOf nextTerms termsAt alternatingSum seriesOf stepOf headFactors nextFactors factorsAt
+unfolding product quotient exponentOf termOf nextTerms termsAt termAt withTerm sumOf countFrom seriesOf stepOf headFactors nextFactors factorsAt
 foot = refl
 
 at-the-foot : Accurate 40 1000 1000 864000 10000 1024

@@ -1,2 +1,3 @@
--- Laws of a step's shares.
+-- Laws of a step's series, and rows of them.
+pub mod SeriesRows
 pub mod Shares

@@ -1,8 +1,12 @@
 -- The shares of one step, 1/1024 of a reach's travel time: BOD lost, BOD used and deficit filled.
-use Prim.Native.Nat.{ℕ, zero, suc, _+_, _-_, _*_, _/_, _≤_}
-use Rattle.decay.specs.Fixed.{small, product, quotient}
+use mathlib.Core.Bool.{cond}
+use mathlib.Core.Path.{_≡_}
+use Prim.Native.Nat.{ℕ, zero, suc, _+_, _-_, _*_, _/_, _%_, _≤_, _<_}
+use lib.Dec.{eqb}
+use Rattle.decay.specs.Fixed.{product, quotient}
 use Rattle.decay.specs.declared.step.Step.{Step}
 use Rattle.decay.specs.declared.step.Terms.{Terms}
+use Rattle.decay.specs.declared.step.SeriesSum.{SeriesSum}
 
 -- a reach's rates, volume and flow are in range and pass check 11
 pub record RatesPass (k1 k2 volume flow : ℕ) : Type 0 where
@@ -22,44 +26,57 @@ exponentOf k volume flow = quotient (k * volume) (88_473_600 * flow)
 unfoldable pub termOf : ℕ → ℕ → ℕ → ℕ
 termOf before y j = product before y / j
 
--- term j of both series: t_j = y * t_(j-1) / j, and w_j = z * (t_(j-1) + w_(j-1)) / j
+-- term j in its two parts: t_j = y * t_(j-1) / j, and w_j = z * (t_(j-1) + w_(j-1)) / j
 unfoldable pub nextTerms : Terms → ℕ → ℕ → ℕ → Terms
 nextTerms before y z j =
     record { lost = termOf (before .lost) y j; back = termOf (before .lost + before .back) z j }
 
--- term i + 1 of both series; the first is t_1 = y, w_1 = 0
+-- term i + 1 in its two parts; the first is t_1 = y, w_1 = 0
 unfoldable pub termsAt : ℕ → ℕ → ℕ → Terms
 termsAt y z zero = record { lost = y; back = 0 }
 termsAt y z (suc i) = nextTerms (termsAt y z i) y z (i + 2)
 
--- no term is above the one before, and the first is small
-pub record Falling (t1 t2 t3 t4 : ℕ) : Type 0 where
-  pub first-small : t1 ≤ small
-  pub second-falls : t2 ≤ t1
-  pub third-falls : t3 ≤ t2
-  pub fourth-falls : t4 ≤ t3
+-- term i + 1 of a series, t + w: of F for the exponents y and z, of 1 - S(y) where z is 0, so that no w is there
+unfoldable pub termAt : (y z i : ℕ) → ℕ
+termAt y z i = (termsAt y z i) .lost + (termsAt y z i) .back
 
--- the sum of four terms of alternating sign
-unfoldable pub alternatingSum : ℕ → ℕ → ℕ → ℕ → ℕ
-alternatingSum t1 t2 t3 t4 = t1 - t2 + t3 - t4
+-- the sum with term i + 1: the first, the third and so on are added, the others taken away
+unfoldable pub withTerm : (sum t i : ℕ) → ℕ
+withTerm sum t i = cond (eqb (i % 2) 0) (sum + t) (sum - t)
 
--- The series of a step, four terms each; the fifth would be 0 in the carried digits. lost stands for 1 - S(y), the alternating sum of the
--- t_j. F is that of the t_j + w_j, and the w_j begin at j = 2 with a minus sign, so F is lost less back, the deficit filled again within
--- the step.
-unfoldable pub seriesOf : ℕ → ℕ → Terms
+-- the sum of the first n terms of a series
+unfoldable pub sumOf : (y z n : ℕ) → ℕ
+sumOf y z zero = 0
+sumOf y z (suc i) = withTerm (sumOf y z i) (termAt y z i) i
+
+-- a series ends with its fourth term; the fifth would be 0 in the carried digits
+abbrev pub mostTerms : ℕ
+mostTerms = 4
+
+-- how many terms are summed, n of them so far and at most k more: up to the first that is 0 in the carried digits
+unfoldable pub countFrom : (y z n k : ℕ) → ℕ
+countFrom y z n zero = n
+countFrom y z n (suc k) = cond (eqb (termAt y z n) 0) n (countFrom y z (suc n) k)
+
+-- a series, which stops at the first term after its leading one that is 0 in the carried digits, or at its end
+unfoldable pub seriesOf : (y z : ℕ) → SeriesSum
 seriesOf y z =
-    record {
-      lost = alternatingSum y ((termsAt y z 1) .lost) ((termsAt y z 2) .lost) ((termsAt y z 3) .lost);
-      back = alternatingSum ((termsAt y z 1) .back) ((termsAt y z 2) .back) ((termsAt y z 3) .back) 0;
-    }
+    let count = countFrom y z 1 (mostTerms - 1) in
+    record { sum = sumOf y z count; count = count }
+
+-- What a series answers: the sum of exactly the terms that it counts. After the leading term none of them is 0, and the next is 0 or there
+-- is none.
+pub record SumsExactly (y z : ℕ) (r : SeriesSum) : Type 0 where
+  pub series-is : r ≡ seriesOf y z
+  pub sum-is : r .sum ≡ sumOf y z (r .count)
+  pub leading : 1 ≤ r .count
+  pub end : r .count ≤ mostTerms
+  pub none-zero : (i : ℕ) → 1 ≤ i → i < r .count → 0 < termAt y z i
+  pub next-zero : r .count < mostTerms → termAt y z (r .count) ≡ 0
 
 -- the shares of one step: lost stands for 1 - S(x1), used for F, filled for 1 - S(x2)
-unfoldable pub stepOf : ℕ → ℕ → ℕ → ℕ → Step
+unfoldable pub stepOf : (k1 k2 volume flow : ℕ) → Step
 stepOf k1 k2 volume flow =
     let y = exponentOf k1 volume flow in
     let z = exponentOf k2 volume flow in
-    record {
-      lost = (seriesOf y z) .lost;
-      used = (seriesOf y z) .lost - (seriesOf y z) .back;
-      filled = (seriesOf z 0) .lost;
-    }
+    record { lost = (seriesOf y 0) .sum; used = (seriesOf y z) .sum; filled = (seriesOf z 0) .sum }

@@ -1,9 +1,9 @@
 // The shares of one step, which is 1/1024 of a reach's travel time.
 use crate::fixed;
 ghost use mathlib.Core.Path.{_≡_};
-ghost use Prim.Native.Nat.{_+_, _≤_, _<_};
+ghost use Prim.Native.Nat.{_+_, _*_, _≤_, _<_};
 ghost use Rattle.decay.specs.Fixed.{small};
-ghost use Rattle.decay.specs.Step.{RatesPass, exponentOf, termOf, nextTerms, Falling, alternatingSum, seriesOf, stepOf};
+ghost use Rattle.decay.specs.Step.{RatesPass, exponentOf, termOf, nextTerms, withTerm, SumsExactly, stepOf};
 
 // BOD lost, BOD used (turned to deficit and not yet filled) and deficit filled in one step, as shares of one.
 pub struct Step {
@@ -12,11 +12,20 @@ pub struct Step {
     pub filled: u64,
 }
 
-// The two series of a step, term by term or summed: BOD lost, and the part of it whose deficit is filled again within the step.
+// A term of a series in its two parts: of the BOD lost, and of what takes its place in the deficit and is filled again within the step.
 pub struct Terms {
     pub lost: u64,
     pub back: u64,
 }
+
+// A series: the sum of its terms, and how many it has.
+pub struct SeriesSum {
+    pub sum: u64,
+    pub count: u64,
+}
+
+// The most terms of a series: the fifth is 0 in the carried digits.
+const MOST_TERMS: u64 = 4;
 
 // The seconds of a day times the 1,024 steps of a reach.
 const DAY_STEPS: u64 = 88_473_600;
@@ -24,7 +33,7 @@ const DAY_STEPS: u64 = 88_473_600;
 // The exponent of one step at the rate k, as a share of one.
 pub fn exponent(k: u16, volume: u32, flow: u32) -> u64
     requires { ⌜ RatesPass k k volume flow ⌝ }
-    ensures { λ r. ⌜ r ≡ exponentOf k volume flow ⌝ }
+    ensures { λ r. ⌜ (r ≡ exponentOf k volume flow) × (r ≤ small) ⌝ }
 {
     fixed::quotient((k as u64) * (volume as u64), DAY_STEPS * (flow as u64))
 }
@@ -37,7 +46,7 @@ pub fn term(before: u64, y: u64, j: u64) -> u64
     fixed::product(before, y) / j
 }
 
-// Term j of both series from the one before it.
+// Term j from the one before it.
 pub fn next_terms(before: Terms, y: u64, z: u64, j: u64) -> Terms
     requires { ⌜ (before .lost + before .back ≤ small) × (y ≤ small) × (z ≤ small) × (0 < j) ⌝ }
     ensures { λ r. ⌜ r ≡ nextTerms before y z j ⌝ }
@@ -50,25 +59,37 @@ pub fn next_terms(before: Terms, y: u64, z: u64, j: u64) -> Terms
     }
 }
 
-// The sum of four falling terms of alternating sign.
-pub fn alternating(t1: u64, t2: u64, t3: u64, t4: u64) -> u64
-    requires { ⌜ Falling t1 t2 t3 t4 ⌝ }
-    ensures { λ r. ⌜ r ≡ alternatingSum t1 t2 t3 t4 ⌝ }
+// The sum with term i + 1 of a series, of alternating sign.
+pub fn with_term(sum: u64, t: u64, i: u64) -> u64
+    requires { ⌜ (t ≤ sum) × (sum ≤ 2 * small) ⌝ }
+    ensures { λ r. ⌜ r ≡ withTerm sum t i ⌝ }
 {
-    t1 - t2 + t3 - t4
+    if i % 2 == 0 { sum + t } else { sum - t }
 }
 
-// The two series of a step whose exponents are y for the BOD and z for the deficit.
-pub fn series(y: u64, z: u64) -> Terms
+// The series of the exponents y for the BOD and z for the deficit. It stops at the first term after the leading one that is 0, or at its end.
+pub fn series(y: u64, z: u64) -> SeriesSum
     requires { ⌜ (y ≤ small) × (z ≤ small) ⌝ }
-    ensures { λ r. ⌜ r ≡ seriesOf y z ⌝ }
+    ensures { λ r. ⌜ SumsExactly y z r ⌝ }
 {
-    let second = next_terms(Terms { lost: y, back: 0 }, y, z, 2);
-    let third = next_terms(second, y, z, 3);
-    let fourth = next_terms(third, y, z, 4);
-    Terms {
-        lost: alternating(y, second.lost, third.lost, fourth.lost),
-        back: alternating(second.back, third.back, fourth.back, 0),
+    let mut terms = Terms { lost: y, back: 0 };
+    let mut sum = y;
+    let mut count: u64 = 1;
+    while count < MOST_TERMS {
+        terms = next_terms(terms, y, z, count + 1);
+        let t = terms.lost + terms.back;
+        if t == 0 {
+            return SeriesSum {
+                sum: sum,
+                count: count,
+            };
+        }
+        sum = with_term(sum, t, count);
+        count = count + 1;
+    }
+    SeriesSum {
+        sum: sum,
+        count: count,
     }
 }
 
@@ -79,11 +100,12 @@ pub fn step_of(k1: u16, k2: u16, volume: u32, flow: u32) -> Step
 {
     let y = exponent(k1, volume, flow);
     let z = exponent(k2, volume, flow);
-    let bod = series(y, z);
-    let deficit = series(z, 0);
+    let lost = series(y, 0);
+    let used = series(y, z);
+    let filled = series(z, 0);
     Step {
-        lost: bod.lost,
-        used: bod.lost - bod.back,
-        filled: deficit.lost,
+        lost: lost.sum,
+        used: used.sum,
+        filled: filled.sum,
     }
 }

@@ -1,5 +1,6 @@
-// Prints the shares of a step and the factors at the instants 0, 1, 512 and 1024 for a dozen reaches: equal rates, rates one apart, zero
-// rates, no volume, the longest travel time that check 11 passes, the smallest and the largest flow.
+// Prints the shares of a step, how many terms each of their series has, and the factors at the instants 0, 1, 512 and 1024, for two dozen
+// reaches: equal rates, rates one apart, zero rates, no volume, the longest travel time that check 11 passes, the smallest and the largest
+// flow, and exponents just below and at each place where a count of terms changes.
 use decay::factors::Factors;
 use decay::step::Step;
 ghost use Rattle.decay.specs.Step.{RatesPass};
@@ -49,7 +50,19 @@ fn instants(s: Step)
     instant(b"1024", after(s, middle, 512));
 }
 
-// A reach: its card's numbers, the shares of its step, and four instants.
+// How many terms the series of each share of a step has.
+fn terms(k1: u16, k2: u16, volume: u32, flow: u32)
+    requires { ⌜ RatesPass k1 k2 volume flow ⌝ }
+{
+    let y = decay::step::exponent(k1, volume, flow);
+    let z = decay::step::exponent(k2, volume, flow);
+    let lost = decay::step::series(y, 0);
+    let used = decay::step::series(y, z);
+    let filled = decay::step::series(z, 0);
+    line(b"terms", lost.count, used.count, filled.count);
+}
+
+// A reach: its card's numbers, the shares of its step with their terms, and four instants.
 fn reach(k1: u16, k2: u16, volume: u32, flow: u32)
     requires { ⌜ RatesPass k1 k2 volume flow ⌝ }
 {
@@ -59,7 +72,23 @@ fn reach(k1: u16, k2: u16, volume: u32, flow: u32)
     line(b"card", k1 as u64, k2 as u64, volume as u64);
     let s = decay::step::step_of(k1, k2, volume, flow);
     line(b"step", s.lost, s.used, s.filled);
+    terms(k1, k2, volume, flow);
     instants(s);
+}
+
+// Reaches of equal rates in pairs, the exponents of a step one part of 2^-44 apart: a second term of both series, a third of BOD used, a third
+// of BOD lost, a fourth of BOD used, a fourth of BOD lost.
+fn counts_change() {
+    reach(100, 100, 724, 2427);
+    reach(700, 700, 333, 7814);
+    reach(3000, 3000, 27938, 17083);
+    reach(1500, 1500, 32859, 10046);
+    reach(700, 700, 108962, 12339);
+    reach(100, 100, 56437, 913);
+    reach(1500, 1500, 119063, 2458);
+    reach(2000, 2000, 1059760, 29171);
+    reach(1200, 1200, 294912, 3701);
+    reach(2000, 2000, 829945, 17359);
 }
 
 fn main() {
@@ -76,4 +105,5 @@ fn main() {
     reach(345, 1000, 345, 1);
     reach(20000, 3, 1000000000, 100000000);
     reach(3, 20000, 1000000000, 100000000);
+    counts_change();
 }

@@ -1,17 +1,17 @@
 -- The shares of a step of a reach against the river file paper's S and F at one step: within 3 units for BOD lost and deficit filled, 5 for BOD used.
 use mathlib.Core.List.{[], _∷_}
-use Prim.Native.Nat.{ℕ, _*_, _^_, _≤_, _<_, zero-le}
+use Prim.Native.Nat.{ℕ, _*_, _^_, _≤_, _<_}
 use native.Mathlib.Nat.{mul-one, le-trans}
 use lib.Dec.{lit<, lit≤}
 use lib.Signed.{leZ-yes}
 use Rattle.decay.specs.Fraction.{Fraction, ofℕ, ofℤ, over, _+ᶠ_, -ᶠ_, _-ᶠ_, _*ᶠ_, _÷_, _≈_, _≼_}
 use Rattle.decay.specs.Exact.{power, factorial, exponent, S, F}
 use Rattle.decay.specs.Fixed.{small}
-use Rattle.decay.specs.Step.{RatesPass, exponentOf, stepOf}
+use Rattle.decay.specs.Step.{RatesPass, exponentOf, seriesOf, stepOf}
 use Rattle.decay.specs.Promise.{share}
 use Rattle.decay.proofs.Algebra.{≈-sym, ≈-trans, ring-by, _⋅_, _&_, none, quote, replaced, ≼-of-≈, ≼-trans, Nonneg, slack, number, _⊞_, _⊠_, multiple, certify, certify-times, positive-whole, ÷-cancel-pos, ofℕ-≈, Within}
 use Rattle.decay.proofs.step.Shares.{exponent-small, step-sound}
-use Rattle.decay.proofs.Accuracy.Units.{eps, eps-nonneg, share-nonneg, share-mono, share-one, share-is, Below, exponent-below}
+use Rattle.decay.proofs.Accuracy.Units.{eps, eps-nonneg, share-nonneg, share-mono, share-one, Below, exponent-below}
 use Rattle.decay.proofs.Accuracy.Step.{Exponents, ExactTerms, Sum, lost-near, used-near}
 use Rattle.decay.proofs.Accuracy.Advance.{StepNear}
 use Rattle.decay.proofs.Exponential.{e, e-zero, e-suc, e-nonneg, e-mono, S-six, exponent-nonneg, exponent-step, exponent-scaled, d, d-zero, d-suc, d-nonneg, S-short, F-short, d-small}
@@ -25,14 +25,6 @@ near-exponent k v Q h =
 small-exponent : (k v Q : ℕ) → k * v ≤ 345600 * Q → ofℕ 256 *ᶠ exponent k v Q 1 ≼ ofℕ 1
 small-exponent k v Q h =
     certify (exponent k v Q 1 ∷ (ofℕ 1 ÷ ofℕ 256) ∷ []) (number 256 ⊠ slack (exponent-step k v Q h) ⊞ multiple (ofℕ 1) (÷-cancel-pos (ofℕ 1) (positive-whole {n = 256} (lit< tt)))) (search quote depth 40 fits 9999) tt
-
--- no exponent at all, for the deficit alone
-nothing : Below (ofℕ 0) (share 0)
-nothing =
-    record {
-      low = certify (eps ∷ []) (number 0) (search (quote, replaced (share-is 0)) depth 40 fits 9999) tt;
-      high = certify (eps ∷ []) eps-nonneg (search (quote, replaced (share-is 0)) depth 40 fits 9999) tt;
-    }
 
 exact-terms : (y z : Fraction) → ExactTerms y z (e y) (d y z)
 exact-terms y z =
@@ -133,58 +125,55 @@ small-share-one : {n : ℕ} → n ≤ small → share n ≼ ofℕ 1
 small-share-one {n} h = ≼-trans (share-mono (le-trans h (lit≤ tt))) (≼-of-≈ share-one)
 
 module _ {N k1 k2 v Q : ℕ} (long : 40 ≤ N) (p : RatesPass k1 k2 v Q) where
-  abbrev y : Fraction
-  y = exponent k1 v Q 1
-
-  abbrev z : Fraction
-  z = exponent k2 v Q 1
-
-  exponents : Exponents (exponentOf k1 v Q) (exponentOf k2 v Q) y z
-  exponents =
+  exponents :
+      (k l : ℕ) →
+      k * v ≤ 345600 * Q →
+      l * v ≤ 345600 * Q →
+      Exponents (exponentOf k v Q) (exponentOf l v Q) (exponent k v Q 1) (exponent l v Q 1)
+  exponents k l h i =
       record {
-        near-y = near-exponent k1 v Q (p .flow-above);
-        near-z = near-exponent k2 v Q (p .flow-above);
-        small-y = small-exponent k1 v Q (p .k1-short);
-        small-z = small-exponent k2 v Q (p .k2-short);
+        near-y = near-exponent k v Q (p .flow-above);
+        near-z = near-exponent l v Q (p .flow-above);
+        small-y = small-exponent k v Q h;
+        small-z = small-exponent l v Q i;
       }
 
-  deficit-exponents : Exponents (exponentOf k2 v Q) 0 z (ofℕ 0)
-  deficit-exponents =
-      record {
-        near-y = near-exponent k2 v Q (p .flow-above);
-        near-z = nothing;
-        small-y = small-exponent k2 v Q (p .k2-short);
-        small-z = certify [] (number 1) (search quote depth 40 fits 9999) tt;
-      }
+  -- the share of a rate by itself: BOD lost or deficit filled
+  rate-near :
+      (k : ℕ) →
+      k * v ≤ 345600 * Q →
+      Within (S N (exponent k v Q 1)) (ofℕ 1 -ᶠ share ((seriesOf (exponentOf k v Q) 0) .sum)) (ofℕ 3 *ᶠ eps)
+  rate-near k h =
+      let y = exponent k v Q 1 in
+      let sign = exponent-nonneg k v Q 1 in
+      let step = exponent-step k v Q h in
+      within-lost (S N y) (S 6 y) _ (e y 5) _ (ofℕ 1 ÷ ofℕ (2 ^ 56)) (S-short long sign step) (six-terms y) tail-S (e-nonneg sign 5) (small-e sign step)
+      (lost-near (exponentOf k v Q) (exponentOf k v Q) y y (e y) (d y y) (exponents k k h h) (exact-terms y y) (exponent-small k v Q h))
 
-  hy : exponentOf k1 v Q ≤ small
-  hy = exponent-small k1 v Q (p .k1-short)
-
-  hz : exponentOf k2 v Q ≤ small
-  hz = exponent-small k2 v Q (p .k2-short)
-
-  pub step-near :
-      StepNear (share ((stepOf k1 k2 v Q) .lost)) (share ((stepOf k1 k2 v Q) .used)) (share ((stepOf k1 k2 v Q) .filled)) (S N y) (F N k1 k2 v Q 1) (S N z)
-  unfolding stepOf
-  step-near =
-      let sound = step-sound k1 k2 v Q p in
+  -- the share that both rates make: BOD used
+  rates-near : Within (F N k1 k2 v Q 1) (share ((seriesOf (exponentOf k1 v Q) (exponentOf k2 v Q)) .sum)) (ofℕ 5 *ᶠ eps)
+  rates-near =
+      let y = exponent k1 v Q 1 in
+      let z = exponent k2 v Q 1 in
       let y-sign = exponent-nonneg k1 v Q 1 in
       let z-sign = exponent-nonneg k2 v Q 1 in
       let y-step = exponent-step k1 v Q (p .k1-short) in
       let z-step = exponent-step k2 v Q (p .k2-short) in
+      within-used (F N k1 k2 v Q 1) _ (d y z 5) _ (ofℕ 1 ÷ ofℕ (2 ^ 53)) (F-short long k1 k2 v Q (p .k1-short) (p .k2-short)) tail-F (d-nonneg y-sign z-sign 5) (small-d y-sign z-sign y-step z-step)
+      (used-near (exponentOf k1 v Q) (exponentOf k2 v Q) y z (e y) (d y z) (exponents k1 k2 (p .k1-short) (p .k2-short)) (exact-terms y z) (exponent-small k1 v Q (p .k1-short)) (exponent-small k2 v Q (p .k2-short)))
+
+  pub step-near :
+      StepNear (share ((stepOf k1 k2 v Q) .lost)) (share ((stepOf k1 k2 v Q) .used)) (share ((stepOf k1 k2 v Q) .filled)) (S N (exponent k1 v Q 1)) (F N k1 k2 v Q 1) (S N (exponent k2 v Q 1))
+  unfolding stepOf
+  step-near =
+      let sound = step-sound k1 k2 v Q p in
       record {
         used-nonneg = share-nonneg _;
         used-lost = share-mono (sound .used-lost);
         lost-one = small-share-one (sound .lost-small);
         filled-nonneg = share-nonneg _;
         filled-one = small-share-one (sound .filled-small);
-        lost-near =
-            within-lost (S N y) (S 6 y) _ (e y 5) _ (ofℕ 1 ÷ ofℕ (2 ^ 56)) (S-short long y-sign y-step) (six-terms y) tail-S (e-nonneg y-sign 5) (small-e y-sign y-step)
-            (lost-near (exponentOf k1 v Q) (exponentOf k2 v Q) y z (e y) (d y z) exponents (exact-terms y z) hy hz);
-        used-near =
-            within-used (F N k1 k2 v Q 1) _ (d y z 5) _ (ofℕ 1 ÷ ofℕ (2 ^ 53)) (F-short long k1 k2 v Q (p .k1-short) (p .k2-short)) tail-F (d-nonneg y-sign z-sign 5) (small-d y-sign z-sign y-step z-step)
-            (used-near (exponentOf k1 v Q) (exponentOf k2 v Q) y z (e y) (d y z) exponents (exact-terms y z) hy hz);
-        filled-near =
-            within-lost (S N z) (S 6 z) _ (e z 5) _ (ofℕ 1 ÷ ofℕ (2 ^ 56)) (S-short long z-sign z-step) (six-terms z) tail-S (e-nonneg z-sign 5) (small-e z-sign z-step)
-            (lost-near (exponentOf k2 v Q) 0 z (ofℕ 0) (e z) (d z (ofℕ 0)) deficit-exponents (exact-terms z (ofℕ 0)) hz zero-le);
+        lost-near = rate-near k1 (p .k1-short);
+        used-near = rates-near;
+        filled-near = rate-near k2 (p .k2-short);
       }

@@ -2,16 +2,15 @@
 -- The exact terms come in by their recurrences alone, e_j = y × e_(j-1) / j and d_j = (y × e_(j-1) + z × d_(j-1)) / j.
 use mathlib.Core.Path.{_≡_, refl}
 use mathlib.Core.List.{[], _∷_}
-use Prim.Native.Nat.{ℕ, zero, suc, _+_, _-_, _≤_}
+use Prim.Native.Nat.{ℕ, zero, suc, _+_, _≤_, zero-le}
 use native.Mathlib.Numerals.{add-two}
-use native.Mathlib.Nat.{sub-add-cancel}
 use native.Mathlib.Omega.{arith}
 use Rattle.decay.specs.Fraction.{Fraction, ofℕ, _+ᶠ_, -ᶠ_, _-ᶠ_, _*ᶠ_, _≈_, _≼_}
 use Rattle.decay.specs.Fixed.{small}
-use Rattle.decay.specs.Step.{nextTerms, termsAt, seriesOf}
+use Rattle.decay.specs.Step.{nextTerms, termsAt, termAt, seriesOf}
 use Rattle.decay.specs.Promise.{share}
 use Rattle.decay.proofs.Algebra.{≈-refl, ≈-sym, ≈-trans, +ᶠ-cong, *ᶠ-cong, ring, ring-by, _⋅_, _&_, none, quote, ≼-by, slack, number, _⊞_, _⊠_, multiple, certify}
-use Rattle.decay.proofs.step.Shares.{lost-sum, back-sum, back-lost}
+use Rattle.decay.proofs.step.Shares.{term-alone, series-sum}
 use Rattle.decay.proofs.Accuracy.Units.{eps, share-nonneg, share-sum, share-equal, Floor, term-floor, Below}
 use Rattle.decay.proofs.Accuracy.Series.{Rough, TermNear, next-near, rough-first, rough-near, rough-both}
 
@@ -65,76 +64,47 @@ pub record Sum (X L : Fraction) (over under : ℕ) : Type 0 where
   pub high : ofℕ 64 *ᶠ X ≼ ofℕ 64 *ᶠ L +ᶠ ofℕ over *ᶠ eps
   pub low : ofℕ 64 *ᶠ L ≼ ofℕ 64 *ᶠ X +ᶠ ofℕ under *ᶠ eps
 
+-- t lies below e by at most c 64ths of a unit
+record Under (c : ℕ) (e t : Fraction) : Type 0 where
+  pub low : t ≼ e
+  pub high : ofℕ 64 *ᶠ e ≼ ofℕ 64 *ᶠ t +ᶠ ofℕ c *ᶠ eps
+
+-- the sum of four terms, of which the first is the exponent
 four-terms :
-    (e1 e2 e3 e4 t1 t2 t3 t4 L : Fraction) →
+    (c : ℕ) (e1 e2 e3 e4 t1 t2 t3 t4 L : Fraction) →
     Below e1 t1 →
-    TermNear e2 t2 →
-    TermNear e3 t3 →
-    TermNear e4 t4 →
+    Under c e2 t2 →
+    Under c e3 t3 →
+    Under c e4 t4 →
     L +ᶠ t2 +ᶠ t4 ≈ t1 +ᶠ t3 →
-    Sum (e1 -ᶠ e2 +ᶠ e3 -ᶠ e4) L 129 130
-four-terms e1 e2 e3 e4 t1 t2 t3 t4 L h1 h2 h3 h4 sum =
+    Sum (e1 -ᶠ e2 +ᶠ e3 -ᶠ e4) L (64 + c) (c + c)
+four-terms c e1 e2 e3 e4 t1 t2 t3 t4 L h1 h2 h3 h4 sum =
     record {
       high =
-          certify (e1 ∷ e2 ∷ e3 ∷ e4 ∷ t1 ∷ t2 ∷ t3 ∷ t4 ∷ L ∷ eps ∷ [])
+          certify (e1 ∷ e2 ∷ e3 ∷ e4 ∷ t1 ∷ t2 ∷ t3 ∷ t4 ∷ L ∷ ofℕ c ∷ eps ∷ [])
           (number 64 ⊠ slack (h1 .high) ⊞ number 64 ⊠ slack (h2 .low) ⊞ slack (h3 .high) ⊞ number 64 ⊠ slack (h4 .low) ⊞ multiple (ofℕ 64) (≈-sym sum))
           (search quote depth 40 fits 9999)
           tt;
       low =
-          certify (e1 ∷ e2 ∷ e3 ∷ e4 ∷ t1 ∷ t2 ∷ t3 ∷ t4 ∷ L ∷ eps ∷ [])
+          certify (e1 ∷ e2 ∷ e3 ∷ e4 ∷ t1 ∷ t2 ∷ t3 ∷ t4 ∷ L ∷ ofℕ c ∷ eps ∷ [])
           (number 64 ⊠ slack (h1 .low) ⊞ slack (h2 .high) ⊞ number 64 ⊠ slack (h3 .low) ⊞ slack (h4 .high) ⊞ multiple (ofℕ 64) sum)
           (search quote depth 40 fits 9999)
           tt;
     }
 
-three-terms :
-    (w2 w3 w4 v2 v3 v4 B : Fraction) →
-    TermNear w2 v2 →
-    TermNear w3 v3 →
-    TermNear w4 v4 →
-    B +ᶠ v3 ≈ v2 +ᶠ v4 →
-    Sum (w2 -ᶠ w3 +ᶠ w4) B 130 65
-three-terms w2 w3 w4 v2 v3 v4 B h2 h3 h4 sum =
-    record {
-      high =
-          certify (w2 ∷ w3 ∷ w4 ∷ v2 ∷ v3 ∷ v4 ∷ B ∷ eps ∷ [])
-          (slack (h2 .high) ⊞ number 64 ⊠ slack (h3 .low) ⊞ slack (h4 .high) ⊞ multiple (ofℕ 64) (≈-sym sum))
-          (search quote depth 40 fits 9999)
-          tt;
-      low =
-          certify (w2 ∷ w3 ∷ w4 ∷ v2 ∷ v3 ∷ v4 ∷ B ∷ eps ∷ [])
-          (number 64 ⊠ slack (h2 .low) ⊞ slack (h3 .high) ⊞ number 64 ⊠ slack (h4 .low) ⊞ multiple (ofℕ 64) sum)
-          (search quote depth 40 fits 9999)
-          tt;
-    }
-
-difference :
-    (X L W B D U : Fraction) → Sum X L 129 130 → Sum W B 130 65 → D +ᶠ W ≈ X → U +ᶠ B ≈ L → Sum D U 194 260
-difference X L W B D U h k exact whole =
-    record {
-      high =
-          certify (X ∷ L ∷ W ∷ B ∷ D ∷ U ∷ eps ∷ [])
-          (slack (h .high) ⊞ slack (k .low) ⊞ multiple (ofℕ 64) exact ⊞ multiple (ofℕ 64) (≈-sym whole))
-          (search quote depth 40 fits 9999)
-          tt;
-      low =
-          certify (X ∷ L ∷ W ∷ B ∷ D ∷ U ∷ eps ∷ [])
-          (slack (h .low) ⊞ slack (k .high) ⊞ multiple (ofℕ 64) (≈-sym exact) ⊞ multiple (ofℕ 64) whole)
-          (search quote depth 40 fits 9999)
-          tt;
-    }
-
--- the parts of d that e does not have, taken out of d, leave e
-telescope :
-    (e1 e2 e3 e4 d1 d2 d3 d4 : Fraction) →
-    d1 ≈ e1 →
-    d1 -ᶠ d2 +ᶠ d3 -ᶠ d4 +ᶠ (d2 -ᶠ e2 -ᶠ (d3 -ᶠ e3) +ᶠ (d4 -ᶠ e4)) ≈ e1 -ᶠ e2 +ᶠ e3 -ᶠ e4
-telescope e1 e2 e3 e4 d1 d2 d3 d4 h =
-    ring-by (e1 ∷ e2 ∷ e3 ∷ e4 ∷ d1 ∷ d2 ∷ d3 ∷ d4 ∷ []) (ofℕ 1 ⋅ h & none) (search quote depth 40 fits 9999) tt
-
 -- a sum of three as shares
 share-three : (a b c : ℕ) → share (a + b + c) ≈ share a +ᶠ share b +ᶠ share c
 share-three a b c = ≈-trans (share-sum (a + b) c) (+ᶠ-cong (share-sum a b) (≈-refl (share c)))
+
+-- the sum of a series, as shares
+share-series :
+    (Y Z : ℕ) →
+    Y ≤ small →
+    Z ≤ small →
+    share ((seriesOf Y Z) .sum) +ᶠ share (termAt Y Z 1) +ᶠ share (termAt Y Z 3) ≈ share Y +ᶠ share (termAt Y Z 2)
+share-series Y Z hY hZ =
+    ≈-trans (≈-sym (share-three ((seriesOf Y Z) .sum) (termAt Y Z 1) (termAt Y Z 3)))
+    (≈-trans (share-equal (series-sum Y Z hY hZ)) (share-sum Y (termAt Y Z 2)))
 
 module _ (Y Z : ℕ) (y z : Fraction) (e d : ℕ → Fraction) (x : Exponents Y Z y z) (k : ExactTerms y z e d) where
   abbrev t : ℕ → Fraction
@@ -175,32 +145,27 @@ module _ (Y Z : ℕ) (y z : Fraction) (e d : ℕ → Fraction) (x : Exponents Y 
       (≈-sym (share-sum ((termsAt Y Z (suc i)) .lost) ((termsAt Y Z (suc i)) .back)))
       (rough-both (near-lost i) (next-back i (rough-all i)))
 
-  near-back : (i : ℕ) → TermNear (w (suc (suc i))) (v (suc i))
-  near-back i = next-back i (rough-all i)
-
-  below-first : Below (e 1) (share Y)
-  below-first =
+  -- the first term is the exponent
+  below-first : {a : Fraction} → a ≈ y → Below a (share Y)
+  below-first p =
       record {
-        low = ≼-by (≈-refl (share Y)) (x .near-y .low) (≈-sym (k .e-first));
-        high = ≼-by (k .e-first) (x .near-y .high) (≈-refl (share Y +ᶠ eps));
+        low = ≼-by (≈-refl (share Y)) (x .near-y .low) (≈-sym p);
+        high = ≼-by p (x .near-y .high) (≈-refl (share Y +ᶠ eps));
       }
 
-  pub lost-near : Y ≤ small → Z ≤ small → Sum (e 1 -ᶠ e 2 +ᶠ e 3 -ᶠ e 4) (share ((seriesOf Y Z) .lost)) 129 130
-  lost-near hY hZ =
-      four-terms (e 1) (e 2) (e 3) (e 4) (share Y) (t 1) (t 2) (t 3) (share ((seriesOf Y Z) .lost)) below-first (near-lost 0) (near-lost 1) (near-lost 2)
-      (≈-trans (≈-sym (share-three ((seriesOf Y Z) .lost) ((termsAt Y Z 1) .lost) ((termsAt Y Z 3) .lost)))
-      (≈-trans (share-equal (lost-sum Y Z hY hZ)) (share-sum Y ((termsAt Y Z 2) .lost))))
+  under-lost : (i : ℕ) → Under 65 (e (suc (suc i))) (share (termAt Y 0 (suc i)))
+  under-lost i = rw (term-alone Y Z (suc i)) (record { low = near-lost i .low; high = near-lost i .high })
 
-  back-near : Y ≤ small → Z ≤ small → Sum (w 2 -ᶠ w 3 +ᶠ w 4) (share ((seriesOf Y Z) .back)) 130 65
-  back-near hY hZ =
-      three-terms (w 2) (w 3) (w 4) (v 1) (v 2) (v 3) (share ((seriesOf Y Z) .back)) (near-back 0) (near-back 1) (near-back 2)
-      (≈-trans (≈-sym (share-sum ((seriesOf Y Z) .back) ((termsAt Y Z 2) .back)))
-      (≈-trans (share-equal (back-sum Y Z hY hZ)) (share-sum ((termsAt Y Z 1) .back) ((termsAt Y Z 3) .back))))
+  under-used : (i : ℕ) → Under 130 (d (suc (suc i))) (share (termAt Y Z (suc i)))
+  unfolding termAt
+  under-used i = record { low = rough-all (suc i) .low; high = rough-all (suc i) .high }
 
-  pub used-near :
-      Y ≤ small → Z ≤ small → Sum (d 1 -ᶠ d 2 +ᶠ d 3 -ᶠ d 4) (share ((seriesOf Y Z) .lost - (seriesOf Y Z) .back)) 194 260
+  pub lost-near : Y ≤ small → Sum (e 1 -ᶠ e 2 +ᶠ e 3 -ᶠ e 4) (share ((seriesOf Y 0) .sum)) 129 130
+  lost-near hY =
+      four-terms 65 (e 1) (e 2) (e 3) (e 4) (share Y) _ _ _ (share ((seriesOf Y 0) .sum)) (below-first (k .e-first)) (under-lost 0) (under-lost 1) (under-lost 2)
+      (share-series Y 0 hY zero-le)
+
+  pub used-near : Y ≤ small → Z ≤ small → Sum (d 1 -ᶠ d 2 +ᶠ d 3 -ᶠ d 4) (share ((seriesOf Y Z) .sum)) 194 260
   used-near hY hZ =
-      difference (e 1 -ᶠ e 2 +ᶠ e 3 -ᶠ e 4) (share ((seriesOf Y Z) .lost)) (w 2 -ᶠ w 3 +ᶠ w 4) (share ((seriesOf Y Z) .back)) (d 1 -ᶠ d 2 +ᶠ d 3 -ᶠ d 4) (share ((seriesOf Y Z) .lost - (seriesOf Y Z) .back)) (lost-near hY hZ) (back-near hY hZ)
-      (telescope (e 1) (e 2) (e 3) (e 4) (d 1) (d 2) (d 3) (d 4) (≈-trans (k .d-first) (≈-sym (k .e-first))))
-      (≈-trans (≈-sym (share-sum ((seriesOf Y Z) .lost - (seriesOf Y Z) .back) ((seriesOf Y Z) .back)))
-      (share-equal (sub-add-cancel (back-lost Y Z hY hZ))))
+      four-terms 130 (d 1) (d 2) (d 3) (d 4) (share Y) _ _ _ (share ((seriesOf Y Z) .sum)) (below-first (k .d-first)) (under-used 0) (under-used 1) (under-used 2)
+      (share-series Y Z hY hZ)

@@ -6,7 +6,7 @@ use Rattle.decay_vectors.proofs.reach.Tie as tie
 
 instants-requires : tie.Need-instants-requires
 instants-requires c κs =
-    let s = c .before .before in
+    let s = c .before .before .before in
     rw (s .step-of .ensures) (step-sound _ _ _ _ (search needs))
 
 returns : tie.Need-returns
@@ -26,5 +26,6 @@ reach-spec =
     (λ step-of-requires. search needs)
     (λ slice-aggregate-line-2. search needs)
     (λ line-requires-2. search needs)
+    (λ terms-requires. search needs)
     instants-requires
     returns)
