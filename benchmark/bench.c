@@ -1,9 +1,9 @@
 /*
  * Times the proved entry against three plain C programs on the same files: bench FILE..
  *
- * The four take turns in batches of about a millisecond. A time is that of the fastest batch; ratios are also given for
- * the medians. The report buffers are not cleared in between. The part that reads the file and checks the
- * flows is timed by calls with no room for a report, which are refused after both.
+ * All take turns in batches of about a millisecond. A time is that of the fastest batch; ratios are also given for the
+ * medians. The report buffers are not cleared in between. The part that reads the file and checks the flows is
+ * timed by calls with no room for a report, which are refused after both.
  */
 #define _POSIX_C_SOURCE 199309L
 #include <stdio.h>

@@ -21,14 +21,14 @@ CRATE = "crates/decay_vectors"
 ONE = 2 ** 44
 TERMS = 60
 MOST_TERMS = 4                                  # of a step's series
-MOST_OFF = {"step": 5, "instant": 11_264}       # parts of 2^-44, as proved
+MOST_OFF = {"step": (3, 5, 3), "instant": (11_264, 11_264, 5_120)}      # parts of 2^-44, as proved
 
 
-def off(printed, shares):
-    """The largest distance of printed numbers from exact shares, in parts of 2^-44, rounded up."""
+def off(before, printed, shares):
+    """The largest distances of printed numbers from exact shares, in parts of 2^-44, rounded up: these and those before."""
     if len(printed) != len(shares):
         raise vectors.Failed(f"{len(printed)} numbers are printed where {len(shares)} are due")
-    return max(math.ceil(abs(number - share * ONE)) for number, share in zip(printed, shares))
+    return tuple(max(largest, math.ceil(abs(number - share * ONE))) for largest, number, share in zip(before, printed, shares))
 
 
 def terms_of(y, z):
@@ -50,7 +50,7 @@ def counts(card):
 
 def distances(text):
     """How many reaches an output has, and the largest distances of its steps and of its instants. Wrong or missing counts of terms are a failure."""
-    reaches, counted, largest = 0, 0, {"step": 0, "instant": 0}
+    reaches, counted, largest = 0, 0, {"step": (0, 0, 0), "instant": (0, 0, 0)}
     for line in text.splitlines():
         label, *numbers = line.split()
         numbers = [int(number) for number in numbers]
@@ -62,13 +62,13 @@ def distances(text):
             reach = Reach(1, card, [])
         elif label == "step":
             S1, F, S2 = reference.factors(reach, 1, TERMS)
-            largest["step"] = max(largest["step"], off(numbers, (1 - S1, F, 1 - S2)))
+            largest["step"] = off(largest["step"], numbers, (1 - S1, F, 1 - S2))
         elif label == "terms":
             if numbers != counts(card):
                 raise vectors.Failed(f"reach {reaches}: terms {numbers} are printed where {counts(card)} are due")
             counted += 1
         else:
-            largest["instant"] = max(largest["instant"], off(numbers, reference.factors(reach, int(label), TERMS)))
+            largest["instant"] = off(largest["instant"], numbers, reference.factors(reach, int(label), TERMS))
     if counted != reaches:
         raise vectors.Failed(f"{counted} lines of terms are printed for {reaches} reaches")
     return reaches, largest
@@ -89,10 +89,10 @@ def make(write):
     if not reaches:
         raise vectors.Failed(f"{path} holds no reach")
     for name, most in MOST_OFF.items():
-        if largest[name] > most:
+        if any(number > limit for number, limit in zip(largest[name], most)):
             raise vectors.Failed(f"{path}: {name}s are off by up to {largest[name]} parts of 2^-44, above {most}")
     vectors.settle(path, text, write)
-    step, instant = (reference.counted(largest[name], "part") for name in ("step", "instant"))
+    step, instant = (reference.counted(max(largest[name]), "part") for name in ("step", "instant"))
     return f"decay vectors: {reaches} reaches, shares of a step within {step} of 2^-44, factors within {instant} of 2^-44"
 
 

@@ -14,11 +14,10 @@ use lib.Dec.{lit≤}
 use lib.Signed.{leZ-yes}
 use Rattle.decay.specs.Fraction.{Fraction, ofℕ, ofℤ, over, _+ᶠ_, _*ᶠ_, _÷_, _≈_, _≼_, distance}
 use Rattle.decay.specs.Exact.{exponent, S, F}
-use Rattle.decay.specs.Fixed.{one}
 use Rattle.decay.specs.Step.{RatesPass, stepOf}
 use Rattle.decay.specs.Factors.{headFactors, factorsAt}
 use Rattle.decay.specs.Promise.{share, factorsOf, Accurate}
-use Rattle.decay.proofs.Algebra.{≈-sym, ≈-trans, ring, quote, replaced, ≼-trans, ≼-of-≈, Nonneg, slack, number, _⊞_, _⊠_, multiple, certify, ofℕ-mono, ofℕ-suc, Within, within-of-≈, within-weaken, within→distance}
+use Rattle.decay.proofs.Algebra.{≈-sym, ≈-trans, ring, quote, replaced, ≼-trans, ≼-of-≈, slack, number, _⊞_, _⊠_, multiple, certify, ofℕ-mono, ofℕ-suc, Within, within-of-≈, within-weaken, within→distance}
 use Rattle.decay.proofs.step.Shares.{step-sound}
 use Rattle.decay.proofs.factors.Instants.{range}
 use Units.{eps, eps-nonneg, one-eps, share-is, share-nonneg, share-mono, share-sum, share-one}

@@ -12,7 +12,7 @@ pub struct Step {
     pub filled: u64,
 }
 
-// A term of a series in its two parts: of the BOD lost, and of what takes its place in the deficit and is filled again within the step.
+// A term of a series in its two parts: BOD lost, and the deficit made of it that is filled again within the step.
 pub struct Terms {
     pub lost: u64,
     pub back: u64,
@@ -59,7 +59,7 @@ pub fn next_terms(before: Terms, y: u64, z: u64, j: u64) -> Terms
     }
 }
 
-// The sum with term i + 1 of a series, of alternating sign.
+// The sum with term i + 1 of a series: the first, the third and so on are added, the others taken away.
 pub fn with_term(sum: u64, t: u64, i: u64) -> u64
     requires { ⌜ (t ≤ sum) × (sum ≤ 2 * small) ⌝ }
     ensures { λ r. ⌜ r ≡ withTerm sum t i ⌝ }
@@ -79,10 +79,7 @@ pub fn series(y: u64, z: u64) -> SeriesSum
         terms = next_terms(terms, y, z, count + 1);
         let t = terms.lost + terms.back;
         if t == 0 {
-            return SeriesSum {
-                sum: sum,
-                count: count,
-            };
+            break;
         }
         sum = with_term(sum, t, count);
         count = count + 1;

@@ -76,8 +76,8 @@ fn reach(k1: u16, k2: u16, volume: u32, flow: u32)
     instants(s);
 }
 
-// Reaches of equal rates in pairs, the exponents of a step one part of 2^-44 apart: a second term of both series, a third of BOD used, a third
-// of BOD lost, a fourth of BOD used, a fourth of BOD lost.
+// Reaches of equal rates in pairs, the exponents of a step one part of 2^-44 apart. From the first of a pair to the second comes a second term
+// of all three series, a third of BOD used, a third of BOD lost and deficit filled, a fourth of BOD used, a fourth of BOD lost and deficit filled.
 fn counts_change() {
     reach(100, 100, 724, 2427);
     reach(700, 700, 333, 7814);

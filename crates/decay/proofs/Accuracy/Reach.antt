@@ -9,7 +9,7 @@ use Rattle.decay.specs.Exact.{power, factorial, exponent, S, F}
 use Rattle.decay.specs.Fixed.{small}
 use Rattle.decay.specs.Step.{RatesPass, exponentOf, seriesOf, stepOf}
 use Rattle.decay.specs.Promise.{share}
-use Rattle.decay.proofs.Algebra.{≈-sym, ≈-trans, ring-by, _⋅_, _&_, none, quote, replaced, ≼-of-≈, ≼-trans, Nonneg, slack, number, _⊞_, _⊠_, multiple, certify, certify-times, positive-whole, ÷-cancel-pos, ofℕ-≈, Within}
+use Rattle.decay.proofs.Algebra.{≈-sym, ≈-trans, ring-by, _⋅_, _&_, none, quote, ≼-of-≈, ≼-trans, Nonneg, slack, number, _⊞_, _⊠_, multiple, certify, certify-times, positive-whole, ÷-cancel-pos, ofℕ-≈, Within}
 use Rattle.decay.proofs.step.Shares.{exponent-small, step-sound}
 use Rattle.decay.proofs.Accuracy.Units.{eps, eps-nonneg, share-nonneg, share-mono, share-one, Below, exponent-below}
 use Rattle.decay.proofs.Accuracy.Step.{Exponents, ExactTerms, Sum, lost-near, used-near}
@@ -138,7 +138,7 @@ module _ {N k1 k2 v Q : ℕ} (long : 40 ≤ N) (p : RatesPass k1 k2 v Q) where
         small-z = small-exponent l v Q i;
       }
 
-  -- the share of a rate by itself: BOD lost or deficit filled
+  -- the share of a rate by itself, BOD lost or deficit filled: any second rate will do
   rate-near :
       (k : ℕ) →
       k * v ≤ 345600 * Q →
@@ -146,8 +146,8 @@ module _ {N k1 k2 v Q : ℕ} (long : 40 ≤ N) (p : RatesPass k1 k2 v Q) where
   rate-near k h =
       let y = exponent k v Q 1 in
       let sign = exponent-nonneg k v Q 1 in
-      let step = exponent-step k v Q h in
-      within-lost (S N y) (S 6 y) _ (e y 5) _ (ofℕ 1 ÷ ofℕ (2 ^ 56)) (S-short long sign step) (six-terms y) tail-S (e-nonneg sign 5) (small-e sign step)
+      let short = exponent-step k v Q h in
+      within-lost (S N y) (S 6 y) _ (e y 5) _ (ofℕ 1 ÷ ofℕ (2 ^ 56)) (S-short long sign short) (six-terms y) tail-S (e-nonneg sign 5) (small-e sign short)
       (lost-near (exponentOf k v Q) (exponentOf k v Q) y y (e y) (d y y) (exponents k k h h) (exact-terms y y) (exponent-small k v Q h))
 
   -- the share that both rates make: BOD used

@@ -6,17 +6,19 @@ use Rattle.decay.specs.Fraction.{Fraction, ofℕ, _+ᶠ_, -ᶠ_, _-ᶠ_,
 use Rattle.decay.proofs.Algebra.{≈-sym, quote, Nonneg, slack, number, _⊞_, _⊠_, multiple, certify, certify-times, ofℕ-mono}
 use Rattle.decay.proofs.Accuracy.Units.{eps, eps-nonneg, Floor, Below}
 
--- t lies below e by at most 130/64 of a unit, and e is at most 1/256
-pub record Rough (e t : Fraction) : Type 0 where
+-- t lies below e by at most c 64ths of a unit, and e is at most 1/s
+pub record Under (c s : ℕ) (e t : Fraction) : Type 0 where
   pub low : t ≼ e
-  pub high : ofℕ 64 *ᶠ e ≼ ofℕ 64 *ᶠ t +ᶠ ofℕ 130 *ᶠ eps
-  pub small : ofℕ 256 *ᶠ e ≼ ofℕ 1
+  pub high : ofℕ 64 *ᶠ e ≼ ofℕ 64 *ᶠ t +ᶠ ofℕ c *ᶠ eps
+  pub small : ofℕ s *ᶠ e ≼ ofℕ 1
 
--- t lies below e by at most 65/64 of a unit, and e is at most 1/512
-pub record TermNear (e t : Fraction) : Type 0 where
-  pub low : t ≼ e
-  pub high : ofℕ 64 *ᶠ e ≼ ofℕ 64 *ᶠ t +ᶠ ofℕ 65 *ᶠ eps
-  pub small : ofℕ 512 *ᶠ e ≼ ofℕ 1
+-- a term that the next one is made from
+abbrev pub Rough : Fraction → Fraction → Type 0
+Rough = Under 130 256
+
+-- a term that is made from such a one
+abbrev pub TermNear : Fraction → Fraction → Type 0
+TermNear = Under 65 512
 
 -- The next term: e' = y × e / (n + 2) exactly, and t' is the floor of t × q / (n + 2), where q lies below y by at most a unit.
 module _

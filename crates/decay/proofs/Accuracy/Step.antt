@@ -1,6 +1,5 @@
 -- The shares of a step lie within a few units of the exact ones: the terms one by one, then their sums.
 -- The exact terms come in by their recurrences alone, e_j = y × e_(j-1) / j and d_j = (y × e_(j-1) + z × d_(j-1)) / j.
-use mathlib.Core.Path.{_≡_, refl}
 use mathlib.Core.List.{[], _∷_}
 use Prim.Native.Nat.{ℕ, zero, suc, _+_, _≤_, zero-le}
 use native.Mathlib.Numerals.{add-two}
@@ -10,9 +9,9 @@ use Rattle.decay.specs.Fixed.{small}
 use Rattle.decay.specs.Step.{nextTerms, termsAt, termAt, seriesOf}
 use Rattle.decay.specs.Promise.{share}
 use Rattle.decay.proofs.Algebra.{≈-refl, ≈-sym, ≈-trans, +ᶠ-cong, *ᶠ-cong, ring, ring-by, _⋅_, _&_, none, quote, ≼-by, slack, number, _⊞_, _⊠_, multiple, certify}
-use Rattle.decay.proofs.step.Shares.{term-alone, series-sum}
+use Rattle.decay.proofs.step.Shares.{first-lost, first-term, term-alone, series-sum}
 use Rattle.decay.proofs.Accuracy.Units.{eps, share-nonneg, share-sum, share-equal, Floor, term-floor, Below}
-use Rattle.decay.proofs.Accuracy.Series.{Rough, TermNear, next-near, rough-first, rough-near, rough-both}
+use Rattle.decay.proofs.Accuracy.Series.{Under, Rough, TermNear, next-near, rough-first, rough-near, rough-both}
 
 rough-cong : {e e' t t' : Fraction} → e ≈ e' → t ≈ t' → Rough e t → Rough e' t'
 rough-cong {e} {e'} {t} {t'} p q h =
@@ -32,18 +31,10 @@ lost-floor Y Z i = rw add-two (term-floor ((termsAt Y Z i) .lost) Y (suc (suc i)
 
 back-floor :
     (Y Z i : ℕ) →
-    Floor (suc (suc i)) (share ((termsAt Y Z i) .lost + (termsAt Y Z i) .back) *ᶠ share Z) (share ((termsAt Y Z (suc i)) .back))
-unfolding termsAt nextTerms
+    Floor (suc (suc i)) (share (termAt Y Z i) *ᶠ share Z) (share ((termsAt Y Z (suc i)) .back))
+unfolding termAt termsAt nextTerms
 back-floor Y Z i =
     rw add-two (term-floor ((termsAt Y Z i) .lost + (termsAt Y Z i) .back) Z (suc (suc i)) (omega arith))
-
-first-lost : (Y Z : ℕ) → (termsAt Y Z 0) .lost ≡ Y
-unfolding termsAt
-first-lost Y Z = refl
-
-first-both : (Y Z : ℕ) → (termsAt Y Z 0) .lost + (termsAt Y Z 0) .back ≡ Y
-unfolding termsAt
-first-both Y Z = omega arith
 
 -- the exponents of a step and their whole-number floors
 pub record Exponents (Y Z : ℕ) (y z : Fraction) : Type 0 where
@@ -64,21 +55,16 @@ pub record Sum (X L : Fraction) (over under : ℕ) : Type 0 where
   pub high : ofℕ 64 *ᶠ X ≼ ofℕ 64 *ᶠ L +ᶠ ofℕ over *ᶠ eps
   pub low : ofℕ 64 *ᶠ L ≼ ofℕ 64 *ᶠ X +ᶠ ofℕ under *ᶠ eps
 
--- t lies below e by at most c 64ths of a unit
-record Under (c : ℕ) (e t : Fraction) : Type 0 where
-  pub low : t ≼ e
-  pub high : ofℕ 64 *ᶠ e ≼ ofℕ 64 *ᶠ t +ᶠ ofℕ c *ᶠ eps
-
 -- the sum of four terms, of which the first is the exponent
 four-terms :
-    (c : ℕ) (e1 e2 e3 e4 t1 t2 t3 t4 L : Fraction) →
+    (c s : ℕ) (e1 e2 e3 e4 t1 t2 t3 t4 L : Fraction) →
     Below e1 t1 →
-    Under c e2 t2 →
-    Under c e3 t3 →
-    Under c e4 t4 →
+    Under c s e2 t2 →
+    Under c s e3 t3 →
+    Under c s e4 t4 →
     L +ᶠ t2 +ᶠ t4 ≈ t1 +ᶠ t3 →
     Sum (e1 -ᶠ e2 +ᶠ e3 -ᶠ e4) L (64 + c) (c + c)
-four-terms c e1 e2 e3 e4 t1 t2 t3 t4 L h1 h2 h3 h4 sum =
+four-terms c s e1 e2 e3 e4 t1 t2 t3 t4 L h1 h2 h3 h4 sum =
     record {
       high =
           certify (e1 ∷ e2 ∷ e3 ∷ e4 ∷ t1 ∷ t2 ∷ t3 ∷ t4 ∷ L ∷ ofℕ c ∷ eps ∷ [])
@@ -133,13 +119,14 @@ module _ (Y Z : ℕ) (y z : Fraction) (e d : ℕ → Fraction) (x : Exponents Y 
   w-next n =
       ring-by (ofℕ (suc n) ∷ y ∷ z ∷ e n ∷ d n ∷ e (suc n) ∷ d (suc n) ∷ []) (ofℕ 1 ⋅ k .d-next n & ofℕ 1 ⋅ k .e-next n & none) (search quote depth 40 fits 9999) tt
 
-  next-back : (i : ℕ) → Rough (d (suc i)) (share ((termsAt Y Z i) .lost + (termsAt Y Z i) .back)) → TermNear (w (suc (suc i))) (v (suc i))
+  next-back : (i : ℕ) → Rough (d (suc i)) (share (termAt Y Z i)) → TermNear (w (suc (suc i))) (v (suc i))
   next-back i h =
-      next-near i z (share Z) (d (suc i)) (share ((termsAt Y Z i) .lost + (termsAt Y Z i) .back)) (w (suc (suc i))) (v (suc i)) (x .near-z) (x .small-z) (share-nonneg Z) (share-nonneg ((termsAt Y Z i) .lost + (termsAt Y Z i) .back)) h (w-next (suc i)) (back-floor Y Z i)
+      next-near i z (share Z) (d (suc i)) (share (termAt Y Z i)) (w (suc (suc i))) (v (suc i)) (x .near-z) (x .small-z) (share-nonneg Z) (share-nonneg (termAt Y Z i)) h (w-next (suc i)) (back-floor Y Z i)
 
-  rough-all : (i : ℕ) → Rough (d (suc i)) (share ((termsAt Y Z i) .lost + (termsAt Y Z i) .back))
+  rough-all : (i : ℕ) → Rough (d (suc i)) (share (termAt Y Z i))
+  unfolding termAt
   rough-all zero =
-      rough-cong (≈-sym (k .d-first)) (rw (first-both Y Z) (≈-refl (share Y))) (rough-first (x .near-y) (x .small-y))
+      rough-cong (≈-sym (k .d-first)) (rw (first-term Y Z) (≈-refl (share Y))) (rough-first (x .near-y) (x .small-y))
   rough-all (suc i) =
       rough-cong (ring (e (suc (suc i)) ∷ d (suc (suc i)) ∷ []) (search quote depth 40 fits 9999) tt)
       (≈-sym (share-sum ((termsAt Y Z (suc i)) .lost) ((termsAt Y Z (suc i)) .back)))
@@ -153,19 +140,15 @@ module _ (Y Z : ℕ) (y z : Fraction) (e d : ℕ → Fraction) (x : Exponents Y 
         high = ≼-by p (x .near-y .high) (≈-refl (share Y +ᶠ eps));
       }
 
-  under-lost : (i : ℕ) → Under 65 (e (suc (suc i))) (share (termAt Y 0 (suc i)))
-  under-lost i = rw (term-alone Y Z (suc i)) (record { low = near-lost i .low; high = near-lost i .high })
-
-  under-used : (i : ℕ) → Under 130 (d (suc (suc i))) (share (termAt Y Z (suc i)))
-  unfolding termAt
-  under-used i = record { low = rough-all (suc i) .low; high = rough-all (suc i) .high }
+  near-alone : (i : ℕ) → TermNear (e (suc (suc i))) (share (termAt Y 0 (suc i)))
+  near-alone i = rw (term-alone Y Z (suc i)) (near-lost i)
 
   pub lost-near : Y ≤ small → Sum (e 1 -ᶠ e 2 +ᶠ e 3 -ᶠ e 4) (share ((seriesOf Y 0) .sum)) 129 130
   lost-near hY =
-      four-terms 65 (e 1) (e 2) (e 3) (e 4) (share Y) _ _ _ (share ((seriesOf Y 0) .sum)) (below-first (k .e-first)) (under-lost 0) (under-lost 1) (under-lost 2)
+      four-terms 65 512 (e 1) (e 2) (e 3) (e 4) (share Y) _ _ _ (share ((seriesOf Y 0) .sum)) (below-first (k .e-first)) (near-alone 0) (near-alone 1) (near-alone 2)
       (share-series Y 0 hY zero-le)
 
   pub used-near : Y ≤ small → Z ≤ small → Sum (d 1 -ᶠ d 2 +ᶠ d 3 -ᶠ d 4) (share ((seriesOf Y Z) .sum)) 194 260
   used-near hY hZ =
-      four-terms 130 (d 1) (d 2) (d 3) (d 4) (share Y) _ _ _ (share ((seriesOf Y Z) .sum)) (below-first (k .d-first)) (under-used 0) (under-used 1) (under-used 2)
+      four-terms 130 256 (d 1) (d 2) (d 3) (d 4) (share Y) _ _ _ (share ((seriesOf Y Z) .sum)) (below-first (k .d-first)) (rough-all 1) (rough-all 2) (rough-all 3)
       (share-series Y Z hY hZ)

@@ -4,41 +4,14 @@ use mathlib.Core.Path.{_≡_, refl, sym, _∙_, ap}
 use mathlib.Core.Bool.{Bool, true, false, cond}
 use mathlib.Core.Logic.{⊎-elim}
 use Prim.Native.Nat.{ℕ, zero, suc, _+_, _-_, _*_, _/_, _%_, _≤_, _<_, zero-le}
-use native.Mathlib.Nat.{
-  div-le-self,
-  div-mul-le-self,
-  div-le-of-le-mul,
-  eq-or-lt-of-le,
-  le-div-iff-mul-le,
-  le-trans,
-  mul-le-mul,
-  mul-le-mul-right,
-  mul-zero,
-  zero-mul,
-  zero-div,
-}
+use native.Mathlib.Nat.{div-le-self, div-mul-le-self, div-le-of-le-mul, eq-or-lt-of-le, le-div-iff-mul-le, le-trans, mul-le-mul, mul-le-mul-right, mul-zero, zero-mul, zero-div}
 use native.Mathlib.Numerals.{add-one, add-two}
 use native.Mathlib.Omega.{arith}
 use lib.Dec.{eqb}
 use borrow.Author.Tests.{eqb-true, eqb-false, eq-eqb, ne-eqb}
 use Rattle.decay.specs.Fixed.{one, small, product, quotient}
-use Rattle.decay.specs.Step.{
-  RatesPass,
-  exponentOf,
-  termOf,
-  nextTerms,
-  termsAt,
-  termAt,
-  withTerm,
-  sumOf,
-  mostTerms,
-  countFrom,
-  seriesOf,
-  SumsExactly,
-  stepOf,
-}
+use Rattle.decay.specs.Step.{RatesPass, exponentOf, termOf, nextTerms, termsAt, termAt, withTerm, sumOf, mostTerms, countFrom, seriesOf, SumsExactly, stepOf}
 use Rattle.decay.specs.Factors.{SoundStep}
-use Rattle.decay.specs.declared.step.Terms.{Terms}
 use Rattle.decay.proofs.fixed.Digits.{product-small, product-mono}
 use Rattle.decay.proofs.step.SeriesRows
 
@@ -60,29 +33,42 @@ term-mono : {a b : ℕ} (y j k : ℕ) → 0 < j → a ≤ b → j ≤ k → term
 unfolding termOf
 term-mono {a} {b} y j k p h l = div-mono p (product-mono {a = a} {b = y} {c = b} {d = y} h (omega arith)) l
 
--- a sum with one more term is at most so much less or more
-record Bounded (s t r : ℕ) : Type 0 where
+-- a sum with one more term differs from it by at most that term
+record MovedBy (s t r : ℕ) : Type 0 where
   pub lower : s ≤ r + t
   pub upper : r ≤ s + t
 
-with-bounds : (s t i : ℕ) → Bounded s t (withTerm s t i)
+with-bounds : (s t i : ℕ) → MovedBy s t (withTerm s t i)
 unfolding withTerm
 with-bounds s t i = go (eqb (i % 2) 0)
   where
-    go : (even : Bool) → Bounded s t (cond even (s + t) (s - t))
+    go : (even : Bool) → MovedBy s t (cond even (s + t) (s - t))
     go true = omega arith
     go false = omega arith
 
--- ---- where a series stops
+-- ---- the first terms and the next, and where a series stops
 
 module _ (y z : ℕ) where
+  pub first-lost : (termsAt y z 0) .lost ≡ y
+  unfolding termsAt
+  first-lost = refl
+
+  first-back : (termsAt y z 0) .back ≡ 0
+  unfolding termsAt
+  first-back = refl
+
+  pub first-term : termAt y z 0 ≡ y
+  unfolding termAt
+  first-term = omega (arith, first-lost, first-back)
+
+  pub first-sum : sumOf y z 1 ≡ y
+  unfolding sumOf withTerm
+  first-sum = omega (arith, first-term)
+
   -- the term after the first n, as the loop makes it
   pub next-term : (n : ℕ) → 1 ≤ n → nextTerms (termsAt y z (n - 1)) y z (n + 1) ≡ termsAt y z n
   unfolding termsAt
-  next-term zero h = absurd (none h)
-    where
-      none : 1 ≤ 0 → ⊥
-      none p = omega arith
+  next-term zero h = absurd (omega arith)
   next-term (suc n) h = rw (add-one, add-two, less-one)
     where
       less-one : suc n - 1 ≡ n
@@ -119,25 +105,18 @@ module _ (y z : ℕ) where
     pub none-zero : (i : ℕ) → n ≤ i → i < c → 0 < termAt y z i
     pub next-zero : c < n + k → termAt y z c ≡ 0
 
+  -- no further term is counted: the next is 0, or there may be none
+  none-further : (n k : ℕ) → (n < n + k → termAt y z n ≡ 0) → CountsFrom n k n
+  none-further n k h =
+      record { from = omega arith; to = omega arith; none-zero = λ i p l. omega arith; next-zero = h }
+
   counts-from : (n k : ℕ) → CountsFrom n k (countFrom y z n k)
   unfolding countFrom
-  counts-from n zero =
-      record {
-        from = omega arith;
-        to = omega arith;
-        none-zero = λ i h l. omega arith;
-        next-zero = λ h. omega arith;
-      }
+  counts-from n zero = none-further n zero (λ h. omega arith)
   counts-from n (suc k) = go (eqb (termAt y z n) 0) refl (counts-from (suc n) k)
     where
       go : (t : Bool) → eqb (termAt y z n) 0 ≡ t → CountsFrom (suc n) k (countFrom y z (suc n) k) → CountsFrom n (suc k) (cond t n (countFrom y z (suc n) k))
-      go true p rest =
-          record {
-            from = omega arith;
-            to = omega arith;
-            none-zero = λ i h l. omega arith;
-            next-zero = λ h. eqb-true _ _ p;
-          }
+      go true p rest = none-further n (suc k) (λ h. eqb-true _ _ p)
       go false p rest =
           record {
             from = omega (arith, rest .from);
@@ -198,14 +177,6 @@ module _ (y z : ℕ) (hy : y ≤ small) (hz : z ≤ small) where
       (omega (arith, terms-fall i, term-parts y z (suc i), term-parts y z i))
       (omega arith)
 
-  first-lost : (termsAt y z 0) .lost ≡ y
-  unfolding termsAt
-  first-lost = refl
-
-  first-back : (termsAt y z 0) .back ≡ 0
-  unfolding termsAt
-  first-back = refl
-
   lost-by : (i : ℕ) → 256 * ((i + 2) * (termsAt y z (suc i)) .lost) ≤ (termsAt y z i) .lost
   unfolding termsAt nextTerms
   lost-by i = term-falls ((termsAt y z i) .lost) y (i + 2) hy
@@ -220,8 +191,8 @@ module _ (y z : ℕ) (hy : y ≤ small) (hz : z ≤ small) where
   fifth-zero =
       omega (
         arith,
-        first-lost,
-        first-back,
+        first-lost y z,
+        first-back y z,
         lost-by 0,
         lost-by 1,
         lost-by 2,
@@ -232,17 +203,9 @@ module _ (y z : ℕ) (hy : y ≤ small) (hz : z ≤ small) where
         back-by 3,
       )
 
-  pub first-term : termAt y z 0 ≡ y
-  unfolding termAt
-  first-term = omega (arith, first-lost, first-back)
-
   pub terms-small : (i : ℕ) → termAt y z i ≤ small
-  terms-small zero = omega (arith, first-term)
+  terms-small zero = omega (arith, first-term y z)
   terms-small (suc i) = omega (arith, terms-small i, terms-fall i)
-
-  pub first-sum : sumOf y z 1 ≡ y
-  unfolding sumOf withTerm
-  first-sum = omega (arith, first-term)
 
   -- a sum has room for its next term, and stays small
   pub record SumFits (n : ℕ) : Type 0 where
@@ -251,11 +214,8 @@ module _ (y z : ℕ) (hy : y ≤ small) (hz : z ≤ small) where
 
   pub sum-fits : (n : ℕ) → 1 ≤ n → SumFits n
   unfolding sumOf
-  sum-fits zero h = absurd (none h)
-    where
-      none : 1 ≤ 0 → ⊥
-      none p = omega arith
-  sum-fits (suc zero) h = omega (arith, first-sum, first-term, terms-fall 0)
+  sum-fits zero h = omega arith
+  sum-fits (suc zero) h = omega (arith, first-sum y z, first-term y z, terms-fall 0)
   sum-fits (suc (suc i)) h =
       let a = with-bounds (sumOf y z (suc i)) (termAt y z (suc i)) (suc i) in
       let r = sum-fits (suc i) (omega arith) in
@@ -282,7 +242,7 @@ module _ (y z : ℕ) (hy : y ≤ small) (hz : z ≤ small) where
   -- the sum as an equation without differences
   pub series-sum : (seriesOf y z) .sum + termAt y z 1 + termAt y z 3 ≡ y + termAt y z 2
   unfolding sumOf withTerm
-  series-sum = omega (arith, stop-changes-nothing, first-term, terms-fall 0, terms-fall 1, terms-fall 2)
+  series-sum = omega (arith, stop-changes-nothing, first-term y z, terms-fall 0, terms-fall 1, terms-fall 2)
 
   pub sum-first : (seriesOf y z) .sum ≤ y
   sum-first = omega (arith, series-sum, terms-fall 1)

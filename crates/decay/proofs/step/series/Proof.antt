@@ -49,7 +49,7 @@ unfolding termsAt
 loop-holds c =
     record {
       terms-are = refl;
-      sum-is = sym (first-sum _ _ (c .pre .0) (c .pre .1));
+      sum-is = sym (first-sum _ _);
       leading = omega arith;
       end = omega arith;
       counts-on = refl;
@@ -81,11 +81,6 @@ add-t c =
     let p = c .before .before .before .before .pre in
     omega (arith, term-made (c .before), terms-small _ _ (p .0) (p .1) (c .before .before .before .loop .count))
 
-returns : tie.Need-returns Inv-loop μ-loop
-returns c =
-    let d = c .before .before in
-    done (d .before .before .loop .inv) (stops-here _ _ _ _ (omega (arith, term-made d)))
-
 with-term-requires : tie.Need-with-term-requires Inv-loop μ-loop
 with-term-requires c κs =
     let d = c .before .before in
@@ -100,8 +95,13 @@ loop-again c =
     let d = c .before .before .before in
     rw (c .with-term .ensures, made d) (term-summed (d .before .before .loop .inv) (omega arith) (λ e. omega (arith, term-made d)))
 
+returns : tie.Need-returns Inv-loop μ-loop
+returns c = done (c .before .loop .inv) (ends-here _ _ _ _ (omega arith))
+
 returns-2 : tie.Need-returns-2 Inv-loop μ-loop
-returns-2 c = done (c .before .loop .inv) (ends-here _ _ _ _ (omega arith))
+returns-2 c =
+    let d = c .before .before in
+    done (d .before .before .loop .inv) (stops-here _ _ _ _ (omega (arith, term-made d)))
 
 pub series-spec : {M : Type 1} → statement M
 series-spec =
@@ -113,9 +113,9 @@ series-spec =
     (λ add-next-terms. omega arith)
     next-terms-requires
     add-t
-    returns
     with-term-requires
     (λ add-count. omega arith)
     (λ loop-less. omega arith)
     loop-again
+    returns
     returns-2)
