@@ -10,7 +10,7 @@
 struct reach {
     uint32_t outlet, temperature, k1, k2, volume, inflow, inflow_bod, inflow_oxygen, load;
     int has_dam;
-    uint32_t share, generating, take, pressure;
+    uint32_t share, generating, take, pressure, sludge;
     /* Worked out: flow from above, before and after the take, undecayed BOD, depth, and sums of flow times the
        feeders' foot values. */
     uint64_t above, mixed, flow, mass;
@@ -39,7 +39,7 @@ static int follows(const uint8_t *file, size_t length, size_t at, const char *ma
     return length - at >= 2 && file[at] == (uint8_t)mark[0] && file[at + 1] == (uint8_t)mark[1];
 }
 
-/* Reads the dam, the take and the pressure at *at where they are there, and moves *at past them. */
+/* Reads the dam, the take, the pressure and the sludge bed at *at where they are there, and moves *at past them. */
 static uint32_t read_added(const uint8_t *file, size_t length, size_t *at, struct reach *r)
 {
     if (follows(file, length, *at, "DM")) {
@@ -66,6 +66,12 @@ static uint32_t read_added(const uint8_t *file, size_t length, size_t *at, struc
         r->pressure = number(file + *at + 2, 2);
         if (r->pressure < 500 || r->pressure > 800)
             return 4;
+        *at += 4;
+    }
+    if (follows(file, length, *at, "SD")) {
+        if (length - *at < 4)
+            return 1;
+        r->sludge = number(file + *at + 2, 2);
         *at += 4;
     }
     return 0;
@@ -132,6 +138,8 @@ static uint32_t check_flows(struct reach *reaches, uint32_t n)
             r->mass = 1000000 * r->flow;
         if (k * r->volume > 345600 * r->flow)
             return 11 + 256 * i;
+        if ((uint64_t)r->sludge * r->volume > 432000 * r->flow)
+            return 14 + 256 * i;
         if (r->outlet) {
             struct reach *next = &reaches[r->outlet];
             next->above += r->flow;
@@ -149,10 +157,14 @@ struct water {
     double bod, oxygen;
 };
 
-/* What a way along a reach starts from: x1 and x2 are the paper's, ratio is x1 / (x2 - x1), 0 for equal rates. */
+/*
+ * What a way along a reach starts from: x1 and x2 are the paper's, ratio is x1 / (x2 - x1), 0 for equal rates. With
+ * surface aeration a sludge bed is a saturation lower by its demand over k2, so that it costs nothing on the way;
+ * without, fall is what it uses down to the foot, in equal parts.
+ */
 struct head {
     struct water water;
-    double saturation, x1, x2, ratio;
+    double saturation, x1, x2, ratio, fall;
 };
 
 /* What it gives: the water at the foot, the lowest oxygen, and the instant of that. */
@@ -173,12 +185,14 @@ static inline struct water water_at(const struct head *h, double part)
     return (struct water){h->water.bod * s1, oxygen};
 }
 
-/* The formulas at every instant. */
-static struct course by_exp(const struct head *h)
+/* The formulas at every instant, for a reach where oxygen falls by a bed without surface aeration and for any other. */
+static inline __attribute__((always_inline)) struct course exp_along(const struct head *h, int falls)
 {
     struct course c = {h->water, h->water.oxygen, 0};
     for (uint32_t m = 1; m <= 1024; m++) {
         c.foot = water_at(h, m / 1024.0);
+        if (falls)
+            c.foot.oxygen -= h->fall * (m / 1024.0);
         if (c.foot.oxygen < c.lowest) {
             c.lowest = c.foot.oxygen;
             c.instant = m;
@@ -187,13 +201,18 @@ static struct course by_exp(const struct head *h)
     return c;
 }
 
+static struct course by_exp(const struct head *h)
+{
+    return h->fall > 0 ? exp_along(h, 1) : exp_along(h, 0);
+}
+
 /*
  * The deficit stepped from instant to instant by multiplication, with no exp() in the loop. Over what is left of a head
  * deficit it is a sum whose terms grow by s1 / s2 a step, so that each step waits for one product of the step before.
  * The deficit that a step makes of BOD, f, is y1 / (y2 - y1) * (s1 - s2), written so that no digits are lost as the
- * rates nearly meet.
+ * rates nearly meet. The deficit of a bed is added step by step only without surface aeration, where all of it is left.
  */
-static struct course stepped(const struct head *h)
+static inline __attribute__((always_inline)) struct course stepped_along(const struct head *h, int falls)
 {
     double y1 = h->x1 / 1024, y2 = h->x2 / 1024, apart = y1 - y2;
     double s1 = exp(-y1), s2 = exp(-y2), growth = exp(-apart);
@@ -202,7 +221,7 @@ static struct course stepped(const struct head *h)
     double deficit = sum, largest = sum;
     uint32_t instant = 0;
     for (uint32_t m = 1; m <= 1024; m++) {
-        sum += term;
+        sum += falls ? term + h->fall / 1024 : term;
         term *= growth;
         left *= s2;
         deficit = sum * left;
@@ -212,6 +231,11 @@ static struct course stepped(const struct head *h)
         }
     }
     return (struct course){{h->water.bod * exp(-h->x1), h->saturation - deficit}, h->saturation - largest, instant};
+}
+
+static struct course stepped(const struct head *h)
+{
+    return h->fall > 0 ? stepped_along(h, 1) : stepped_along(h, 0);
 }
 
 /*
@@ -229,11 +253,13 @@ static double critical_part(const struct head *h)
 /*
  * Foot and critical point in closed form. This answers a slightly different question: the lowest oxygen is that at
  * the critical time itself, not the lowest of 1,025 values, and the instant is that time to the nearest 1024th.
+ * Without surface aeration there is no critical time, with a bed or without one, and the lowest oxygen is at the foot.
  */
 static struct course closed(const struct head *h)
 {
     struct course c = {water_at(h, 1), h->water.oxygen, 0};
     double part = critical_part(h);
+    c.foot.oxygen -= h->fall;
     if (part > 0 && part < 1) { /* false for no number */
         c.lowest = h->saturation - h->x1 / h->x2 * h->water.bod * exp(-h->x1 * part);
         c.instant = (uint32_t)(1024 * part + 0.5);
@@ -260,8 +286,12 @@ static struct head head_of(const struct reach *r)
     bod = (above * bod + 1e3 * r->inflow * r->inflow_bod + 1e6 * r->load) / mixed;
     oxygen = (above * oxygen + 1e3 * r->inflow * r->inflow_oxygen) / mixed;
 
-    double x1 = (double)r->k1 * r->volume / (86400 * flow), x2 = (double)r->k2 * r->volume / (86400 * flow);
-    return (struct head){{bod, oxygen}, saturation, x1, x2, x1 == x2 ? 0 : x1 / (x2 - x1)};
+    double x1 = (double)r->k1 * r->volume / (86400 * flow), x2 = (double)r->k2 * r->volume / (86400 * flow), fall = 0;
+    if (r->sludge && r->k2)
+        saturation -= 1e6 * r->sludge / r->k2;
+    else if (r->sludge)
+        fall = 1e6 * r->sludge * r->volume / (86400 * flow);
+    return (struct head){{bod, oxygen}, saturation, x1, x2, x1 == x2 ? 0 : x1 / (x2 - x1), fall};
 }
 
 static void write_record(const struct reach *r, const struct head *h, const struct course *c, uint8_t *record)

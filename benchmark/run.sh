@@ -21,7 +21,10 @@ for count in 1 2 4 8 16 32 64; do
     ../tools/river make "$name.txt" "$name.river"
     rivers+=("$name.river")
 done
-"$scratch/bench" ../examples/town.river ../examples/chain.river "${rivers[@]}"
+# The chain with a sludge bed at each reach: what a bed costs.
+grep -v '^#' ../examples/chain.txt | sed 's/$/ sludge 1500/' > "$scratch/chain-beds.txt"
+../tools/river make "$scratch/chain-beds.txt" "$scratch/chain-beds.river"
+"$scratch/bench" ../examples/town.river ../examples/chain.river "$scratch/chain-beds.river" "${rivers[@]}"
 cat <<'END'
 
 proved       xylandreo_report
@@ -33,4 +36,5 @@ checks       reading and flow check alone (calls that are refused with 12), part
 ns a step    the rest of the proved time over 1,024 steps a reach: head, step shares, instants, record
 difference   largest distance of a concentration from that of the proved report, in units of 0.000001 mg/L
 of instants  the same of the critical instant, in 1024ths of the travel time
+chain-beds   the chain with a sludge bed at each reach; chain-N, its first N reaches without
 END

@@ -51,6 +51,9 @@ make_odd_files() {
     { head -c 66 two-pressure.river; printf '\377\377'; } > "$1/pressure-too-large.river"
     { head -c 30 two.river; printf 'BP\002\274BP\002\274'; tail -c +31 two.river; } > "$1/pressure-twice.river"
     { head -c 30 two-take.river; printf 'BP\002\274'; tail -c +31 two-take.river; } > "$1/pressure-before-take.river"
+    head -c 59 two-sludge.river > "$1/sludge-cut.river"
+    { head -c 30 two.river; printf 'SD\005\334SD\005\334'; tail -c +31 two.river; } > "$1/sludge-twice.river"
+    { cat two-sludge.river; tail -c +65 two-pressure.river; } > "$1/sludge-before-pressure.river"
     { cat town.river; echo; } > "$1/line-end-more.river"
     { cat chain.river; head -c 5000000 /dev/zero; } > "$1/long.river"
     cp town.txt "$1/text.river"
@@ -135,6 +138,11 @@ says 'pressure-too-large.river: refused 4 reach 2: a field is out of range: pres
 says 'pressure-twice.river: refused 2 reach 2: the mark'
 says 'pressure-before-take.river: refused 2 reach 2: the mark'
 says '4-low-pressure.river: refused 4 reach 1: a field is out of range: pressure is 499, not from 500 to 800 mm of mercury$'
+expect 1 "$display" "$scratch"/odd/sludge-*.river refused/14-thick-bed.river
+says 'sludge-cut.river: refused 1 reach 2: fewer bytes'
+says 'sludge-twice.river: refused 2 reach 2: the mark'
+says 'sludge-before-pressure.river: refused 6 reach 0: bytes remain'
+says '14-thick-bed.river: refused 14 reach 1: the reach is too long for its sludge bed, which uses more than 5 mg/L, and must be split$'
 expect 1 "$display" refused/5-uphill.river "$scratch"/odd/outlet-*.river "$scratch/odd/text.river"
 says 'refused 5 reach 2: the outlet is wrong: outlet is 2, not 3$'
 says 'refused 5 reach 1: the outlet is wrong: outlet is 1, not from 2 to 5$'
@@ -146,13 +154,15 @@ expect 0 "$collection" .
 expect 1 "$collection" refused
 expect 1 "$collection" "$scratch/odd"
 says '^text.river .*; this looks like a text; tools/river make'
-says '^19 rivers: 0 accepted, 19 refused; rewritten: 0 the same, 0 differ; reports beside them: 0 the same, 0 differ$'
-# A pressure of 760, written out, is another file with the figures of none.
+says '^22 rivers: 0 accepted, 22 refused; rewritten: 0 the same, 0 differ; reports beside them: 0 the same, 0 differ$'
+# A pressure of 760 and a bed that demands nothing, written out, are other files with the figures of none.
 mkdir "$scratch/standard" "$scratch/changed" "$scratch/none"
 { head -c 66 two-pressure.river; printf '\002\370'; } > "$scratch/standard/two.river"
 cp two-dam.report "$scratch/standard/two.report"
+{ head -c 58 two-sludge.river; printf '\000\000'; } > "$scratch/standard/bare.river"
+cp two.report "$scratch/standard/bare.report"
 expect 0 "$collection" "$scratch/standard"
-says '^1 river: 1 accepted, 0 refused; rewritten: 1 the same, 0 differ; reports beside them: 1 the same, 0 differ$'
+says '^2 rivers: 2 accepted, 0 refused; rewritten: 2 the same, 0 differ; reports beside them: 2 the same, 0 differ$'
 cp two.river two.report "$scratch/changed"
 echo >> "$scratch/changed/two.report"
 expect 1 "$collection" "$scratch/changed"

@@ -29,11 +29,21 @@ static int is_pattern(const uint8_t *bytes, size_t length)
     return 1;
 }
 
-/* What the figures of every record keep among themselves. */
+/* The bounds of the figures of every record. */
+static void check_bounds(const struct xylandreo_record *r)
+{
+    int32_t highest = r->head_oxygen > r->foot_oxygen ? r->head_oxygen : r->foot_oxygen;
+    expect(r->head_bod <= XYLANDREO_MAX_BOD, "BOD is at most 1,000 mg/L", 0);
+    expect(r->critical_oxygen >= XYLANDREO_MIN_OXYGEN && highest <= XYLANDREO_MAX_OXYGEN, "oxygen is within its bounds",
+           0);
+}
+
+/* What the figures of every record keep, each by itself and among themselves. */
 static void check_record(const uint8_t *report, uint32_t reach)
 {
     struct xylandreo_record r = xylandreo_record_of(report, reach);
     expect(memcmp(report + (reach - 1) * XYLANDREO_RECORD, "RP", 2) == 0, "each record begins with its mark", 0);
+    check_bounds(&r);
     expect(r.depth >= 1 && r.depth <= reach, "depth is from 1 to the reach's number", 0);
     expect(r.foot_bod <= r.head_bod, "BOD at the foot is at most that at the head", 0);
     expect(r.critical_instant <= XYLANDREO_INSTANTS, "the critical instant lies in the reach", 0);

@@ -23,12 +23,14 @@ extern "C" {
 #define XYLANDREO_DM_BYTES 8
 #define XYLANDREO_WD_BYTES 6
 #define XYLANDREO_BP_BYTES 4
+#define XYLANDREO_SD_BYTES 4
 #define XYLANDREO_RECORD 29
 
 /* Bytes of the longest river file, in which every reach has every record, and of the longest report. */
 #define XYLANDREO_MAX_FILE                                                                   \
     (XYLANDREO_RV_BYTES + XYLANDREO_MAX_REACHES * (XYLANDREO_RE_BYTES + XYLANDREO_DM_BYTES + \
-                                                   XYLANDREO_WD_BYTES + XYLANDREO_BP_BYTES))
+                                                   XYLANDREO_WD_BYTES + XYLANDREO_BP_BYTES + \
+                                                   XYLANDREO_SD_BYTES))
 #define XYLANDREO_MAX_REPORT (XYLANDREO_MAX_REACHES * XYLANDREO_RECORD)
 
 /*
@@ -75,8 +77,9 @@ static inline uint32_t xylandreo_reach(uint32_t result)
 /*
  * What a number means; 1 to 6 are refusals of reading. 10 tests the undecayed BOD, all that has entered the
  * reach and those above it as if nothing had decayed, less what takes draw off, so a river can be refused with
- * 10 though BOD at the head would be far lower. 7, 8, 10 and 13 go by the flow before the reach's own take, 11 by
- * the flow after it. The script `run` takes its reasons from these lines.
+ * 10 though BOD at the head would be far lower. 7, 8, 10 and 13 go by the flow before the reach's own take, 11 and
+ * 14 by the flow after it. 14 tests what the bed uses on the way, whether or not air makes up for it. The script
+ * `run` takes its reasons from these lines.
  */
 static inline const char *xylandreo_reason(uint32_t number)
 {
@@ -95,6 +98,7 @@ static inline const char *xylandreo_reason(uint32_t number)
         "the reach is too long for its rates and must be split",
         "the buffer is too short",
         "the take is not below the flow at the head",
+        "the reach is too long for its sludge bed, which uses more than 5 mg/L, and must be split",
     };
     return number < sizeof reasons / sizeof *reasons ? reasons[number] : "unknown";
 }
@@ -148,6 +152,9 @@ static const struct xylandreo_kind xylandreo_kinds[] = {
     }},
     {"BP", XYLANDREO_BP_BYTES, 1, {
         {"pressure", 2, 2, 500, 800, "mm of mercury"},
+    }},
+    {"SD", XYLANDREO_SD_BYTES, 1, {
+        {"sludge demand", 2, 2, 0, 65535, "thousandths of mg/L a day"},
     }},
 };
 
@@ -257,7 +264,8 @@ static inline struct xylandreo_fault xylandreo_fault_of(const uint8_t *file, siz
  *   21    4   lowest oxygen, two's complement
  *   25    4   oxygen at the foot, two's complement
  *
- * Concentrations are in units of 0.000001 mg/L.
+ * Concentrations are in units of 0.000001 mg/L. BOD is at most 1,000 mg/L; oxygen may lie below zero, and is from
+ * XYLANDREO_MIN_OXYGEN to XYLANDREO_MAX_OXYGEN.
  */
 struct xylandreo_record {
     uint8_t depth;
@@ -272,6 +280,11 @@ struct xylandreo_record {
 
 #define XYLANDREO_UNITS 1000000 /* of one mg/L */
 #define XYLANDREO_INSTANTS 1024 /* of the travel time of a reach */
+
+/* Bounds of all reported figures, in units: BOD from 0, and oxygen. */
+#define XYLANDREO_MAX_BOD 1000000000
+#define XYLANDREO_MIN_OXYGEN (-1640000384)
+#define XYLANDREO_MAX_OXYGEN 20000128
 
 /* Four bytes, high byte first, unsigned. */
 static inline uint32_t xylandreo_unsigned(const uint8_t *p)

@@ -8,9 +8,10 @@ import sys
 
 import reference
 import vectors
-from reference import LONGEST, Card, Dam, Pressure, Refused, River, Take
+from reference import LONGEST, Card, Dam, Pressure, Refused, River, Sludge, Take
 
 CRATE = "crates/file_vectors"
+AMOUNTS = "take", "pressure", "sludge"      # the records of one number
 ROOM = 100              # bytes of the buffer to which a river that was read is written again
 CHAIN_ROOM = LONGEST    # bytes of the buffer for a chain
 
@@ -22,6 +23,7 @@ LEAST = Card(0, 0, 0, 0, 0, 0, 0, 0, 0)
 DM = b"DM\x01\xf4\x00\x00\x03\xe8"
 WD = b"WD\x00\x00\x03\xe8"
 BP = b"BP\x02\xbc"
+SD = b"SD\x0f\xa0"
 
 
 def file(*cards):
@@ -43,6 +45,10 @@ def taken(take, **fields):
 
 def under(pressure, **fields):
     return changed(pressure=Pressure(pressure), **fields)
+
+
+def bedded(sludge, **fields):
+    return changed(sludge=Sludge(sludge), **fields)
 
 
 ONE = file(PLAIN)
@@ -79,6 +85,11 @@ FILES = {
         file(FIRST._replace(pressure=Pressure(801)), PLAIN._replace(outlet=1)), file(FIRST, PLAIN._replace(pressure=Pressure(499))),
         ONE + BP + WD, TWO[:30] + BP + DM + TWO[30:], TWO[:30] + BP + BP + TWO[30:], ONE[:4] + BP + ONE[4:],
     ],
+    "sludges": [
+        ONE + b"SD", ONE + BP + SD[:3], bedded(0, outlet=1), under(801) + SD[:3], changed(outlet=1) + b"SD", TWO[:30] + SD[:3],
+        ONE + SD + BP, TWO[:30] + SD + BP + TWO[30:], ONE + SD + DM, TWO[:30] + SD + WD + TWO[30:], ONE + SD + SD, TWO[:30] + SD + SD + TWO[30:],
+        ONE[:4] + SD + ONE[4:], bedded(65535) + b"\x00",
+    ],
     "trailing": [ONE + b"D", ONE + b"\x00", ONE + ONE[4:], TWO + b"RE", DAMMED + b"M", DAMMED + DM, TWO[:2] + b"\x00\x01" + changed()[4:] + TWO[30:]],
     "lawful": [
         ONE, file(LEAST), file(MOST), TWO, DAMMED, dammed(0, 0), dammed(0, 1), dammed(1000, 100000000), taken(0), taken(100000000),
@@ -87,6 +98,8 @@ FILES = {
         file(PLAIN._replace(outlet=2), PLAIN._replace(outlet=3, dam=Dam(7, 8)), PLAIN),
         file(FIRST, PLAIN._replace(dam=Dam(7, 8), take=Take(2999))), file(MOST_TAKEN),
         under(500), under(760), dammed(7, 8, pressure=Pressure(634)), file(FIRST, MOST_TAKEN._replace(pressure=Pressure(800))),
+        bedded(0), bedded(65535), dammed(7, 8, sludge=Sludge(4000)),
+        file(FIRST._replace(sludge=Sludge(1)), MOST._replace(take=Take(1), pressure=Pressure(500), sludge=Sludge(256))),
     ],
 }
 
@@ -105,6 +118,9 @@ RIVERS = [
     ([PLAIN._replace(pressure=Pressure(500))], 34), ([PLAIN._replace(pressure=Pressure(500))], 33), ([PLAIN._replace(pressure=Pressure(499))], 40),
     ([PLAIN._replace(outlet=1, pressure=Pressure(801))], 40), ([FIRST, PLAIN._replace(pressure=Pressure(65536 + 700))], 80),
     ([FIRST._replace(pressure=Pressure(760)), PLAIN._replace(dam=Dam(1, 2), take=Take(3), pressure=Pressure(800))], 78),
+    ([PLAIN._replace(sludge=Sludge(0))], 34), ([PLAIN._replace(sludge=Sludge(0))], 33), ([PLAIN._replace(sludge=Sludge(65536))], 40),
+    ([PLAIN._replace(outlet=1, sludge=Sludge(65536))], 40), ([FIRST._replace(sludge=Sludge(4294967295)), PLAIN._replace(outlet=9)], 80),
+    ([FIRST._replace(sludge=Sludge(4000)), PLAIN._replace(dam=Dam(1, 2), take=Take(3), pressure=Pressure(800), sludge=Sludge(258))], 82),
 ]
 
 # Chains of so many reaches are written and read again.
@@ -171,7 +187,7 @@ def amount_value(amount):
 
 def card_function(head, card, *given):
     """A function that yields a card, with some of its fields given as parameters of the same name."""
-    fields = reference.reach_values(card)._asdict() | {"dam": dam_value(card.dam), "take": amount_value(card.take), "pressure": amount_value(card.pressure)}
+    fields = reference.reach_values(card)._asdict() | {"dam": dam_value(card.dam)} | {name: amount_value(getattr(card, name)) for name in AMOUNTS}
     return [f"fn {head} -> Card {{", "Card { " + ", ".join(name if name in given else f"{name}: {value}" for name, value in fields.items()) + " }", "}", ""]
 
 
@@ -182,8 +198,10 @@ def card_statements(name, card):
     changes = [f"{name}.{field} = {number};" for field, number in reference.reach_values(card)._asdict().items()
                if field != "outlet" and number != getattr(PLAIN, field)]
     made, records = "plain", [dam_value(card.dam), amount_value(card.take)]
-    if card.pressure:
+    if card.pressure or card.sludge:
         made, records = "plain_with", records + [amount_value(card.pressure)]
+    if card.sludge:
+        made, records = "plain_on", records + [amount_value(card.sludge)]
     return [f"let {'mut ' if changes else ''}{name} = {made}({card.outlet}, {', '.join(records)});"] + changes
 
 
@@ -208,8 +226,10 @@ def source():
     bodies |= functions("counts", [f"many({count});" for count in COUNTS] + ["longest();"], each=7)
     lines = ["// Vectors of the test program, made by tests/file_vectors.py from the reference program.",
              "use crate::shown::{longest, many, show, wrote, wrote_two};", "use river::card::{Amount, Card, Dam};", "",
-             "// The plain card with this outlet, dam, take and pressure."]
-    lines += card_function("plain_with(outlet: u8, dam: Dam, take: Amount, pressure: Amount)", PLAIN, "outlet", "dam", "take", "pressure")
+             "// The plain card with this outlet, dam, take, pressure and sludge bed."]
+    lines += card_function("plain_on(outlet: u8, dam: Dam, take: Amount, pressure: Amount, sludge: Amount)", PLAIN, "outlet", "dam", *AMOUNTS)
+    lines += ["// The plain card with this outlet, dam, take and pressure.",
+              "fn plain_with(outlet: u8, dam: Dam, take: Amount, pressure: Amount) -> Card {", "plain_on(outlet, dam, take, pressure, Amount::Without)", "}", ""]
     lines += ["// The plain card with this outlet, dam and take.", "fn plain(outlet: u8, dam: Dam, take: Amount) -> Card {",
               "plain_with(outlet, dam, take, Amount::Without)", "}", ""]
     lines += ["// The card with the largest numbers in its reach and its dam, and this take."] + card_function("most(take: Amount)", MOST, "take")

@@ -8,8 +8,8 @@ import os
 import random
 
 import reference
-from reference import (AFTER_REACH, DAM, HEADER, LONGEST, PRESSURE, REACH, STANDARD_PRESSURE, TAKE,
-                       Card, Dam, Pressure, Reach, Refused, River, Take)
+from reference import (AFTER_REACH, DAM, HEADER, LONGEST, PRESSURE, REACH, SLUDGE, STANDARD_PRESSURE, TAKE,
+                       Card, Dam, Pressure, Reach, Refused, River, Sludge, Take)
 
 MOST_FLOW = 100_000_000
 MOST_RATE = 20_000
@@ -18,6 +18,7 @@ MOST_BOD = 1_000_000
 MOST_OXYGEN = 20_000
 MOST_LOAD = 2 ** 32 - 1
 LEAST_PRESSURE, MOST_PRESSURE = 500, 800
+MOST_SLUDGE = 2 ** 16 - 1
 
 
 def pick(rng, most):
@@ -61,10 +62,12 @@ RATES = {
     "zero": lambda rng: (0, 0),
     "no decay": lambda rng: (0, pick(rng, MOST_RATE)),
     "no aeration": lambda rng: (pick(rng, MOST_RATE), 0),
+    "little aeration": lambda rng: (rng.choice((0, 1, 7, 230)), rng.choice((1, 1, 2, 3, 9))),
+    "much aeration": lambda rng: (pick(rng, MOST_RATE), MOST_RATE),
     "top": lambda rng: (MOST_RATE, MOST_RATE),
 }
 
-# The volume, where `most` is what check 11 and the field allow.
+# The volume, where `most` is what checks 11 and 14 and the field allow.
 VOLUMES = {
     "any": lambda rng, most: pick(rng, most),
     "long": lambda rng, most: most,
@@ -108,6 +111,16 @@ PRESSURES = {
     "ends": lambda rng: Pressure(rng.choice((LEAST_PRESSURE, LEAST_PRESSURE + 1, STANDARD_PRESSURE - 1, STANDARD_PRESSURE, STANDARD_PRESSURE + 1, MOST_PRESSURE))),
 }
 
+# The demand of the sludge bed, or None, where `most` is what check 14 and the field allow.
+SLUDGES = {
+    "none": lambda rng, most: None,
+    "some": lambda rng, most: rng.choice((None, Sludge(rng.randint(0, most)))),
+    "all": lambda rng, most: Sludge(pick(rng, most)),
+    "most": lambda rng, most: Sludge(most),
+    "small": lambda rng, most: Sludge(min(most, rng.randint(0, 9))),
+    "zero": lambda rng, most: Sludge(0),
+}
+
 TEMPERATURES = {
     "any": lambda rng: rng.randint(0, 35),
     "ends": lambda rng: rng.choice((0, 35)),
@@ -115,7 +128,7 @@ TEMPERATURES = {
 }
 
 TABLES = {"shape": SHAPES, "flow": FLOWS, "rates": RATES, "volume": VOLUMES, "water": WATERS, "dams": DAMS, "takes": TAKES, "pressures": PRESSURES,
-          "temperature": TEMPERATURES}
+          "sludges": SLUDGES, "temperature": TEMPERATURES}
 
 # What a style fixes; the rest is drawn once for a river. "each" draws anew for each reach.
 STYLES = {
@@ -144,7 +157,26 @@ STYLES = {
     "pressures at rich dams": {"pressures": "ends", "dams": "ends", "shape": "near", "water": "rich"},
     "pressures and takes at dams": {"pressures": "all", "takes": "all", "dams": "all", "shape": "near"},
     "some pressures": {"pressures": "some", "dams": "some", "takes": "some", "shape": "near"},
-    "no added records": {"dams": "none", "takes": "none", "pressures": "none"},
+    "beds": {"sludges": "all", "volume": "half"},
+    "beds of most demand": {"sludges": "most", "volume": "long"},
+    "beds of most demand in chains": {"sludges": "most", "volume": "any", "shape": "chain", "rates": "each"},
+    "beds alone": {"sludges": "most", "rates": "zero", "volume": "any"},
+    "beds without aeration": {"sludges": "all", "rates": "no aeration", "volume": "long"},
+    "beds with little aeration": {"sludges": "most", "rates": "little aeration", "volume": "any"},
+    "beds with little aeration, tiny": {"sludges": "most", "rates": "little aeration", "volume": "small", "shape": "chain"},
+    "beds with much aeration": {"sludges": "most", "rates": "much aeration", "volume": "long"},
+    "beds without decay": {"sludges": "all", "rates": "no decay", "volume": "half"},
+    "beds at equal rates": {"sludges": "all", "rates": "equal", "volume": "half"},
+    "beds of 0": {"sludges": "zero"},
+    "beds of 0 at rates of 0": {"sludges": "zero", "rates": "zero", "volume": "any"},
+    "beds in no volume": {"sludges": "all", "volume": "zero"},
+    "small beds": {"sludges": "small", "volume": "long"},
+    "small beds alone": {"sludges": "small", "rates": "zero", "volume": "long"},
+    "some beds": {"sludges": "some", "dams": "some", "takes": "some", "pressures": "some", "shape": "near"},
+    "beds below takes": {"sludges": "most", "takes": "all", "volume": "half"},
+    "beds at dams": {"sludges": "all", "dams": "all", "pressures": "all", "shape": "near"},
+    "foul beds": {"sludges": "most", "water": "foul", "rates": "each", "volume": "long", "shape": "chain"},
+    "no added records": {"dams": "none", "takes": "none", "pressures": "none", "sludges": "none"},
     "tiny": {"flow": "tiny", "volume": "small"},
     "tiny long": {"flow": "tiny", "volume": "long"},
     "huge": {"flow": "huge", "volume": "long"},
@@ -170,9 +202,14 @@ def size(rng):
     return rng.choice((1, 2, 3, rng.randint(2, 6), rng.randint(2, 12), rng.randint(2, 12), rng.randint(2, 40))) if rng.randrange(40) else rng.randint(41, 128)
 
 
+def drawn_way(rng, name):
+    """A way of a table. Half of all rivers are to have no sludge bed, since a bed widens the allowance of the whole river."""
+    return "none" if name == "sludges" and rng.randrange(2) else rng.choice(list(TABLES[name]))
+
+
 def accepted_river(rng, style, n):
     """A river of n reaches that is accepted."""
-    fixed = {name: STYLES[style].get(name) or rng.choice(list(table)) for name, table in TABLES.items()}
+    fixed = {name: STYLES[style].get(name) or drawn_way(rng, name) for name in TABLES}
     outlets = [SHAPES[fixed["shape"]](rng, i, n) for i in range(1, n)] + [0]
     reaches = []
     for i in range(1, n + 1):
@@ -194,9 +231,19 @@ def lawful_card(rng, fixed, outlet, feeders, room):
     card = Card(outlet, way("temperature")(rng), k1, k2, 0, inflow, bod, oxygen, 0)
     so_far = Reach(0, card._replace(take=way("takes")(rng, Reach(0, card, feeders).Qm)), feeders)
     load = (1_000_000 * so_far.Qm - so_far.Mm) // 1_000 * hundredths // 100
-    volume = way("volume")(rng, min(MOST_VOLUME, 345_600 * so_far.Q // max(k1, k2, 1)))
+    volume, sludge = volume_and_bed(rng, way("volume"), way("sludges"), so_far)
     dam = way("dams")(rng, so_far.Qu) if feeders else None
-    return so_far.card._replace(load=min(load, MOST_LOAD), volume=volume, dam=dam, pressure=way("pressures")(rng))
+    return so_far.card._replace(load=min(load, MOST_LOAD), volume=volume, dam=dam, pressure=way("pressures")(rng), sludge=sludge)
+
+
+def volume_and_bed(rng, volume_way, bed_way, reach):
+    """A volume, and a sludge bed or None, that pass checks 11 and 14: either is drawn first, and the other from what it leaves."""
+    longest = min(MOST_VOLUME, 345_600 * reach.Q // max(reach.card.k1, reach.card.k2, 1))
+    if rng.randrange(2):
+        bed = bed_way(rng, MOST_SLUDGE)
+        return volume_way(rng, min(longest, 432_000 * reach.Q // max(1, bed.sludge if bed else 0))), bed
+    volume = volume_way(rng, longest)
+    return volume, bed_way(rng, min(MOST_SLUDGE, 432_000 * reach.Q // max(1, volume)))
 
 
 # ---- Rivers on a limit and just past it
@@ -227,11 +274,11 @@ def bod_limit(past):
 
 
 def length_limit(rate, other, past):
-    """Check 11 for one of the rates."""
+    """Check 11 for one of the rates, without a sludge bed, for which the reach may be too long as well."""
     def change(rng, river, i, reach):
         k = rng.randint(1, MOST_RATE)
         volume = 345_600 * reach.Q // k + past
-        return volume <= MOST_VOLUME and replaced(river, i, **{rate: k, other: rng.randint(0, k)}, volume=volume)
+        return volume <= MOST_VOLUME and replaced(river, i, **{rate: k, other: rng.randint(0, k)}, volume=volume, sludge=None)
     return change
 
 
@@ -248,8 +295,47 @@ def length_after_take(past):
     def change(rng, river, i, reach):
         k, left = rng.randint(1, MOST_RATE), rng.randint(1, max(1, reach.Qm - 1))
         volume = 345_600 * left // k + past
-        return left < reach.Qm and volume <= MOST_VOLUME and replaced(river, i, k1=k, k2=0, volume=volume, take=Take(reach.Qm - left))
+        return left < reach.Qm and volume <= MOST_VOLUME and replaced(river, i, k1=k, k2=0, volume=volume, take=Take(reach.Qm - left), sludge=None)
     return change
+
+
+def rates_below(rng, demand):
+    """Rates with which a reach that is not too long for a bed of this demand passes check 11."""
+    return {"k1": rng.randint(0, min(MOST_RATE, demand // 2)), "k2": rng.randint(0, min(MOST_RATE, demand // 2))}
+
+
+def bed_by_volume(past):
+    """Check 14, by the volume to a demand."""
+    def change(rng, river, i, reach):
+        demand = max(1, pick(rng, MOST_SLUDGE))
+        volume = 432_000 * reach.Q // demand + past
+        return volume <= MOST_VOLUME and replaced(river, i, sludge=Sludge(demand), volume=volume, **rates_below(rng, demand))
+    return change
+
+
+def bed_by_demand(past):
+    """Check 14, by the demand to a volume."""
+    def change(rng, river, i, reach):
+        volume = rng.randint(7 * reach.Q, 6_000 * reach.Q)
+        demand = 432_000 * reach.Q // volume + past
+        return volume <= MOST_VOLUME and replaced(river, i, sludge=Sludge(demand), volume=volume, **rates_below(rng, demand))
+    return change
+
+
+def bed_after_take(past):
+    """Check 14, where the flow before the take would pass."""
+    def change(rng, river, i, reach):
+        demand, left = rng.randint(1, MOST_SLUDGE), rng.randint(1, max(1, reach.Qm - 1))
+        volume = 432_000 * left // demand + past
+        return left < reach.Qm and volume <= MOST_VOLUME and replaced(river, i, sludge=Sludge(demand), volume=volume, take=Take(reach.Qm - left),
+                                                                     **rates_below(rng, demand))
+    return change
+
+
+def too_long_for_all(**fields):
+    """Check 14 is broken, and check 11 too; with other fields perhaps an earlier check."""
+    return lambda rng, river, i, reach: reach.Qm < 4_000_000 and replaced(
+        river, i, sludge=Sludge(MOST_SLUDGE), k1=rng.randint(0, MOST_RATE), k2=MOST_RATE, volume=MOST_VOLUME, **fields)
 
 
 def first_with_take(rng):
@@ -289,6 +375,9 @@ ON_A_LIMIT = {
     "on check 11 k2": length_limit("k2", "k1", 0),
     "on check 11 after a take": length_after_take(0),
     "on check 13": take_limit(0),
+    "on check 14 volume": bed_by_volume(0),
+    "on check 14 demand": bed_by_demand(0),
+    "on check 14 after a take": bed_after_take(0),
 }
 PAST_A_LIMIT = {
     "check 7": lambda rng, river, i, reach: not reach.feeders and replaced(river, i, inflow=0),
@@ -301,6 +390,9 @@ PAST_A_LIMIT = {
     "check 11 after a take": length_after_take(1),
     "check 13": take_limit(1),
     "check 13 one more": take_limit(2),
+    "check 14 volume": bed_by_volume(1),
+    "check 14 demand": bed_by_demand(1),
+    "check 14 after a take": bed_after_take(1),
     # The flow before the take counts.
     "check 8 before a take": flow_limit(1, take=Take(MOST_FLOW)),
     # Two checks are broken, and the first of them is due.
@@ -314,6 +406,9 @@ PAST_A_LIMIT = {
     "check 10 and 13": lambda rng, river, i, reach: reach.Qm < 4_000_000 and replaced(river, i, load=MOST_LOAD, take=Take(reach.Qm)),
     "check 13 and 11": lambda rng, river, i, reach: replaced(river, i, take=Take(reach.Qm), k1=MOST_RATE, volume=MOST_VOLUME),
     "check 10 and 11": lambda rng, river, i, reach: reach.Qm < 4_000_000 and replaced(river, i, load=MOST_LOAD, k1=MOST_RATE, volume=MOST_VOLUME),
+    "check 11 and 14": too_long_for_all(),
+    "check 13 and 14": lambda rng, river, i, reach: replaced(river, i, take=Take(reach.Qm), k1=0, k2=0, sludge=Sludge(MOST_SLUDGE), volume=MOST_VOLUME),
+    "check 10 and 14": too_long_for_all(load=MOST_LOAD),
 }
 
 
@@ -337,10 +432,18 @@ def any_reach(rng, n):
 
 
 def most_reaches(rng):
-    """The longest file that is accepted: 128 reaches, each with a take and a pressure and each but the first with a dam."""
+    """The longest file that is accepted: 128 reaches, each with a take, a pressure and a bed and each but the first with a dam."""
     river = accepted_river(rng, "chain", 128)
-    cards = [card._replace(take=card.take or Take(0), pressure=card.pressure or Pressure(STANDARD_PRESSURE)) for card in river.cards]
+    cards = [card._replace(take=card.take or Take(0), pressure=card.pressure or Pressure(STANDARD_PRESSURE), sludge=card.sludge or Sludge(0))
+             for card in river.cards]
     return River(cards[:1] + [card._replace(dam=Dam(rng.randint(0, 1_000), 0)) for card in cards[1:]])
+
+
+def lowest_oxygen(rng):
+    """Oxygen as low as it can be but for some units: all BOD that may enter is used up, and the bed of each of 128 reaches uses 5 mg/L."""
+    inflow = rng.randint(1, 20_000)
+    first = Card(2, 35, 8, 0, 43_200 * inflow, inflow, MOST_BOD, 0, 0, sludge=Sludge(10))
+    return River([first] + [first._replace(outlet=reach + 1 if reach < 128 else 0, inflow=0, inflow_bod=0) for reach in range(2, 129)])
 
 
 def longest_file(rng):
@@ -356,8 +459,8 @@ KINDS = (HEADER, REACH) + AFTER_REACH
 
 def base_river(rng):
     """An accepted river with every kind of record on its last reach, and each on some other, so that each is met inside and at the end."""
-    river = replaced(accepted_river(rng, "dams", rng.randint(3, 8)), 2, take=Take(0), pressure=Pressure(STANDARD_PRESSURE))
-    return replaced(river, len(river.cards), dam=Dam(rng.randint(0, 1_000), 0), take=Take(0), pressure=Pressure(LEAST_PRESSURE))
+    river = replaced(accepted_river(rng, "dams", rng.randint(3, 8)), 2, take=Take(0), pressure=Pressure(STANDARD_PRESSURE), sludge=Sludge(0))
+    return replaced(river, len(river.cards), dam=Dam(rng.randint(0, 1_000), 0), take=Take(0), pressure=Pressure(LEAST_PRESSURE), sludge=Sludge(1), volume=0)
 
 
 def starts(river):
@@ -501,6 +604,7 @@ OUTLETS_AND_ENDS = {
     "trailing dam": trailing(lambda rng, file: DAM.encode(Dam(0, 0))),
     "trailing take": trailing(lambda rng, file: TAKE.encode(Take(0))),
     "trailing pressure": trailing(lambda rng, file: PRESSURE.encode(Pressure(STANDARD_PRESSURE))),
+    "trailing bed": trailing(lambda rng, file: SLUDGE.encode(Sludge(0))),
     "trailing file": trailing(lambda rng, file: file),
     "trailing to one too many": trailing(lambda rng, file: bytes(LONGEST + 1 - len(file))),
     "trailing long": trailing(lambda rng, file: rng.randbytes(LONGEST + rng.randint(0, 9_000))),
@@ -519,6 +623,7 @@ TWO_FAULTS = {
     "pressure, then outlet": two_faults((lambda n: 1, {"pressure": Pressure(LEAST_PRESSURE - 1)}), (lambda n: 2, {"outlet": 0})),
     "take, then pressure": two_faults((lambda n: n - 1, {"take": Take(100_000_001)}), (lambda n: n, {"pressure": Pressure(0)})),
     "no flow, then pressure": two_faults((lambda n: 1, {"inflow": 0}), (lambda n: n, {"pressure": Pressure(MOST_PRESSURE + 1)})),
+    "thick bed, then pressure": two_faults((lambda n: 1, {"sludge": Sludge(MOST_SLUDGE), "volume": MOST_VOLUME}), (lambda n: n, {"pressure": Pressure(0)})),
     "no flow, then field": two_faults((lambda n: 1, {"inflow": 0}), (lambda n: n, {"volume": 1_000_000_001})),
 }
 
@@ -529,6 +634,12 @@ NOT_DUE = {
     "pressure twice": inserted((PRESSURE, True), PRESSURE.encode(Pressure(LEAST_PRESSURE))),
     "take after pressure": inserted((PRESSURE, True), TAKE.encode(Take(1))),
     "pressure before reach": inserted((HEADER, True), PRESSURE.encode(Pressure(MOST_PRESSURE))),
+    "bed before pressure": moved_up(SLUDGE, PRESSURE),
+    "bed before take": moved_up(SLUDGE, TAKE),
+    "bed before dam": moved_up(SLUDGE, DAM),
+    "bed twice": inserted((SLUDGE, True), SLUDGE.encode(Sludge(MOST_SLUDGE))),
+    "pressure after bed": inserted((SLUDGE, True), PRESSURE.encode(Pressure(LEAST_PRESSURE))),
+    "bed before reach": inserted((HEADER, True), SLUDGE.encode(Sludge(1))),
     "take twice": inserted((TAKE, True), TAKE.encode(Take(1))),
     "dam twice": inserted((DAM, True), DAM.encode(Dam(1, 1))),
     "dam after take": inserted((TAKE, True), DAM.encode(Dam(1, 1))),
@@ -560,7 +671,7 @@ def accepted_kinds():
     kinds = {style: lambda rng, style=style: accepted_river(rng, style, size(rng)) for style in STYLES}
     kinds |= {name: lambda rng, change=change: changed_river(rng, change, last) for name, change in ON_A_LIMIT.items()}
     kinds |= {f"on check 10 {name}": bod_below_take(first, 0) for name, first in BELOW_A_TAKE.items()}
-    kinds["most reaches"] = most_reaches
+    kinds |= {"most reaches": most_reaches, "lowest oxygen": lowest_oxygen}
     return {name: lambda rng, make=make: reference.encode(make(rng)) for name, make in kinds.items()}
 
 

@@ -9,15 +9,15 @@ import sys
 
 import reference
 import vectors
-from reference import Card, Dam, Pressure, Refused, River, Take
+from reference import Card, Dam, Pressure, Refused, River, Sludge, Take
 
 CRATE = "crates/head_vectors"
 OFFSET = 2 ** 31        # the program holds oxygen as units + 2^31
 
 
-def card(outlet, temperature=20, k1=0, k2=0, volume=1000, inflow=3000, bod=2000, oxygen=8000, load=0, dam=None, take=None, pressure=None):
+def card(outlet, temperature=20, k1=0, k2=0, volume=1000, inflow=3000, bod=2000, oxygen=8000, load=0, dam=None, take=None, pressure=None, sludge=None):
     return Card(outlet, temperature, k1, k2, volume, inflow, bod, oxygen, load, Dam(*dam) if dam else None, None if take is None else Take(take),
-                Pressure(pressure) if pressure else None)
+                Pressure(pressure) if pressure else None, None if sludge is None else Sludge(sludge))
 
 
 def two(dam=None, above=None, **more):
@@ -71,6 +71,13 @@ GROUPS = {
         (two((500, 1000), pressure=700), LEVEL, 0),
         (saturations((0, 700), (20, 700), (25, 700), (35, 700), (20, 500), (20, 760), (20, 800)), LEVEL, 12345),
     ],
+    "sludges": [
+        (two((500, 1000), pressure=700, sludge=65535), LEVEL, 0),
+        ([card(0, inflow=1, volume=1000000000, sludge=0)], LEVEL, 0),
+        ([card(0, inflow=10000, volume=4320000, sludge=1000)], LEVEL, 0),
+        ([card(0, inflow=10001, volume=4320000, sludge=1000, take=1)], LEVEL, 0),
+        ([card(0, inflow=100000000, volume=1000000000, sludge=43200)], LEVEL, 0),
+    ],
     "confluences": [(confluence(), LEVEL, 12345), (confluence(), HIGH, 1), (confluence(), LOW, 1234567)],
     "confluences_taken": [(confluence(333, 1), LOW, 1234567)],
     "dams_level": [(dams(), LEVEL, 54321)],
@@ -107,6 +114,15 @@ GROUPS = {
         (two(above=2999), LEVEL, 0),
         (two(above=3000), LEVEL, 0),
         (two(take=4000, k1=20000, volume=1000000000), LEVEL, 0),
+    ],
+    "refusals_14": [
+        ([card(0, inflow=10000, volume=4320000, sludge=1001)], LEVEL, 0),
+        ([card(0, inflow=10000, volume=4320001, sludge=1000)], LEVEL, 0),
+        ([card(0, inflow=10000, volume=4320000, sludge=1000, take=1)], LEVEL, 0),
+        ([card(0, inflow=100000000, volume=1000000000, sludge=43201)], LEVEL, 0),
+        ([card(0, inflow=10000, k1=1000, volume=4320001, sludge=1000)], LEVEL, 0),
+        ([card(0, inflow=10000, k2=1000, volume=4320001, sludge=1000)], LEVEL, 0),
+        ([card(2, volume=1000000000, sludge=65535), card(0, inflow=100000000)], LEVEL, 0),
     ],
 }
 MADE = [(made(False), 2155483648, 1000), (made(True), 2147000000, 12345)]

@@ -23,6 +23,7 @@ from fractions import Fraction
 INSTANTS = 1_024
 SERIES = (40, 41)       # the sums S(x) of all longer series lie between those of these two
 UNITS_A_STEP = 100      # the allowance for each step of depth, in units
+UNITS_WITH_BEDS = 150   # the same in a river whose file has a sludge bed
 STANDARD_PRESSURE = 760     # mm of mercury, that of a reach without the record
 
 
@@ -81,13 +82,15 @@ TAKE = Kind("WD", "take",
             ("take", 4, 0, 100_000_000, "water drawn off at the head, after mixing, litres a second"))
 PRESSURE = Kind("BP", "pressure",
                 ("pressure", 2, 500, 800, "air pressure as it is at the reach, not reduced to sea level, for its saturation, mm of mercury; 760 without it"))
-AFTER_REACH = (DAM, TAKE, PRESSURE)     # the records that may follow a reach, in this order, at most one of a kind
+SLUDGE = Kind("SD", "sludge",
+              ("sludge", 2, 0, most(2), "oxygen demand of the sludge bed, thousandths of mg/L a day; 0 without it"))
+AFTER_REACH = (DAM, TAKE, PRESSURE, SLUDGE)     # the records that may follow a reach, in this order, at most one of a kind
 
 LONGEST = HEADER.size + 128 * (REACH.size + sum(kind.size for kind in AFTER_REACH))
 
 # A card has the numbers of its reach, and for each kind of record after it the values or None.
 Card = namedtuple("Card", [field.name for field in REACH.fields] + [kind.name for kind in AFTER_REACH], defaults=[None] * len(AFTER_REACH))
-Dam, Take, Pressure = DAM.values, TAKE.values, PRESSURE.values
+Dam, Take, Pressure, Sludge = DAM.values, TAKE.values, PRESSURE.values, SLUDGE.values
 River = namedtuple("River", "cards")
 
 
@@ -222,15 +225,16 @@ def write(river, room):
 class Reach:
     """A reach with its feeders and what flows in it: Qm and Mm at its head, mixed, and Q and M from there on, after its take."""
 
-    def __init__(self, number, card, feeders):
+    def __init__(self, number, card, feeders, units=UNITS_A_STEP):
         self.number, self.card, self.feeders = number, card, feeders
         self.take = 0 if card.take is None else card.take.take
+        self.sludge = 0 if card.sludge is None else card.sludge.sludge
         self.Qu = sum(feeder.Q for feeder in feeders)
         self.Qm = self.Qu + card.inflow
         self.Mm = sum(feeder.M for feeder in feeders) + card.inflow * card.inflow_bod + 1_000 * card.load
         self.Q = self.Qm - self.take
         self.depth = 1 + max((feeder.depth for feeder in feeders), default=0)
-        self.allowance = UNITS_A_STEP * self.depth
+        self.allowance = units * self.depth
         self.saturation = saturation(card.temperature, STANDARD_PRESSURE if card.pressure is None else card.pressure.pressure)
 
     @property
@@ -242,7 +246,7 @@ class Reach:
         return self.card.k1 == 0 or self.card.volume == 0
 
     def keeps_oxygen(self):
-        return self.card.k1 == self.card.k2 == 0 or self.card.volume == 0
+        return self.card.k1 == self.card.k2 == self.sludge == 0 or self.card.volume == 0
 
 
 def flow_check(reach):
@@ -254,16 +258,22 @@ def flow_check(reach):
             (9, dam is not None and (not reach.feeders or dam.generating > reach.Qu), f"the dam has {reach.Qu} from above"),
             (10, reach.Mm > 1_000_000 * reach.Qm, f"M is {reach.Mm} at a flow of {reach.Qm}"),
             (13, reach.take >= reach.Qm, f"the take is {reach.take} of a flow of {reach.Qm}"),
-            (11, max(card.k1, card.k2) * card.volume > 345_600 * reach.Q, f"the reach is too long for a flow of {reach.Q}")):
+            (11, max(card.k1, card.k2) * card.volume > 345_600 * reach.Q, f"the reach is too long for a flow of {reach.Q}"),
+            (14, reach.sludge * card.volume > 432_000 * reach.Q, f"the sludge bed is too large for a flow of {reach.Q}")):
         if broken:
             raise Refused(number, reach.number, why)
 
 
+def step_units(river):
+    """The allowance for each step of depth in a river: a bed that uses no oxygen counts too."""
+    return UNITS_A_STEP if all(card.sludge is None for card in river.cards) else UNITS_WITH_BEDS
+
+
 def flows(river):
     """The reaches of a river that passes the flow check."""
-    reaches = []
+    reaches, units = [], step_units(river)
     for number, card in enumerate(river.cards, 1):
-        reaches.append(Reach(number, card, [feeder for feeder in reaches if feeder.card.outlet == number]))
+        reaches.append(Reach(number, card, [feeder for feeder in reaches if feeder.card.outlet == number], units))
         flow_check(reaches[-1])
     return reaches
 
@@ -328,11 +338,26 @@ def factors(reach, m, N):
     return S1, (x1 * S1 if k1 == k2 else Fraction(k1, k2 - k1) * (S1 - S2)), S2
 
 
+def bed_in_the_end(reach):
+    """Demand / k2, in units: by so much a bed lowers what oxygen tends to, with surface aeration (k2 above 0)."""
+    return Fraction(1_000_000 * reach.sludge, reach.card.k2)
+
+
+def bed_fall(reach):
+    """Demand × volume / (86,400 × Q), in units: what a bed uses down to the foot, all of it lost without surface aeration (k2 = 0)."""
+    return Fraction(1_000_000 * reach.sludge * reach.card.volume, 86_400 * reach.Q)
+
+
+def bed_loss(reach, m, S2):
+    """The oxygen lost to the sludge bed by instant m, in units, where S(x2) is S2."""
+    return bed_in_the_end(reach) * (1 - S2) if reach.card.k2 else bed_fall(reach) * Fraction(m, INSTANTS)
+
+
 def along(reach, m, N):
     """The formula that takes BOD and oxygen at the head to those at instant m."""
     S1, F, S2 = factors(reach, m, N)
-    Cs = reach.saturation
-    return lambda L, C: (L * S1, Cs - F * L - S2 * (Cs - C))
+    Cs, loss = reach.saturation, bed_loss(reach, m, S2)
+    return lambda L, C: (L * S1, Cs - F * L - S2 * (Cs - C) - loss)
 
 
 # The exact figures of a place have one common denominator, which grows by some thousand bits with each reach on the way
@@ -386,6 +411,13 @@ def terms(x, N):
     return result
 
 
+def bed_terms(reach, S2):
+    """The coefficients of the bed's loss as a polynomial in u = m/1024, where S2 are the terms of S(x2)."""
+    if reach.card.k2 == 0:
+        return [0, bed_fall(reach)] + [0] * (len(S2) - 2)
+    return [0] + [-bed_in_the_end(reach) * term for term in S2[1:]]
+
+
 def oxygen_bounds(reach, start, N):
     """For each instant a whole number that is within `off` of 2^BITS × the exact oxygen, and `off`. `start` is the point at the head.
 
@@ -402,7 +434,7 @@ def oxygen_bounds(reach, start, N):
         F = [Fraction(k1, k2 - k1) * (one - two) for one, two in zip(S1, S2)] + [Fraction(0)]
     L, C = ((figure << BITS) // start.over for figure in start.figures)
     Cs = reach.saturation * 2 ** BITS
-    coefficients = [math.floor(-f * L - s * (Cs - C)) for f, s in zip(F, S2)]
+    coefficients = [math.floor(-f * L - s * (Cs - C) - b * 2 ** BITS) for f, s, b in zip(F, S2, bed_terms(reach, S2))]
     coefficients[0] += math.floor(Cs)
     off = math.ceil(sum(map(abs, F + S2))) + 2 * len(coefficients) + 1
     return [evaluated(coefficients, m) for m in range(INSTANTS + 1)], off

@@ -2,9 +2,11 @@
 """Tests of the reference itself: tests/reference_test.py
 
 The table of records and the bench values of docs/RIVER-FILE.md; the bounds on oxygen against exact figures; a right report is found right, and
-many reports with one thing wrong are found wrong; the generated files hold every kind. It needs no program. The exit status is 1 where something fails.
+many reports with one thing wrong are found wrong; the program's arithmetic (recipe.py) gives the stored reports of the examples and keeps the promised
+distance; the generated files hold every kind. It needs no program. The exit status is 1 where something fails.
 """
 
+import glob
 import math
 import os
 import random
@@ -12,10 +14,12 @@ import sys
 from fractions import Fraction
 
 import generate
+import recipe
 import reference
-from reference import BITS, INSTANTS, SERIES, STANDARD_PRESSURE, Card, Dam, Point, Pressure, Reach, Record, Refused, River, Take
+from reference import BITS, INSTANTS, SERIES, STANDARD_PRESSURE, Card, Dam, Point, Pressure, Reach, Record, Refused, River, Sludge, Take
 from testing import expect, run_tests
 
+ROOT = os.path.dirname(os.path.dirname(os.path.abspath(__file__)))
 WORKED = [Card(2, 20, 0, 0, 1_000, 3_000, 2_000, 8_000, 0), Card(0, 20, 0, 0, 1_000, 1_000, 30_000, 2_000, 0)]
 WORKED_LINES = b"1 1 3000 2000000 2000000 8000000 0 8000000 8000000\n2 2 4000 9000000 9000000 6500000 0 6500000 6500000\n"
 
@@ -44,7 +48,8 @@ def paper_fields(rows):
     for given, at, width, name, numbers, _ in rows:
         mark, width = given or mark, int(width)
         lowest, _, highest = numbers.replace(",", "").partition(" to ")
-        yield (mark, int(at), width, name.lower().replace(" ", "_").removesuffix("_flow"), *((int(lowest), int(highest)) if highest else (0, reference.most(width))))
+        name = name.lower().replace(" ", "_").removesuffix("_flow").removesuffix("_demand")
+        yield (mark, int(at), width, name, *((int(lowest), int(highest)) if highest else (0, reference.most(width))))
 
 
 def our_fields(kinds):
@@ -58,7 +63,7 @@ def our_fields(kinds):
 
 def paper_agrees():
     """The tables of records and fields in the paper are those of the reference."""
-    with open(os.path.join(os.path.dirname(os.path.abspath(__file__)), "..", "docs", "RIVER-FILE.md"), encoding="utf-8") as file:
+    with open(os.path.join(ROOT, "docs", "RIVER-FILE.md"), encoding="utf-8") as file:
         text = file.read()
     kinds = (reference.HEADER, reference.REACH) + reference.AFTER_REACH
     expect("records", [(row[0], int(row[1])) for row in table(text, "mark")], [(kind.mark.decode(), kind.size) for kind in kinds])
@@ -179,6 +184,59 @@ def pressure_records():
     return "records of a pressure"
 
 
+def beds():
+    """The bench values of the paper that have a sludge bed."""
+    def worked(first, second):
+        cards = [card._replace(sludge=None if sludge is None else Sludge(sludge)) for card, sludge in zip(WORKED, (first, second))]
+        return reference.encode(River(cards))
+
+    def one(**fields):
+        return reference.encode(River([Card(0, 20, 0, 0, 4_320_000, 10_000, 2_000, 8_000, 0, sludge=Sludge(1_000))._replace(**fields)]))
+
+    first, second = WORKED_LINES.splitlines(keepends=True)
+    for what, file, lines in (
+            ("a bed of 34,560 at reach 2", worked(None, 34_560), first + b"2 2 4000 9000000 9000000 6500000 1024 6400000 6400000\n"),
+            ("a bed of 25,920 at reach 1", worked(25_920, None), b"1 1 3000 2000000 2000000 8000000 1024 7900000 7900000\n2 2 4000 9000000 9000000 6425000 0 6425000 6425000\n"),
+            ("beds of 0", worked(0, 0), first + second)):
+        expect(what, (is_right(file, lines), recipe.report(file).encode()), (True, lines))
+    expect("no bed and a bed of 0", worked(None, None) != worked(0, None) != worked(0, 0), True)
+    for what, file, due in (
+            ("volume 4,320,000", one(), "accepted"), ("volume 4,320,001", one(volume=4_320_001), "refused 14 reach 1"),
+            ("a demand of 1,001", one(sludge=Sludge(1_001)), "refused 14 reach 1"), ("a take of 1", one(take=Take(1)), "refused 14 reach 1"),
+            ("both too long", one(k1=801, sludge=Sludge(1_001)), "refused 11 reach 1"), ("no volume", one(sludge=Sludge(65_535), volume=0), "accepted")):
+        expect(what, answer_line(file), due)
+
+    aerated = Card(0, 20, 0, 1_000, 864_000, 10_000, 0, 9_000, 0, sludge=Sludge(1_000))
+    for what, card, due in (("k2 = 1,000", aerated, 8_381_664), ("k2 = 0", aerated._replace(k2=0), 8_000_000)):
+        foot = reference.recurrence(reference.flows(River([card])), 40)[1][1]
+        expect(f"the foot at {what}", foot.figures[1] // foot.over, due)
+        printed = text(right_report(reference.flows(River([card._replace(sludge=None)]))))
+        expect(f"a report without the bed at {what} is found", is_right(reference.encode(River([card])), printed), False)
+    return "beds"
+
+
+def bed_records():
+    """Files with a sludge bed: where it may stand, and that every number is in its range."""
+    plain, record = reference.encode(River(WORKED)), reference.SLUDGE.encode
+    dam, pressure, bed = reference.DAM.encode(Dam(500, 1_000)), reference.PRESSURE.encode([700]), record([7])
+    expect("a bed of 0 is in the file", reference.encode(River([WORKED[0], WORKED[1]._replace(sludge=Sludge(0))])), plain + b"SD\0\0")
+    for what, file, due in (
+            ("a demand of 0", plain + record([0]), "accepted"), ("a demand of 65,535", plain + record([65_535]), "accepted"),
+            ("a cut bed", plain + bed[:3], "refused 1 reach 2"), ("two beds", plain + 2 * bed, "refused 6 reach 0"),
+            ("two at reach 1", plain[:30] + 2 * bed + plain[30:], "refused 2 reach 2"), ("a bed before a pressure", plain + bed + pressure, "refused 6 reach 0"),
+            ("dam, pressure and bed", plain + dam + pressure + bed, "accepted"), ("dam, bed and pressure", plain + dam + bed + pressure, "refused 6 reach 0")):
+        expect(what, answer_line(file), due)
+    return "records of a bed"
+
+
+def allowances():
+    """150 units for each step of depth in a river with a bed, be it of 0, and 100 in any other."""
+    for sludges, due in (((None, None), [100, 200]), ((0, None), [150, 300]), ((None, 0), [150, 300]), ((3, 4), [150, 300])):
+        cards = [card._replace(sludge=None if sludge is None else Sludge(sludge)) for card, sludge in zip(WORKED, sludges)]
+        expect(f"allowances with beds {sludges}", [reach.allowance for reach in reference.flows(River(cards))], due)
+    return "allowances"
+
+
 # ---- Bounds
 
 def drawn_reaches(rng, count):
@@ -215,6 +273,12 @@ def exact_values():
     S1, F, S2 = reference.factors(reach, 300, 40)
     L, C, Cs = Fraction(11, 7), Fraction(-13, 7), reach.saturation
     expect("a point", [Fraction(figure, point.over) for figure in point.figures], [L * S1, Cs - F * L - S2 * (Cs - C)])
+    day = Fraction(card.volume, 86_400 * card.inflow)     # travel time, for rates in thousandths
+    for k2, loss in ((700, Fraction(50, 700) * (1 - S2)), (0, 50 * day * Fraction(300, 1_024))):
+        bare = Reach(1, card._replace(k2=k2), [])
+        bed = Reach(1, bare.card._replace(sludge=Sludge(50)), [])
+        oxygen, less = ((Fraction(found.figures[1], found.over)) for found in (reference.through(reference.along(one, 300, 40), Point(7, [11, -13])) for one in (bare, bed)))
+        expect(f"the loss at k2 = {k2}", oxygen - less, 1_000_000 * loss)
     return "series and points"
 
 
@@ -256,6 +320,8 @@ def wrong_records(rng, reaches, records):
         changes.append(("the foot's instant", {"instant": INSTANTS}))
     if reach.take:
         changes.append(("Q before the take", {"Q": reach.Qm}))
+    if reach.keeps_oxygen():
+        changes.append(("oxygen that moves", {"critical": record.critical - 1, "foot_oxygen": record.foot_oxygen - 1, "instant": INSTANTS}))
     for what, fields in changes:
         yield what, records[:reach.number - 1] + [record._replace(**fields)] + records[reach.number:]
 
@@ -318,6 +384,27 @@ def same_at_both_speeds():
     return "both speeds"
 
 
+# ---- The program's arithmetic
+
+def recipe_of_examples():
+    """The recipe gives the stored report of each example, to the byte."""
+    paths = sorted(glob.glob(os.path.join(ROOT, "examples", "*.river")) + glob.glob(os.path.join(ROOT, "examples", "refused", "*.river")))
+    for path in paths:
+        with open(path, "rb") as file, open(path[:-5] + "report", encoding="ascii") as stored:
+            expect(path, recipe.report(file.read()), stored.read())
+    return f"recipe of {len(paths)} examples"
+
+
+def recipe_of_styles():
+    """The recipe's reports are found right, for rivers of every style."""
+    rng, worst = random.Random(6), 0
+    for style, reaches in drawn_reaches(rng, len(generate.STYLES)):
+        verdict = reference.check(reference.encode(River([reach.card for reach in reaches])), text(recipe.records_of(reaches)))
+        expect(f"{style}: the recipe", verdict.wrong, [])
+        worst = max(worst, verdict.worst)
+    return f"recipe within {worst // 1_000}.{worst % 1_000:03d} of its allowance"
+
+
 # ---- Generated files
 
 def every_kind():
@@ -328,12 +415,13 @@ def every_kind():
         answers.append(answer_line(file))
     expect("kinds", len(names), len(generate.accepted_kinds()) + len(generate.refused_kinds()))
     numbers = {int(line.split()[1]) for line in answers if line != "accepted"}
-    expect("refusals", numbers, set(range(1, 12)) | {13})
+    expect("refusals", numbers, set(range(1, 12)) | {13, 14})
     expect("the odd ones are accepted", set(answers[::2]), {"accepted"})
     return f"{len(names)} kinds of generated files"
 
 
-TESTS = (paper_agrees, bench_values, takes, saturations, pressures, pressure_records, exact_values, bounds_hold, exact_limits, verdicts, same_at_both_speeds, every_kind)
+TESTS = (paper_agrees, bench_values, takes, saturations, pressures, pressure_records, beds, bed_records, allowances, exact_values, bounds_hold, exact_limits,
+         verdicts, same_at_both_speeds, recipe_of_examples, recipe_of_styles, every_kind)
 
 
 if __name__ == "__main__":

@@ -93,6 +93,23 @@ def pressures():
     return "texts with pressures"
 
 
+def beds():
+    """Texts with a sludge bed."""
+    all_four = make(NINE + " dam 5 6 take 7 pressure 634 sludge 8")
+    expect("dam, take, pressure and bed", (all_four[0], all_four[1][-22:], all_four[2]), (0, b"DM\0\5\0\0\0\6WD\0\0\0\7BP\2\x7aSD\0\x08", ""))
+    expect("bed, pressure, take and dam", make(NINE + " sludge 8 pressure 634 take 7 dam 5 6"), all_four)
+    expect("a bed of 0", make(NINE + " sludge 0"), (0, make(NINE)[1] + b"SD\0\0", ""))
+    expect("the largest demand", make(NINE + " sludge 65_535"), (0, make(NINE)[1] + b"SD\xff\xff", ""))
+    shown = river("show", "-", given=all_four[1])[1].decode()
+    expect("a text with a bed", ("[sludge N]" in shown, "  pressure 634  sludge 8  # 1\n" in shown), (True, True))
+    for text, parts in (
+            (NINE + " sludge", ("line 1", "0 numbers where sludge has 1")),
+            (NINE + " sludge 1 take 5 sludge 1", ("line 1", "'sludge' stands twice")),
+            (NINE + " sludge 65_536", ("line 1", "sludge", "0 to 65535"))):
+        one_line(f"'{text[:60]}'", make(text), 1, *parts)
+    return "texts with beds"
+
+
 def texts():
     """Texts that are taken, and texts that are not."""
     plain = make(NINE)[1]
@@ -113,7 +130,7 @@ def texts():
             (NINE + " 1", ("line 1", "10 numbers")),
             (NINE + " dam 5", ("line 1", "1 number where dam", "share generating")),
             (NINE + " dam 5 6 dam 5 6", ("line 1", "'dam' stands twice")),
-            (NINE + " weir 5 6", ("line 1", "'weir'", "dam, take, pressure")),
+            (NINE + " weir 5 6", ("line 1", "'weir'", "dam, take, pressure, sludge")),
             (NINE + " dam 5 65536000000", ("line 1", "generating", "0 to 4294967295"))):
         one_line(f"'{text[:60]}'", make(text), 1, *parts)
     for text, parts in (
@@ -136,13 +153,15 @@ def broken_files():
     file = river("make", "-", "-", given=f"2{NINE[1:]}\n{NINE} dam 5 6".encode())[1]
     taken = river("make", "-", "-", given=f"{NINE} take 5".encode())[1]
     with_pressure = river("make", "-", "-", given=f"{NINE} pressure 700".encode())[1]
+    with_bed = river("make", "-", "-", given=f"{NINE} sludge 700".encode())[1]
     for broken, parts in (
             (b"", ("byte 0", "4 bytes")), (file[:3], ("byte 0", "4 bytes", "are 3")), (file[:40], ("reach 2", "byte 30", "26 bytes", "are 10", "counts 2")),
             (file[:-1], ("reach 2", "byte 56", "8 bytes", "are 7")), (file + b"\n", ("byte 64", "1 byte too many")), (b"XV" + file[2:], ("byte 0", "XV", "RV")),
             (file[:30] + b"RX" + file[32:], ("reach 2", "byte 30", "RX", "RE")), (file[:3] + b"\1" + file[4:], ("byte 30", "34 bytes", "counts 1")),
             (file[:2] + b"\xff\xff" + file[4:], ("reach 3", "byte 64", "counts 65535")), (taken[:-1], ("reach 1", "byte 30", "WD", "6 bytes", "are 5")),
             (taken + taken[30:], ("byte 36", "6 bytes too many")), (taken + file[56:], ("byte 36", "8 bytes too many")),
-            (with_pressure[:-1], ("reach 1", "byte 30", "BP", "4 bytes", "are 3")), (with_pressure + taken[30:], ("byte 34", "6 bytes too many"))):
+            (with_pressure[:-1], ("reach 1", "byte 30", "BP", "4 bytes", "are 3")), (with_pressure + taken[30:], ("byte 34", "6 bytes too many")),
+            (with_bed[:-1], ("reach 1", "byte 30", "SD", "4 bytes", "are 3")), (with_bed + with_pressure[30:], ("byte 34", "4 bytes too many"))):
         one_line(f"{broken[:40]}", river("show", "-", given=broken), 1, *parts)
     return "broken files"
 
@@ -184,7 +203,7 @@ def wrong_uses():
     return "wrong uses"
 
 
-TESTS = (examples_come_back, generated_come_back, texts, takes, pressures, broken_files, wrong_uses)
+TESTS = (examples_come_back, generated_come_back, texts, takes, pressures, beds, broken_files, wrong_uses)
 
 
 if __name__ == "__main__":

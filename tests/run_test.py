@@ -145,7 +145,11 @@ def pictures():
             path = os.path.join(EXAMPLES, f"{name}.river")
             root = drawn(f"{name} once more", path, name=path)
             expect(f"levels of saturation in {name}", sum(element.get("stroke-dasharray") == "5 3" for element in root.iter()), levels)
-    return f"{2 * len(ACCEPTED) + 4} pictures"
+        for name, beds in (("two", 0), ("two-sludge", 1), ("old-weir", 3)):
+            path = os.path.join(EXAMPLES, f"{name}.river")
+            text = "".join(drawn(f"{name} and its beds", path, name=path).itertext())
+            expect(f"sludge beds in {name}", (text.count("sludge bed of reach"), "sludge beds" in text), (beds, beds > 0))
+    return f"{2 * len(ACCEPTED) + 7} pictures"
 
 
 TESTS = (wrong_uses, refusals, reports, tables, pictures)

@@ -1,5 +1,5 @@
 -- The promise of the arithmetic layer. At instant m, BOD left and turned together are within 11 × m units of 2^-44 of the exact ones, and the
--- deficit left is within 5 × m. So all are within 2^-28 at every instant up to 1,024.
+-- deficit left is within 5 × m. So at every instant up to 1,024 the former are within 2^-28 and the latter is within 2^-31.
 pub mod Units
 pub mod Series
 pub mod Step
@@ -16,7 +16,7 @@ use Rattle.decay.specs.Fraction.{Fraction, ofℕ, ofℤ, over, _+ᶠ_, _
 use Rattle.decay.specs.Exact.{exponent, S, F}
 use Rattle.decay.specs.Step.{RatesPass, stepOf}
 use Rattle.decay.specs.Factors.{headFactors, factorsAt}
-use Rattle.decay.specs.Promise.{share, factorsOf, Accurate}
+use Rattle.decay.specs.Promise.{share, factorsOf, bodDistance, deficitDistance, Accurate}
 use Rattle.decay.proofs.Algebra.{≈-sym, ≈-trans, ring, quote, replaced, ≼-trans, ≼-of-≈, slack, number, _⊞_, _⊠_, multiple, certify, ofℕ-mono, ofℕ-suc, Within, within-of-≈, within-weaken, within→distance}
 use Rattle.decay.proofs.step.Shares.{step-sound}
 use Rattle.decay.proofs.factors.Instants.{range}
@@ -37,9 +37,13 @@ shorter : ofℕ 1 ÷ ofℕ (2 ^ 78) ≼ ofℕ 1 ÷ ofℕ (2 ^ 60)
 unfolding _÷_ _*ᶠ_ over ofℤ
 shorter = record { across = leZ-yes tt }
 
-bod-figure : ofℕ 11264 *ᶠ eps ≼ ofℕ 1 ÷ ofℕ 268435456
+bod-figure : ofℕ 11264 *ᶠ eps ≼ bodDistance
 unfolding _÷_ _*ᶠ_ over ofℤ eps
 bod-figure = record { across = leZ-yes tt }
+
+deficit-figure : ofℕ 5120 *ᶠ eps ≼ deficitDistance
+unfolding _÷_ _*ᶠ_ over ofℤ eps
+deficit-figure = record { across = leZ-yes tt }
 
 -- c × m units for c up to 11 and m up to 1,024 are few
 few : {c m : ℕ} → c ≤ 11 → m ≤ 1024 → ofℕ 20 *ᶠ (ofℕ (c * m) *ᶠ eps) ≼ ofℕ 1
@@ -49,10 +53,10 @@ few {c} {m} h k =
     (search quote depth 40 fits 9999)
     tt
 
--- at most 11,264 units
-at-last : {c m : ℕ} → c ≤ 11 → m ≤ 1024 → ofℕ (c * m) *ᶠ eps ≼ ofℕ 11264 *ᶠ eps
-at-last {c} {m} h k =
-    certify (ofℕ c ∷ ofℕ m ∷ eps ∷ []) (eps-nonneg ⊠ (number c ⊠ slack (ofℕ-mono k) ⊞ number 1024 ⊠ slack (ofℕ-mono h))) (search quote depth 40 fits 9999) tt
+-- at most 1,024 times c units
+at-last : (c : ℕ) {m : ℕ} → m ≤ 1024 → ofℕ (c * m) *ᶠ eps ≼ ofℕ (c * 1024) *ᶠ eps
+at-last c {m} k =
+    certify (ofℕ c ∷ ofℕ m ∷ eps ∷ []) (eps-nonneg ⊠ (number c ⊠ slack (ofℕ-mono k))) (search quote depth 40 fits 9999) tt
 
 one-more : (c m : ℕ) → ofℕ (c * m) *ᶠ eps +ᶠ ofℕ c *ᶠ eps ≼ ofℕ (c * suc m) *ᶠ eps
 one-more c m =
@@ -148,6 +152,6 @@ accuracy {N} {k1} {k2} {volume} {Q} {m} long h p =
     let bod = bod-at long p m h in
     let deficit = deficit-at long p m h in
     record {
-      bod-near = both-near bod (≼-trans (at-last (lit≤ tt) h) bod-figure);
-      deficit-near = ≼-trans (within→distance deficit) (≼-trans (at-last (lit≤ tt) h) bod-figure);
+      bod-near = both-near bod (≼-trans (at-last 11 h) bod-figure);
+      deficit-near = ≼-trans (within→distance deficit) (≼-trans (at-last 5 h) deficit-figure);
     }

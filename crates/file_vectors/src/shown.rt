@@ -81,6 +81,8 @@ fn card(c: Card) {
     amount(b" take ", t);
     let p = c.pressure;
     amount(b" pressure ", p);
+    let s = c.sludge;
+    amount(b" sludge ", s);
     end();
 }
 

@@ -44,6 +44,7 @@ fn card(i: usize, star: bool) -> Card
         dam: Dam::Absent,
         take: Amount::Without,
         pressure: Amount::Without,
+        sludge: Amount::Without,
     }
 }
 

@@ -58,7 +58,8 @@ fn reach(cards: Cards, flows: FlowTable, feet: FootTable, i: usize, foot: u32) -
     requires { ⌜ HeadInput (river cards) flows feet i ⌝ }
     ensures { λ r. ⌜ Carried (river cards) r (suc i) ⌝ }
 {
-    let head = head_of(cards, flows, feet, i);
+    let card = cards.at[i];
+    let head = head_of(card, flows, feet, i);
     let flow = flows.flow[i];
     line(i + 1, flows.depth[i], flow, flows.mass[i], head);
     put_foot(feet, i, flow, head.bod - head.bod / 8, foot)

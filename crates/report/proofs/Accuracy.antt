@@ -3,45 +3,53 @@
 -- they stay within the allowance by water, for any number of units a step that covers what a reach adds.
 pub mod Allowance
 pub mod Errors
+use mathlib.Core.Path.{refl}
 use mathlib.Core.List.{[], _∷_}
 use Prim.Native.Nat.{ℕ, _+_, _*_, _≤_}
 use native.Mathlib.Nat.{le-refl, mul-le-mul}
 use native.Mathlib.Omega.{arith}
 use lib.Dec.{lit<}
 use lib.IntN.{pos, _*ℤ_}
-use Rattle.decay.specs.Fraction.{Fraction, _≈_, _≼_, ofℕ, ofℤ, _+ᶠ_, -ᶠ_, _-ᶠ_, _*ᶠ_, _÷_, distance}
+use Rattle.decay.specs.Fraction.{Fraction, _≈_, _≼_, ofℕ, ofℤ, over, _+ᶠ_, -ᶠ_, _-ᶠ_, _*ᶠ_, _÷_, distance}
 use Rattle.decay.specs.Exact.{exponent, S, F}
 use Rattle.decay.specs.Fixed.{product}
-use Rattle.decay.specs.Promise.{share}
+use Rattle.decay.specs.Promise.{share, bodDistance, deficitDistance}
 use Rattle.decay.proofs.Accuracy.{accuracy}
-use Rattle.decay.proofs.Algebra.{quote, certify, slack, number, Nonneg, _⊞_, _⊠_, ≈-refl, ≈-trans, ≼-trans, +ᶠ-cong, *ᶠ-comm, ofℤ-+, ofℤ-*, ofℕ-mono, ofℕ-+, ofℕ-*, positive-whole, ÷-cancel-pos, ÷-nonneg, Small, Within, within-of-≈, within-by, within-sum, within-scale, within-distance, distance→within}
+use Rattle.decay.proofs.Algebra.{quote, certify, slack, number, Nonneg, _⊞_, _⊠_, multiple, ≈-refl, ≈-sym, ≈-trans, ≼-trans, +ᶠ-cong, *ᶠ-comm, ofℤ-+, ofℤ-*, ofℕ-mono, ofℕ-+, ofℕ-*, positive-whole, ÷-cancel-pos, ÷-nonneg, Small, Within, within-of-≈, within-by, within-sum, within-scale, within-distance, distance→within}
 use Rattle.river.specs.declared.card.Card.{Card}
 use Rattle.river.specs.Flow.{Feeders, more, fed, flowOf, reachFlow, deepest, reachDepth}
 use Rattle.river.specs.Saturation.{saturationOf}
 use Rattle.river.specs.Source.{bodSource}
 use Rattle.river.specs.Head.{upstreamDemand, upstreamOxygen, belowDam, headDemand, headOxygen}
 use Rattle.river.proofs.head.Bounds.{saturation-of-small}
-use Rattle.report.specs.Program.{bodSum, oxygenSum, bodAtHead, oxygenAtHead, bodAt, oxygenAt, bodAlong, oxygenAlong, bodWith, factorsAlong, foot}
-use Rattle.report.specs.Recurrence.{exactSaturation, exactMean, exactBelowDam, exactHeadDemand, exactHeadOxygen, exactBodSum, exactOxygenSum, exactBodAtHead, exactOxygenAtHead, exactBodAlong, exactOxygenAlong, exactBodAt, exactOxygenAt}
-use Rattle.report.specs.Distance.{meanAllowance, allowanceSum, broughtAllowance, waterAllowance}
+use Rattle.report.specs.Bed.{bedOf}
+use Rattle.report.specs.Program.{bodSum, oxygenSum, bodAtHead, oxygenAtHead, bodAt, oxygenAt, bodAlong, lossAlong, oxygenAlong, bodWith, factorsAlong, foot}
+use Rattle.report.specs.Recurrence.{exactSaturation, exactMean, exactBelowDam, exactHeadDemand, exactHeadOxygen, exactBodSum, exactOxygenSum, exactBodAtHead, exactOxygenAtHead, exactBodAlong, exactLoss, exactOxygenAlong, exactBodAt, exactOxygenAt}
+use Rattle.report.specs.Distance.{meanAllowance, allowanceSum, broughtAllowance, waterAllowance, lossDistance}
 use Rattle.report.proofs.Forest.{AcceptedReach, AllAccepted, no-more, one-more, rates-pass}
 use Rattle.report.proofs.Ties.{factors-range}
 use Rattle.report.proofs.Facts.Head.{damPart, bod-mean, oxygen-mean, below-dam, demand-mixed, oxygen-mixed}
 use Rattle.report.proofs.Facts.Instant.{product-floored, shares-in-range, keptDeficit, kept-floored, oxygen-parts}
 use Rattle.report.proofs.Facts.Exact.{saturation-low, saturation-high, exact-bod-mean, exact-oxygen-mean, exact-below-dam, exact-demand-mixed, exact-oxygen-mixed}
-use Rattle.report.proofs.Bounds.{head-ranged}
+use Rattle.report.proofs.Facts.Bed.{loss-is-near}
+use Rattle.report.proofs.bed.Loss.{eventual-small}
+use Rattle.report.proofs.Bounds.{levels, mostBelow, head-ranged}
 use Rattle.report.proofs.Accuracy.Allowance.{brought-by-depth}
 use Rattle.report.proofs.Accuracy.Errors.{Near, HeadSteps, head-near, InstantSteps, instant-near, headUnits, addedUnits, reach-adds}
 
--- the distance promised of the factors
-abbrev ε : Fraction
-ε = ofℕ 1 ÷ ofℕ 268_435_456
+-- the distances promised of the factors
+δ-equation : ofℕ 2_147_483_648 *ᶠ deficitDistance ≈ ofℕ 1
+δ-equation = ≈-trans (*ᶠ-comm (ofℕ 2_147_483_648) deficitDistance) (÷-cancel-pos (ofℕ 1) (positive-whole (lit< tt)))
 
-ε-equation : ofℕ 268_435_456 *ᶠ ε ≈ ofℕ 1
-ε-equation = ≈-trans (*ᶠ-comm (ofℕ 268_435_456) ε) (÷-cancel-pos (ofℕ 1) (positive-whole (lit< tt)))
+δ-nonneg : Nonneg deficitDistance
+δ-nonneg = ÷-nonneg (number 1) (number 2_147_483_648)
 
-ε-nonneg : Nonneg ε
-ε-nonneg = ÷-nonneg (number 1) (number 268_435_456)
+eight-times : bodDistance ≈ ofℕ 8 *ᶠ deficitDistance
+unfolding _÷_ _*ᶠ_ over ofℤ
+eight-times = record { across = refl }
+
+sharper : deficitDistance ≼ bodDistance
+sharper = certify (bodDistance ∷ deficitDistance ∷ []) (number 7 ⊠ δ-nonneg ⊞ multiple (ofℕ 1) (≈-sym eight-times)) (search quote depth 40 fits 9999) tt
 
 -- more room, and equal oxygen
 near-weaken : {b bx o ox e f : Fraction} → e ≼ f → Near b bx o ox e → Near b bx o ox f
@@ -64,11 +72,11 @@ near-join {bx = bx} {ox = ox} {a = a} {sx = sx} {tx = tx} {e = e} Q p ec eu m n 
     }
 
 -- the deficit at a head
-deficit-small : (cs c k : Fraction) → Nonneg cs → cs ≼ ofℕ 15_423_157 → ofℕ 0 ≼ c +ᶠ ofℕ 1_000_000_384 → c ≼ k → k ≼ ofℕ 20_000_128 → Small (cs -ᶠ c) (ofℕ 1_020_000_000)
-deficit-small cs c k p h low high hk =
+deficit-small : (cs l c k : Fraction) → Nonneg cs → cs ≼ ofℕ 15_423_157 → Nonneg l → l ≼ c +ᶠ ofℕ mostBelow → c ≼ k → k ≼ ofℕ 20_000_128 → Small (cs -ᶠ c) (ofℕ 1_660_000_000)
+deficit-small cs l c k p h pl low high hk =
     record {
-      high = certify (cs ∷ c ∷ []) (slack h ⊞ low ⊞ number 4_576_459) (search quote depth 40 fits 9999) tt;
-      low = certify (cs ∷ c ∷ k ∷ []) (p ⊞ slack high ⊞ slack hk ⊞ number 999_999_872) (search quote depth 40 fits 9999) tt;
+      high = certify (cs ∷ l ∷ c ∷ []) (slack h ⊞ pl ⊞ slack low ⊞ number 4_576_459) (search quote depth 40 fits 9999) tt;
+      low = certify (cs ∷ c ∷ k ∷ []) (p ⊞ slack high ⊞ slack hk ⊞ number 1_639_999_872) (search quote depth 40 fits 9999) tt;
     }
 
 rounded-saturation : (card : Card) → Within (ofℕ (saturationOf card)) (exactSaturation card) (ofℕ 1)
@@ -77,6 +85,12 @@ rounded-saturation card =
       high = certify (ofℕ (saturationOf card) ∷ exactSaturation card ∷ []) (slack (saturation-low card) ⊞ number 1) (search quote depth 40 fits 9999) tt;
       low = certify (ofℕ (saturationOf card) ∷ exactSaturation card ∷ []) (slack (saturation-high card)) (search quote depth 40 fits 9999) tt;
     }
+
+-- what a bed adds is at most that of the largest demand and the smallest k2
+loss-distance-small : {card : Card} {up : Feeders} → AcceptedReach card up → lossDistance card (reachFlow card up) ≼ ofℕ 2 +ᶠ deficitDistance *ᶠ ofℕ 65_535_000_001
+loss-distance-small {card} {up} own =
+    let c = bedOf card (reachFlow card up) .eventual in
+    certify (deficitDistance ∷ ofℕ c ∷ []) (δ-nonneg ⊠ slack (ofℕ-mono (eventual-small card (reachFlow card up) (own .sludge)))) (search quote depth 40 fits 9999) tt
 
 -- units a step that cover what a reach adds; they are few, so that 128 steps make no more than 1 mg/L
 pub record Covers (units : ℕ) : Type 0 where
@@ -144,26 +158,29 @@ module _ (N : ℕ) (long : 40 ≤ N) {units : ℕ} (covers : Covers units) where
       let S₁ = S N (exponent (card .k1) (card .volume) Q m) in
       let F₁ = F N (card .k1) (card .k2) (card .volume) Q m in
       let S₂ = S N (exponent (card .k2) (card .volume) Q m) in
+      let T = lossAlong card Q m in
       let accurate = accuracy long l (rates-pass own) in
       let range = head-ranged own above shallow in
-      let steps : InstantSteps (share (f .left)) (share (f .turned)) (share (f .kept)) S₁ F₁ S₂ (distance (share (f .left)) S₁) (distance (share (f .turned)) F₁) ε (ofℕ L) (ofℤ C) (ofℕ Cs) Csx (ofℕ (product (f .left) L)) (ofℕ (product (f .turned) L)) (ofℤ (keptDeficit f Cs C)) (ofℕ 1_020_000_000) =
+      let steps : InstantSteps (share (f .left)) (share (f .turned)) (share (f .kept)) S₁ F₁ S₂ (distance (share (f .left)) S₁) (distance (share (f .turned)) F₁) bodDistance deficitDistance (ofℕ L) (ofℤ C) (ofℕ Cs) Csx (ofℕ (product (f .left) L)) (ofℕ (product (f .turned) L)) (ofℤ (keptDeficit f Cs C)) (ofℕ 1_660_000_000) (ofℕ T) (exactLoss N card Q m) (lossDistance card Q) =
       record {
         shares = shares-in-range f (factors-range own m);
         left-near = within-distance (share (f .left)) S₁;
         turned-near = within-distance (share (f .turned)) F₁;
         kept-near = distance→within (accurate .deficit-near);
+        sharper = sharper;
         factors-near = accurate .bod-near;
         bod-floored = product-floored (f .left) L;
         turned-floored = product-floored (f .turned) L;
         kept-floored = kept-floored f Cs C;
         head-bod = number L;
-        head-deficit = deficit-small (ofℕ Cs) (ofℤ C) (ofℕ (20000000 + deepest up)) (number Cs) (ofℕ-mono (saturation-of-small card (own .saturation))) (range .oxygen-low) (range .oxygen-high) (ofℕ-mono (omega arith));
+        head-deficit = deficit-small (ofℕ Cs) (ofℕ L) (ofℤ C) (ofℕ (20000000 + levels up)) (number Cs) (ofℕ-mono (saturation-of-small card (own .saturation))) (number L) (range .bod-below) (range .oxygen-high) (ofℕ-mono (omega arith));
         saturation-near = rounded-saturation card;
+        loss-near = loss-is-near long own m l;
       }
       in
       near-weaken
-      (reach-adds ε (ofℕ L) (broughtAllowance units card up) (ofℕ units) ε-nonneg ε-equation (range .bod-range) (carried-small covers own above shallow) (ofℕ-mono (covers .added)))
-      (near-at (oxygen-parts f Cs L C) (instant-near (exactBodAtHead N card up) (exactOxygenAtHead N card up) (broughtAllowance units card up +ᶠ ofℕ headUnits) steps n))
+      (reach-adds bodDistance deficitDistance (ofℕ L) (lossDistance card Q) (broughtAllowance units card up) (ofℕ units) δ-nonneg δ-equation eight-times (range .bod-range) (loss-distance-small own) (carried-small covers own above shallow) (ofℕ-mono (covers .added)))
+      (near-at (oxygen-parts f Cs L C T) (instant-near (exactBodAtHead N card up) (exactOxygenAtHead N card up) (broughtAllowance units card up +ᶠ ofℕ headUnits) steps n))
 
   -- the foot of a feeder, times its flow, with the other feet
   feet-join : (card : Card) (up rest : Feeders) → InstantNear card up foot → FeetNear rest → FeetNear (more card up rest)

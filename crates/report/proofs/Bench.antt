@@ -35,7 +35,8 @@ accepted-first take h =
       fields = omega arith;
       saturation = omega arith;
       dam = tt;
-      flows = record { flowing = omega arith; bounded = omega arith; dam-rule = tt; mass-rule = omega arith; take-rule = h; decay-rule = omega arith; aeration-rule = omega arith };
+      sludge = omega arith;
+      flows = record { flowing = omega arith; bounded = omega arith; dam-rule = tt; mass-rule = omega arith; take-rule = h; decay-rule = omega arith; aeration-rule = omega arith; bed-rule = omega arith };
     }
 
 accepted-second : (dam : Dam) (take pressure : Amount) {up : Feeders} → SaturationInRange (second dam take pressure) → LawfulDam dam → DamRule dam up → flowOf up ≤ 3000 → massOf up ≤ 1000000 * flowOf up → amountOr 0 take ≤ 1000 → 0 < flowOf up → AcceptedReach (second dam take pressure) up
@@ -44,7 +45,8 @@ accepted-second dam take pressure conditions h k few within drawn-few some =
       fields = omega arith;
       saturation = conditions;
       dam = h;
-      flows = record { flowing = omega arith; bounded = omega arith; dam-rule = k; mass-rule = omega arith; take-rule = omega arith; decay-rule = omega arith; aeration-rule = omega arith };
+      sludge = omega arith;
+      flows = record { flowing = omega arith; bounded = omega arith; dam-rule = k; mass-rule = omega arith; take-rule = omega arith; decay-rule = omega arith; aeration-rule = omega arith; bed-rule = omega arith };
     }
 
 -- reach 2: plain, below a take, with a take, and with a dam at any pressure
@@ -87,7 +89,7 @@ foot-1 : (take : Amount) → amountOr 0 take < 3000 → (bodSum (feeders take) �
 unfolding bodSum oxygenSum flowOf bodAt oxygenAt bodAtHead oxygenAtHead
 foot-1 take h =
     let Q = 3000 - amountOr 0 take in
-    (ap (λ (b : ℕ). Q * b + 0) (reach-bod-stays (accepted-first take h) refl foot ∙ head-1 take .0), ap (λ (o : ℤ). pos Q *ℤ o +ℤ pos 0) (reach-oxygen-stays (accepted-first take h) refl refl foot ∙ head-1 take .1))
+    (ap (λ (b : ℕ). Q * b + 0) (reach-bod-stays (accepted-first take h) refl foot ∙ head-1 take .0), ap (λ (o : ℤ). pos Q *ℤ o +ℤ pos 0) (reach-oxygen-stays (accepted-first take h) refl refl refl foot ∙ head-1 take .1))
 
 -- the head of reach 2, by the takes
 abbrev HeadIs : Card → Feeders → (bod oxygen : ℕ) → Type 0
@@ -115,7 +117,7 @@ head-weir pressure e =
 weir-line : (pressure : Amount) {oxygen : ℕ} → SaturationInRange (second weir Without pressure) → headOxygen (second weir Without pressure) true 3000 (pos 3000 *ℤ pos 8000000 +ℤ pos 0) ≡ pos oxygen → figuresOf (second weir Without pressure) (feeders Without) ≡ line 2 4000 9000000 oxygen
 unfolding flowOf deepest
 weir-line pressure conditions e =
-    still-figures (accepted-weir pressure conditions) refl refl ∙ rw (head-weir pressure e .0, head-weir pressure e .1)
+    still-figures (accepted-weir pressure conditions) refl refl refl ∙ rw (head-weir pressure e .0, head-weir pressure e .1)
 
 -- upstream oxygen of the second reach
 abbrev upstream : Feeders → ℤ
@@ -130,7 +132,7 @@ below-weir pressure e =
 -- the first line, with no take there
 first-line : figuresOf (first Without) none ≡ line 1 3000 2000000 8000000
 unfolding flowOf deepest
-first-line = still-figures (accepted-first Without (omega arith)) refl refl ∙ rw (head-1 Without .0, head-1 Without .1)
+first-line = still-figures (accepted-first Without (omega arith)) refl refl refl ∙ rw (head-1 Without .0, head-1 Without .1)
 
 -- one theorem, a row each
 pub record Rows : Type 0 where
@@ -156,14 +158,14 @@ bench =
     record {
       flows-and-heads = flow-bench;
       line-1 = first-line;
-      line-2 = still-figures accepted-open refl refl ∙ rw (head-2 Without .0, head-2 Without .1);
+      line-2 = still-figures accepted-open refl refl refl ∙ rw (head-2 Without .0, head-2 Without .1);
       below-dam = below-weir Without refl;
       line-dam = weir-line Without (omega arith) refl;
       hilly-below-dam = below-weir (Given 700) refl;
       hilly-line-1 = first-line;
       hilly-line-2 = weir-line (Given 700) (omega arith) refl;
-      drawn-1-line-1 = still-figures (accepted-first (Given 1000) (omega arith)) refl refl ∙ rw (head-1 (Given 1000) .0, head-1 (Given 1000) .1);
-      drawn-1-line-2 = still-figures accepted-below refl refl ∙ rw (head-below .0, head-below .1);
+      drawn-1-line-1 = still-figures (accepted-first (Given 1000) (omega arith)) refl refl refl ∙ rw (head-1 (Given 1000) .0, head-1 (Given 1000) .1);
+      drawn-1-line-2 = still-figures accepted-below refl refl refl ∙ rw (head-below .0, head-below .1);
       drawn-2-line-1 = first-line;
-      drawn-2-line-2 = still-figures accepted-drawn refl refl ∙ rw (head-2 (Given 1000) .0, head-2 (Given 1000) .1);
+      drawn-2-line-2 = still-figures accepted-drawn refl refl refl ∙ rw (head-2 (Given 1000) .0, head-2 (Given 1000) .1);
     }

@@ -1,27 +1,29 @@
 -- How far BOD and oxygen can lie from 0 in an accepted river, at the head of a reach and at every instant.
--- Carried down the river, times flow: BOD is at most 1,000 × M, BOD less oxygen at most that and 3 units more for each step of depth,
--- and oxygen at most 20,000,000 and a unit more for each step of depth.
+-- Carried down the river, times flow: BOD is at most 1,000 × M, BOD less oxygen at most that and 5,000,003 units more for each level (3 of
+-- rounding at its head, and what its bed may take), and oxygen at most 20,000,000 and a unit more for each level. The levels above a reach are
+-- the reaches of this river on the longest way down to it.
 use mathlib.Core.List.{[], _∷_}
 use Prim.Native.Nat.{ℕ, _+_, _*_, _≤_, max}
-use native.Mathlib.Nat.{le-max-left, le-max-right, mul-le-mul-left, mul-le-mul-right}
+use native.Mathlib.Nat.{le-max-left, le-max-right, le-refl, mul-le-mul-left, mul-le-mul-right}
 use native.Mathlib.Omega.{arith}
 use lib.IntN.{ℤ, pos, negsuc, _*ℤ_}
 use lib.Signed.{_≤ℤ_}
 use Rattle.decay.specs.Fraction.{Fraction, _≈_, _≼_, ofℕ, ofℤ, _+ᶠ_, -ᶠ_, _-ᶠ_, _*ᶠ_}
 use Rattle.decay.specs.Fixed.{product}
 use Rattle.decay.specs.Promise.{share}
-use Rattle.decay.proofs.Algebra.{Nonneg, quote, slack, number, _⊞_, _⊠_, multiple, certify, ≈-refl, ≈-sym, ≈-trans, ≼-trans, ≼-of-≈, ≼-by, ≼-refl, +ᶠ-cong, *ᶠ-cong, ofℤ-+, ofℤ-*, Positive, positive-whole, positive-nonneg, certify-over, none as no-equations, ofℕ-reflect, ofℤ-reflect, ofℕ-mono, ofℕ-+, ofℕ-*}
+use Rattle.decay.proofs.Algebra.{Nonneg, quote, slack, number, _⊞_, _⊠_, multiple, certify, ≈-refl, ≈-sym, ≈-trans, ≼-trans, ≼-of-≈, ≼-by, ≼-refl, +ᶠ-cong, *ᶠ-cong, ofℤ-+, ofℤ-*, Positive, positive-whole, certify-over, none as no-equations, ofℕ-reflect, ofℤ-reflect, ofℕ-mono, ofℕ-+, ofℕ-*}
 use Rattle.river.specs.declared.card.Card.{Card}
-use Rattle.river.specs.Flow.{Feeders, more, fed, flowOf, mixedFlow, reachFlow, massOf, mixedMass, reachMass, deepest, reachDepth}
+use Rattle.river.specs.Flow.{Feeders, more, fed, flowOf, mixedFlow, reachFlow, massOf, mixedMass, reachMass, deepest}
 use Rattle.river.specs.Saturation.{saturationOf, SaturationInRange}
 use Rattle.river.specs.Source.{bodSource}
 use Rattle.river.specs.Head.{upstreamDemand, upstreamOxygen, belowDam, headDemand, headOxygen}
 use Rattle.river.proofs.flow.Take.{flow-remains, mass-within, mass-scaled}
 use Rattle.river.proofs.head.Bounds.{saturation-of-small}
-use Rattle.report.specs.Program.{bodSum, oxygenSum, bodAtHead, oxygenAtHead, bodAt, oxygenAt, bodAlong, oxygenAlong, bodWith, factorsAlong, foot}
+use Rattle.report.specs.Bed.{lossLimit}
+use Rattle.report.specs.Program.{bodSum, oxygenSum, bodAtHead, oxygenAtHead, bodAt, oxygenAt, bodAlong, lossAlong, oxygenAlong, bodWith, factorsAlong, foot}
 use Rattle.report.proofs.Facts.Floor.{Rounded}
 use Rattle.report.proofs.Forest.{AcceptedReach, AllAccepted, no-more, one-more}
-use Rattle.report.proofs.Ties.{factors-range}
+use Rattle.report.proofs.Ties.{factors-range, loss-small}
 use Rattle.report.proofs.Facts.Instant.{Floored, product-floored, Shares, shares-in-range, keptDeficit, kept-floored, oxygen-parts}
 use Rattle.report.proofs.Facts.Head.{ofℕ-+₃, ofℕ-+₄, Dammed, bod-mean, oxygen-mean, damPart, below-dam, demand-mixed, oxygen-mixed}
 
@@ -63,15 +65,15 @@ head-bounded Qu Q inflow s t u v w h c W₁ W₂ W₃ saturated σ mass deep k p
         (certify (Qu ∷ u ∷ s ∷ mass ∷ deep ∷ []) (slack (mean₁ .low) ⊞ slack (b .bod-above) ⊞ pd) (search quote depth 40 fits 9999) tt)
         (certify (Qu ∷ u ∷ v ∷ s ∷ t ∷ mass ∷ deep ∷ []) (slack (mean₁ .low) ⊞ slack (mean₂ .high) ⊞ slack (b .oxygen-below)) (search quote depth 40 fits 9999) tt)
 
--- from the head to an instant: BOD is B, and oxygen is saturation less G and R
-instant-bounded : (Q L c saturated p g r B G R mass deep k : Fraction) → Nonneg Q → Nonneg L → Nonneg deep → Nonneg saturated → saturated ≼ k → Shares p g r
-    → Nonneg G → Floored B (p *ᶠ L) → Floored G (g *ᶠ L) → Floored R (r *ᶠ (saturated -ᶠ c)) → Bounded (Q *ᶠ L) (Q *ᶠ c) Q mass deep k
-    → Bounded (Q *ᶠ B) (Q *ᶠ (saturated -ᶠ G -ᶠ R)) Q mass deep (k +ᶠ ofℕ 1)
-instant-bounded Q L c saturated p g r B G R mass deep k pQ pL pd ps sk shares pG fB fG fR b =
+-- from the head to an instant: BOD is B, and oxygen is saturation less G, R and the loss T to a bed
+instant-bounded : (Q L c saturated p g r B G R T most mass deep k : Fraction) → Nonneg Q → Nonneg L → Nonneg deep → Nonneg saturated → saturated ≼ k → Shares p g r
+    → Nonneg G → Nonneg T → T ≼ most → Floored B (p *ᶠ L) → Floored G (g *ᶠ L) → Floored R (r *ᶠ (saturated -ᶠ c)) → Bounded (Q *ᶠ L) (Q *ᶠ c) Q mass deep k
+    → Bounded (Q *ᶠ B) (Q *ᶠ (saturated -ᶠ G -ᶠ R -ᶠ T)) Q mass (deep +ᶠ Q *ᶠ most) (k +ᶠ ofℕ 1)
+instant-bounded Q L c saturated p g r B G R T most mass deep k pQ pL pd ps sk shares pG pT hT fB fG fR b =
     record {
       bod-above = certify (Q ∷ L ∷ p ∷ g ∷ B ∷ mass ∷ []) (pQ ⊠ slack (fB .low) ⊞ pQ ⊠ pL ⊠ (slack (shares .bod-of-one) ⊞ shares .turned-part) ⊞ slack (b .bod-above)) (search quote depth 40 fits 9999) tt;
-      oxygen-below = certify (Q ∷ L ∷ c ∷ saturated ∷ p ∷ g ∷ r ∷ B ∷ G ∷ R ∷ mass ∷ deep ∷ []) (pQ ⊠ (slack (fB .low) ⊞ slack (fG .low) ⊞ slack (fR .low)) ⊞ shares .kept-part ⊠ slack (b .oxygen-below) ⊞ slack (shares .kept-of-one) ⊠ (slack (b .bod-above) ⊞ pd ⊞ pQ ⊠ ps) ⊞ pQ ⊠ pL ⊠ slack (shares .bod-of-one)) (search quote depth 40 fits 9999) tt;
-      oxygen-above = certify (Q ∷ c ∷ saturated ∷ r ∷ G ∷ R ∷ k ∷ []) (pQ ⊠ pG ⊞ pQ ⊠ slack (fR .high) ⊞ slack (shares .kept-of-one) ⊠ (pQ ⊠ slack sk) ⊞ shares .kept-part ⊠ slack (b .oxygen-above)) (search quote depth 40 fits 9999) tt;
+      oxygen-below = certify (Q ∷ L ∷ c ∷ saturated ∷ p ∷ g ∷ r ∷ B ∷ G ∷ R ∷ T ∷ most ∷ mass ∷ deep ∷ []) (pQ ⊠ (slack (fB .low) ⊞ slack (fG .low) ⊞ slack (fR .low) ⊞ slack hT) ⊞ shares .kept-part ⊠ slack (b .oxygen-below) ⊞ slack (shares .kept-of-one) ⊠ (slack (b .bod-above) ⊞ pd ⊞ pQ ⊠ ps) ⊞ pQ ⊠ pL ⊠ slack (shares .bod-of-one)) (search quote depth 40 fits 9999) tt;
+      oxygen-above = certify (Q ∷ c ∷ saturated ∷ r ∷ G ∷ R ∷ T ∷ k ∷ []) (pQ ⊠ (pG ⊞ pT) ⊞ pQ ⊠ slack (fR .high) ⊞ slack (shares .kept-of-one) ⊠ (pQ ⊠ slack sk) ⊞ shares .kept-part ⊠ slack (b .oxygen-above)) (search quote depth 40 fits 9999) tt;
     }
 
 -- a take leaves the concentrations, and of M no smaller a part than of the flow
@@ -86,22 +88,33 @@ taken-bounded Qm Q h c mass left deep rest k p pQ hm hd b =
 
 -- ---- the same of an accepted river
 
+-- the levels above a reach
+abbrev pub levels : Feeders → ℕ
+levels up = deepest up
+
+-- how far oxygen may fall below BOD at this many levels, and at the head below them, less what M accounts for
+abbrev fall : ℕ → ℕ
+fall n = 5_000_003 * n
+
+abbrev headFall : Feeders → ℕ
+headFall up = 3 + fall (levels up)
+
 -- what the feeders bring, times flow
 abbrev FeetBounded : Feeders → Type 0
-FeetBounded up = Bounded (ofℕ (bodSum up)) (ofℤ (oxygenSum up)) (ofℕ (flowOf up)) (ofℕ (1000 * massOf up)) (ofℕ (3 * deepest up * flowOf up)) (ofℕ (20000000 + deepest up))
+FeetBounded up = Bounded (ofℕ (bodSum up)) (ofℤ (oxygenSum up)) (ofℕ (flowOf up)) (ofℕ (1000 * massOf up)) (ofℕ (fall (levels up) * flowOf up)) (ofℕ (20000000 + levels up))
 
 -- the water at a head before the take, and after it
 abbrev MixedBounded : Card → Feeders → Type 0
 MixedBounded card up =
-    Bounded (ofℕ (mixedFlow card up) *ᶠ ofℕ (bodAtHead card up)) (ofℕ (mixedFlow card up) *ᶠ ofℤ (oxygenAtHead card up)) (ofℕ (mixedFlow card up)) (ofℕ (1000 * mixedMass card up)) (ofℕ (3 * reachDepth up * mixedFlow card up)) (ofℕ (20000000 + deepest up))
+    Bounded (ofℕ (mixedFlow card up) *ᶠ ofℕ (bodAtHead card up)) (ofℕ (mixedFlow card up) *ᶠ ofℤ (oxygenAtHead card up)) (ofℕ (mixedFlow card up)) (ofℕ (1000 * mixedMass card up)) (ofℕ (headFall up * mixedFlow card up)) (ofℕ (20000000 + levels up))
 
 abbrev HeadBounded : Card → Feeders → Type 0
 HeadBounded card up =
-    Bounded (ofℕ (reachFlow card up) *ᶠ ofℕ (bodAtHead card up)) (ofℕ (reachFlow card up) *ᶠ ofℤ (oxygenAtHead card up)) (ofℕ (reachFlow card up)) (ofℕ (1000 * reachMass card up)) (ofℕ (3 * reachDepth up * reachFlow card up)) (ofℕ (20000000 + deepest up))
+    Bounded (ofℕ (reachFlow card up) *ᶠ ofℕ (bodAtHead card up)) (ofℕ (reachFlow card up) *ᶠ ofℤ (oxygenAtHead card up)) (ofℕ (reachFlow card up)) (ofℕ (1000 * reachMass card up)) (ofℕ (headFall up * reachFlow card up)) (ofℕ (20000000 + levels up))
 
 abbrev InstantBounded : Card → Feeders → ℕ → Type 0
 InstantBounded card up m =
-    Bounded (ofℕ (reachFlow card up) *ᶠ ofℕ (bodAt card up m)) (ofℕ (reachFlow card up) *ᶠ ofℤ (oxygenAt card up m)) (ofℕ (reachFlow card up)) (ofℕ (1000 * reachMass card up)) (ofℕ (3 * reachDepth up * reachFlow card up)) (ofℕ (20000000 + reachDepth up))
+    Bounded (ofℕ (reachFlow card up) *ᶠ ofℕ (bodAt card up m)) (ofℕ (reachFlow card up) *ᶠ ofℤ (oxygenAt card up m)) (ofℕ (reachFlow card up)) (ofℕ (1000 * reachMass card up)) (ofℕ (fall (1 + levels up) * reachFlow card up)) (ofℕ (20000000 + (1 + levels up)))
 
 -- a wider bound
 bounded-by : {bod oxygen Q mass deep k mass′ deep′ k′ : Fraction} → mass ≼ mass′ → deep ≼ deep′ → k ≼ k′ → Nonneg Q → Bounded bod oxygen Q mass deep k → Bounded bod oxygen Q mass′ deep′ k′
@@ -125,22 +138,22 @@ mixed-in-bounds {card} {up} own above b =
     let W₁ = 1000 * i * card .«inflow_bod» in
     let W₂ = 1000000 * card .load in
     let W₃ = 1000 * i * card .«inflow_oxygen» in
-    let k = 20000000 + deepest up in
+    let k = 20000000 + levels up in
     bounded-by
     (≼-by (≈-sym (ofℕ-+₃ (1000 * massOf up) W₁ W₂)) (ofℕ-mono (mass-whole (massOf up) i (card .«inflow_bod») (card .load))) (≈-refl (ofℕ (1000 * mixedMass card up))))
-    (≼-by (≈-sym (ofℕ-+₄ (3 * deepest up * Qu) Qu Qu (Qu + i))) (ofℕ-mono (deeper (deepest up) Qu i)) (≈-refl (ofℕ (3 * reachDepth up * mixedFlow card up))))
+    (≼-by (≈-sym (ofℕ-+₄ (fall (levels up) * Qu) Qu Qu (Qu + i))) (ofℕ-mono (deeper (levels up) Qu i)) (≈-refl (ofℕ (headFall up * mixedFlow card up))))
     (≼-refl (ofℕ k))
     (number (mixedFlow card up))
-    (head-bounded (ofℕ Qu) (ofℕ (Qu + i)) (ofℕ i) (ofℕ (bodSum up)) (ofℤ (oxygenSum up)) (ofℕ u) (ofℤ v) (ofℤ (belowDam card (fed up) Qu v)) (ofℕ (bodAtHead card up)) (ofℤ (oxygenAtHead card up)) (ofℕ W₁) (ofℕ W₂) (ofℕ W₃) (ofℕ (saturationOf card)) (damPart (fed up) (card .dam) Qu) (ofℕ (1000 * massOf up)) (ofℕ (3 * deepest up * Qu)) (ofℕ k)
-    (number Qu) (number (3 * deepest up * Qu)) (number (saturationOf card)) (saturation-below card (deepest up) (own .saturation)) (number W₃)
-    (≼-by (≈-refl (ofℕ W₃)) (ofℕ-mono (oxygen-in i (card .«inflow_oxygen») (deepest up) (own .fields .inflow-oxygen))) (ofℕ-* i k))
+    (head-bounded (ofℕ Qu) (ofℕ (Qu + i)) (ofℕ i) (ofℕ (bodSum up)) (ofℤ (oxygenSum up)) (ofℕ u) (ofℤ v) (ofℤ (belowDam card (fed up) Qu v)) (ofℕ (bodAtHead card up)) (ofℤ (oxygenAtHead card up)) (ofℕ W₁) (ofℕ W₂) (ofℕ W₃) (ofℕ (saturationOf card)) (damPart (fed up) (card .dam) Qu) (ofℕ (1000 * massOf up)) (ofℕ (fall (levels up) * Qu)) (ofℕ k)
+    (number Qu) (number (fall (levels up) * Qu)) (number (saturationOf card)) (saturation-below card (levels up) (own .saturation)) (number W₃)
+    (≼-by (≈-refl (ofℕ W₃)) (ofℕ-mono (oxygen-in i (card .«inflow_oxygen») (levels up) (own .fields .inflow-oxygen))) (ofℕ-* i k))
     (ofℕ-+ Qu i) (bod-mean above) (oxygen-mean above) (below-dam card above (own .dam) v) (demand-mixed (bodSource card) Qu u (own .flows .flowing)) (oxygen-mixed card Qu (belowDam card (fed up) Qu v) (own .flows .flowing)) b)
   where
     mass-whole : (M i bod load : ℕ) → 1000 * M + 1000 * i * bod + 1000000 * load ≤ 1000 * (M + (i * bod + 1000 * load))
     mass-whole M i bod load = omega arith
 
-    deeper : (d Qu i : ℕ) → 3 * d * Qu + Qu + Qu + (Qu + i) ≤ 3 * (1 + d) * (Qu + i)
-    deeper d Qu i = omega arith
+    deeper : (n Qu i : ℕ) → fall n * Qu + Qu + Qu + (Qu + i) ≤ (3 + fall n) * (Qu + i)
+    deeper n Qu i = omega arith
 
     oxygen-in : (i oxygen d : ℕ) → oxygen ≤ 20000 → 1000 * i * oxygen ≤ i * (20000000 + d)
     oxygen-in i oxygen d h = omega (arith, mul-le-mul-left i h)
@@ -153,17 +166,17 @@ head-in-bounds : {card : Card} {up : Feeders} → AcceptedReach card up → AllA
 head-in-bounds {card} {up} own above b =
     let Qm = mixedFlow card up in
     let Q = reachFlow card up in
-    taken-bounded (ofℕ Qm) (ofℕ Q) (ofℕ (bodAtHead card up)) (ofℤ (oxygenAtHead card up)) (ofℕ (1000 * mixedMass card up)) (ofℕ (1000 * reachMass card up)) (ofℕ (3 * reachDepth up * Qm)) (ofℕ (3 * reachDepth up * Q)) (ofℕ (20000000 + deepest up))
+    taken-bounded (ofℕ Qm) (ofℕ Q) (ofℕ (bodAtHead card up)) (ofℤ (oxygenAtHead card up)) (ofℕ (1000 * mixedMass card up)) (ofℕ (1000 * reachMass card up)) (ofℕ (headFall up * Qm)) (ofℕ (headFall up * Q)) (ofℕ (20000000 + levels up))
     (positive-whole (own .flows .flowing)) (number Q)
     (products Q (1000 * mixedMass card up) Qm (1000 * reachMass card up) (thousand Q (mixedMass card up) Qm (reachMass card up) (mass-scaled (own .flows))))
-    (products Q (3 * reachDepth up * Qm) Qm (3 * reachDepth up * Q) (exchanged (reachDepth up) Qm Q))
+    (products Q (headFall up * Qm) Qm (headFall up * Q) (exchanged (headFall up) Qm Q))
     (mixed-in-bounds own above b)
   where
     thousand : (a b c d : ℕ) → a * b ≤ c * d → a * (1000 * b) ≤ c * (1000 * d)
     thousand a b c d h = omega arith
 
-    exchanged : (d a b : ℕ) → b * (3 * d * a) ≤ a * (3 * d * b)
-    exchanged d a b = omega arith
+    exchanged : (n a b : ℕ) → b * (n * a) ≤ a * (n * b)
+    exchanged n a b = omega arith
 
 -- equal oxygen has the same bounds
 bounded-at : {bod oxygen oxygen′ Q mass deep k : Fraction} → oxygen ≈ oxygen′ → Bounded bod oxygen Q mass deep k → Bounded bod oxygen′ Q mass deep k
@@ -174,23 +187,27 @@ bounded-at {bod} {oxygen} {oxygen′} {Q} {mass} {deep} {k} e b =
       oxygen-above = ≼-trans (≼-of-≈ (≈-sym e)) (b .oxygen-above);
     }
 
-instant-in-bounds : {card : Card} {up : Feeders} → AcceptedReach card up → HeadBounded card up → (m : ℕ) → InstantBounded card up m
+instant-in-bounds : {card : Card} {up : Feeders} → AcceptedReach card up → HeadBounded card up → (m : ℕ) → m ≤ foot → InstantBounded card up m
 unfolding bodAt oxygenAt bodAlong oxygenAlong bodWith
-instant-in-bounds {card} {up} own b m =
+instant-in-bounds {card} {up} own b m l =
     let Q = reachFlow card up in
     let f = factorsAlong card Q m in
     let L = bodAtHead card up in
     let C = oxygenAtHead card up in
     let Cs = saturationOf card in
-    let k = 20000000 + deepest up in
-    let deep = 3 * reachDepth up * Q in
-    bounded-by (≼-refl (ofℕ (1000 * reachMass card up))) (≼-refl (ofℕ deep)) (≼-by (≈-sym (ofℕ-+ k 1)) (ofℕ-mono (one-more-unit (deepest up))) (≈-refl (ofℕ (20000000 + reachDepth up)))) (number Q)
-    (bounded-at (*ᶠ-cong (≈-refl (ofℕ Q)) (≈-sym (oxygen-parts f Cs L C)))
-    (instant-bounded (ofℕ Q) (ofℕ L) (ofℤ C) (ofℕ Cs) (share (f .left)) (share (f .turned)) (share (f .kept)) (ofℕ (product (f .left) L)) (ofℕ (product (f .turned) L)) (ofℤ (keptDeficit f Cs C)) (ofℕ (1000 * reachMass card up)) (ofℕ deep) (ofℕ k)
-    (number Q) (number L) (number deep) (number Cs) (saturation-below card (deepest up) (own .saturation)) (shares-in-range f (factors-range own m)) (number (product (f .turned) L)) (product-floored (f .left) L) (product-floored (f .turned) L) (kept-floored f Cs C) b))
+    let T = lossAlong card Q m in
+    let k = 20000000 + levels up in
+    let deep = headFall up * Q in
+    bounded-by (≼-refl (ofℕ (1000 * reachMass card up))) (≼-by (≈-trans (+ᶠ-cong (≈-refl (ofℕ deep)) (≈-sym (ofℕ-* Q lossLimit))) (≈-sym (ofℕ-+ deep (Q * lossLimit)))) (ofℕ-mono (one-more-level (levels up) Q)) (≈-refl (ofℕ (fall (1 + levels up) * Q)))) (≼-by (≈-sym (ofℕ-+ k 1)) (ofℕ-mono (one-more-unit (levels up))) (≈-refl (ofℕ (20000000 + (1 + levels up))))) (number Q)
+    (bounded-at (*ᶠ-cong (≈-refl (ofℕ Q)) (≈-sym (oxygen-parts f Cs L C T)))
+    (instant-bounded (ofℕ Q) (ofℕ L) (ofℤ C) (ofℕ Cs) (share (f .left)) (share (f .turned)) (share (f .kept)) (ofℕ (product (f .left) L)) (ofℕ (product (f .turned) L)) (ofℤ (keptDeficit f Cs C)) (ofℕ T) (ofℕ lossLimit) (ofℕ (1000 * reachMass card up)) (ofℕ deep) (ofℕ k)
+    (number Q) (number L) (number deep) (number Cs) (saturation-below card (levels up) (own .saturation)) (shares-in-range f (factors-range own m)) (number (product (f .turned) L)) (number T) (ofℕ-mono (loss-small own m l)) (product-floored (f .left) L) (product-floored (f .turned) L) (kept-floored f Cs C) b))
   where
-    one-more-unit : (d : ℕ) → 20000000 + d + 1 ≤ 20000000 + (1 + d)
-    one-more-unit d = omega arith
+    one-more-unit : (n : ℕ) → 20000000 + n + 1 ≤ 20000000 + (1 + n)
+    one-more-unit n = omega arith
+
+    one-more-level : (n Q : ℕ) → (3 + fall n) * Q + Q * lossLimit ≤ fall (1 + n) * Q
+    one-more-level n Q = omega arith
 
 -- two waters together
 bounded-join : {b o Q m d k b₁ o₁ Q₁ m₁ d₁ k₁ b₂ o₂ Q₂ m₂ d₂ k₂ : Fraction} → b ≈ b₁ +ᶠ b₂ → o ≈ o₁ +ᶠ o₂ → Q ≈ Q₁ +ᶠ Q₂ → m₁ +ᶠ m₂ ≼ m → d₁ +ᶠ d₂ ≼ d → k₁ ≼ k → k₂ ≼ k → Nonneg Q₁ → Nonneg Q₂
@@ -212,10 +229,10 @@ feet-join card up rest x y =
     (≈-trans (ofℤ-+ (pos Q *ℤ oxygenAt card up foot) (oxygenSum rest)) (+ᶠ-cong (ofℤ-* (pos Q) (oxygenAt card up foot)) (≈-refl (ofℤ (oxygenSum rest)))))
     (ofℕ-+ Q (flowOf rest))
     (≼-by (≈-sym (ofℕ-+ (1000 * reachMass card up) (1000 * massOf rest))) (ofℕ-mono (omega arith)) (≈-refl (ofℕ (1000 * massOf (more card up rest)))))
-    (≼-by (≈-sym (ofℕ-+ (3 * reachDepth up * Q) (3 * deepest rest * flowOf rest))) (ofℕ-mono (deeper (reachDepth up) (deepest rest) Q (flowOf rest))) (≈-refl (ofℕ (3 * deepest (more card up rest) * flowOf (more card up rest)))))
+    (≼-by (≈-sym (ofℕ-+ (fall (1 + levels up) * Q) (fall (levels rest) * flowOf rest))) (ofℕ-mono (deeper (1 + levels up) (levels rest) Q (flowOf rest))) (≈-refl (ofℕ (fall (levels (more card up rest)) * flowOf (more card up rest)))))
     (ofℕ-mono (omega arith)) (ofℕ-mono (omega arith)) (number Q) (number (flowOf rest)) x y
   where
-    deeper : (a b Q R : ℕ) → 3 * a * Q + 3 * b * R ≤ 3 * max a b * (Q + R)
+    deeper : (a b Q R : ℕ) → fall a * Q + fall b * R ≤ fall (max a b) * (Q + R)
     deeper a b Q R = omega (arith, mul-le-mul-right Q (le-max-left a b), mul-le-mul-right R (le-max-right a b))
 
 feet-in-bounds : {up : Feeders} → AllAccepted up → FeetBounded up
@@ -227,57 +244,63 @@ feet-in-bounds no-more =
       oxygen-above = certify [] (number 0) (search quote depth 40 fits 9999) tt;
     }
 feet-in-bounds (one-more {card} {up} {rest} own above others) =
-    feet-join card up rest (instant-in-bounds own (head-in-bounds own above (feet-in-bounds above)) foot) (feet-in-bounds others)
+    feet-join card up rest (instant-in-bounds own (head-in-bounds own above (feet-in-bounds above)) foot (le-refl foot)) (feet-in-bounds others)
 
--- ---- the ranges that follow, by the rule M ≤ 1,000,000 × Q and a depth of at most 128
+-- ---- the ranges that follow, by the rule M ≤ 1,000,000 × Q and at most 128 levels
+
+-- the most by which oxygen lies below BOD, and so below 0
+abbrev pub mostBelow : ℕ
+mostBelow = 1_640_000_384
 
 pub record Ranged (bod oxygen k : Fraction) : Type 0 where
   pub bod-range : bod ≼ ofℕ 1000000000
-  pub oxygen-low : ofℕ 0 ≼ oxygen +ᶠ ofℕ 1000000384
+  pub bod-below : bod ≼ oxygen +ᶠ ofℕ mostBelow
   pub oxygen-high : oxygen ≼ k
 
-bounded-ranged : (Q bod oxygen mass deep k : Fraction) → Positive Q → Nonneg bod → mass ≼ ofℕ 1000000000 *ᶠ Q → deep ≼ ofℕ 384 *ᶠ Q → Bounded (Q *ᶠ bod) (Q *ᶠ oxygen) Q mass deep k → Ranged bod oxygen k
-bounded-ranged Q bod oxygen mass deep k pQ pb hm hd b =
+bounded-ranged : (Q bod oxygen mass deep k : Fraction) → Positive Q → mass ≼ ofℕ 1000000000 *ᶠ Q → deep ≼ ofℕ 640_000_384 *ᶠ Q → Bounded (Q *ᶠ bod) (Q *ᶠ oxygen) Q mass deep k → Ranged bod oxygen k
+bounded-ranged Q bod oxygen mass deep k pQ hm hd b =
     record {
       bod-range = certify-over Q pQ (Q ∷ bod ∷ mass ∷ []) no-equations (slack (b .bod-above) ⊞ slack hm) (search quote depth 40 fits 9999) tt;
-      oxygen-low = certify-over Q pQ (Q ∷ bod ∷ oxygen ∷ mass ∷ deep ∷ []) no-equations (slack (b .oxygen-below) ⊞ slack hm ⊞ slack hd ⊞ positive-nonneg pQ ⊠ pb) (search quote depth 40 fits 9999) tt;
+      bod-below = certify-over Q pQ (Q ∷ bod ∷ oxygen ∷ mass ∷ deep ∷ []) no-equations (slack (b .oxygen-below) ⊞ slack hm ⊞ slack hd) (search quote depth 40 fits 9999) tt;
       oxygen-high = certify-over Q pQ (Q ∷ oxygen ∷ k ∷ []) no-equations (slack (b .oxygen-above)) (search quote depth 40 fits 9999) tt;
     }
 
-module _ {card : Card} {up : Feeders} (own : AcceptedReach card up) (above : AllAccepted up) (shallow : reachDepth up ≤ 128) where
+module _ {card : Card} {up : Feeders} (own : AcceptedReach card up) (above : AllAccepted up) (shallow : 1 + levels up ≤ 128) where
   mass-small : ofℕ (1000 * reachMass card up) ≼ ofℕ 1000000000 *ᶠ ofℕ (reachFlow card up)
   mass-small = ≼-trans (ofℕ-mono (omega (arith, mass-within (own .flows)))) (≼-of-≈ (ofℕ-* 1000000000 (reachFlow card up)))
 
-  deep-small : ofℕ (3 * reachDepth up * reachFlow card up) ≼ ofℕ 384 *ᶠ ofℕ (reachFlow card up)
-  deep-small = ≼-trans (ofℕ-mono (mul-le-mul-right (reachFlow card up) (omega arith))) (≼-of-≈ (ofℕ-* 384 (reachFlow card up)))
+  fall-small : {n : ℕ} → n ≤ 640_000_384 → ofℕ (n * reachFlow card up) ≼ ofℕ 640_000_384 *ᶠ ofℕ (reachFlow card up)
+  fall-small h = ≼-trans (ofℕ-mono (mul-le-mul-right (reachFlow card up) h)) (≼-of-≈ (ofℕ-* 640_000_384 (reachFlow card up)))
 
   -- at the head
-  pub head-ranged : Ranged (ofℕ (bodAtHead card up)) (ofℤ (oxygenAtHead card up)) (ofℕ (20000000 + deepest up))
+  pub head-ranged : Ranged (ofℕ (bodAtHead card up)) (ofℤ (oxygenAtHead card up)) (ofℕ (20000000 + levels up))
   head-ranged =
-      bounded-ranged (ofℕ (reachFlow card up)) (ofℕ (bodAtHead card up)) (ofℤ (oxygenAtHead card up)) (ofℕ (1000 * reachMass card up)) (ofℕ (3 * reachDepth up * reachFlow card up)) (ofℕ (20000000 + deepest up)) (positive-whole (flow-remains (own .flows))) (number (bodAtHead card up)) mass-small deep-small (head-in-bounds own above (feet-in-bounds above))
+      bounded-ranged (ofℕ (reachFlow card up)) (ofℕ (bodAtHead card up)) (ofℤ (oxygenAtHead card up)) (ofℕ (1000 * reachMass card up)) (ofℕ (headFall up * reachFlow card up)) (ofℕ (20000000 + levels up)) (positive-whole (flow-remains (own .flows))) mass-small (fall-small (omega arith)) (head-in-bounds own above (feet-in-bounds above))
 
   -- at every instant
-  pub instant-ranged : (m : ℕ) → Ranged (ofℕ (bodAt card up m)) (ofℤ (oxygenAt card up m)) (ofℕ (20000000 + reachDepth up))
-  instant-ranged m =
-      bounded-ranged (ofℕ (reachFlow card up)) (ofℕ (bodAt card up m)) (ofℤ (oxygenAt card up m)) (ofℕ (1000 * reachMass card up)) (ofℕ (3 * reachDepth up * reachFlow card up)) (ofℕ (20000000 + reachDepth up)) (positive-whole (flow-remains (own .flows))) (number (bodAt card up m)) mass-small deep-small (instant-in-bounds own (head-in-bounds own above (feet-in-bounds above)) m)
+  pub instant-ranged : (m : ℕ) → m ≤ foot → Ranged (ofℕ (bodAt card up m)) (ofℤ (oxygenAt card up m)) (ofℕ (20000000 + (1 + levels up)))
+  instant-ranged m l =
+      bounded-ranged (ofℕ (reachFlow card up)) (ofℕ (bodAt card up m)) (ofℤ (oxygenAt card up m)) (ofℕ (1000 * reachMass card up)) (ofℕ (fall (1 + levels up) * reachFlow card up)) (ofℕ (20000000 + (1 + levels up))) (positive-whole (flow-remains (own .flows))) mass-small (fall-small (omega arith)) (instant-in-bounds own (head-in-bounds own above (feet-in-bounds above)) m l)
 
 -- the same as whole numbers
 pub record Range (bod : ℕ) (oxygen : ℤ) : Type 0 where
   pub bod-range : bod ≤ 1000000000
-  pub oxygen-low : negsuc 1000000383 ≤ℤ oxygen
+  pub bod-below : ofℕ bod ≼ ofℤ oxygen +ᶠ ofℕ mostBelow
+  pub oxygen-low : negsuc 1_640_000_383 ≤ℤ oxygen
   pub oxygen-high : oxygen ≤ℤ pos 20000128
 
-whole-range : (bod : ℕ) (oxygen : ℤ) (d : ℕ) → d ≤ 128 → Ranged (ofℕ bod) (ofℤ oxygen) (ofℕ (20000000 + d)) → Range bod oxygen
-whole-range bod oxygen d h r =
+whole-range : (bod : ℕ) (oxygen : ℤ) (n : ℕ) → n ≤ 128 → Ranged (ofℕ bod) (ofℤ oxygen) (ofℕ (20000000 + n)) → Range bod oxygen
+whole-range bod oxygen n h r =
     record {
       bod-range = ofℕ-reflect bod 1000000000 (r .bod-range);
-      oxygen-low = ofℤ-reflect (negsuc 1000000383) oxygen (certify (ofℤ oxygen ∷ []) (slack (r .oxygen-low)) (search quote depth 40 fits 9999) tt);
+      bod-below = r .bod-below;
+      oxygen-low = ofℤ-reflect (negsuc 1_640_000_383) oxygen (certify (ofℕ bod ∷ ofℤ oxygen ∷ []) (slack (r .bod-below) ⊞ number bod) (search quote depth 40 fits 9999) tt);
       oxygen-high = ofℤ-reflect oxygen (pos 20000128) (≼-trans (r .oxygen-high) (ofℕ-mono (omega arith)));
     }
 
-module _ {card : Card} {up : Feeders} (own : AcceptedReach card up) (above : AllAccepted up) (shallow : reachDepth up ≤ 128) where
+module _ {card : Card} {up : Feeders} (own : AcceptedReach card up) (above : AllAccepted up) (shallow : 1 + levels up ≤ 128) where
   pub head-range : Range (bodAtHead card up) (oxygenAtHead card up)
-  head-range = whole-range (bodAtHead card up) (oxygenAtHead card up) (deepest up) (omega arith) (head-ranged own above shallow)
+  head-range = whole-range (bodAtHead card up) (oxygenAtHead card up) (levels up) (omega arith) (head-ranged own above shallow)
 
-  pub instant-range : (m : ℕ) → Range (bodAt card up m) (oxygenAt card up m)
-  instant-range m = whole-range (bodAt card up m) (oxygenAt card up m) (reachDepth up) shallow (instant-ranged own above shallow m)
+  pub instant-range : (m : ℕ) → m ≤ foot → Range (bodAt card up m) (oxygenAt card up m)
+  instant-range m l = whole-range (bodAt card up m) (oxygenAt card up m) (1 + levels up) shallow (instant-ranged own above shallow m l)

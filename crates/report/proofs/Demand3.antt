@@ -1,6 +1,7 @@
 -- Demand 3: the figures of every reach of every river that reading and the flow check accept lie within the allowance of the exact recurrence.
--- The refutations are named here so that they are checked first: an allowance that rules out too little is refused by them.
+-- The refutations and the rows of units are named here so that they are checked first: an allowance that rules out too little is refused by them.
 use mathlib.Core.Path.{sym, subst}
+use mathlib.Core.Bool.{Bool, true, false, cond}
 use mathlib.Core.List.{List, [], _∷_}
 use Prim.Native.Nat.{ℕ, suc, _≤_, _<_}
 use native.Mathlib.Nat.{le-refl}
@@ -14,9 +15,10 @@ use Rattle.river.specs.Card.{Lawful}
 use Rattle.river.specs.Flow.{Feeders, cardOf, above, reachDepth, Flows}
 use Rattle.report.specs.Program.{lowest, bodAt, oxygenAt, figuresOf, figuresAt, foot}
 use Rattle.report.specs.Recurrence.{exactOxygenAt}
-use Rattle.report.specs.Distance.{stepUnits, allowanceAt, WithinAllowance, broughtAllowance, waterAllowance}
+use Rattle.report.specs.Distance.{hasBed, stepUnits, allowanceAt, WithinAllowance, broughtAllowance, waterAllowance}
 use Rattle.report.specs.Record.{Figures}
 use Rattle.report.proofs.Refutations
+use Rattle.report.proofs.UnitRows
 use Rattle.report.proofs.Lowest.{lowest-first}
 use Rattle.report.proofs.Forest.{AcceptedReach, AllAccepted, reach-accepted, above-accepted, reach-shallow}
 use Rattle.report.proofs.Accuracy.Errors.{Near, head-adds}
@@ -51,7 +53,11 @@ within-more {N} {card} {up} {f} {a} {b} h w =
 -- the units that a river allows cover what a reach adds
 units-cover : (cards : List Card) → Covers (stepUnits cards)
 unfolding stepUnits
-units-cover cards = record { added = omega arith; few = omega arith }
+units-cover cards = go (hasBed cards)
+  where
+    go : (t : Bool) → Covers (cond t 150 100)
+    go true = record { added = omega arith; few = omega arith }
+    go false = record { added = omega arith; few = omega arith }
 
 module _ (N : ℕ) (long : 40 ≤ N) where
   -- THEOREM: a reach over an accepted forest lies within its allowance by water

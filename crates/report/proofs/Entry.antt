@@ -4,6 +4,7 @@ pub mod Numbers
 use mathlib.Core.Path.{_≡_, refl, sym, ap, _∙_, subst}
 use mathlib.Core.List.{List, _++_}
 use Prim.Native.Nat.{ℕ, zero, suc, _-_, _≤_, _<_}
+use native.Mathlib.Nat.{le-refl}
 use native.Mathlib.Omega.{arith}
 use borrow.Author.Tests.{lt-ltb, le-ltb, le-leb, lt-leb, leb-true}
 use lib.Dec.{leb→le}
@@ -42,7 +43,7 @@ complement-back (pos n) r =
     let h : n ≤ 20_000_128 = leb→le n 20_000_128 (r .oxygen-high .le) in
     rw (lt-ltb n storedZero (omega arith))
 complement-back (negsuc n) r =
-    let h : n ≤ 1_000_000_383 = leb→le n 1_000_000_383 (r .oxygen-low .le) in
+    let h : n ≤ 1_640_000_383 = leb→le n 1_640_000_383 (r .oxygen-low .le) in
     rw (le-ltb (storedLimit - n) storedZero (omega arith)) (ap negsuc (omega arith))
 
 writable : {cards : List Card} → IsRiver cards → (i : ℕ) → i < length cards → Writable (figuresAt cards (suc i))
@@ -52,8 +53,8 @@ writable {cards} river i l =
     record {
       head = complement-back _ (head-in-range river i l);
       critical =
-          subst (λ (z : ℤ). fromComplement (complement z) ≡ z) (sym (c .value)) (complement-back _ (instant-in-range river i l _));
-      foot = complement-back _ (instant-in-range river i l foot);
+          subst (λ (z : ℤ). fromComplement (complement z) ≡ z) (sym (c .value)) (complement-back _ (instant-in-range river i l _ (c .within)));
+      foot = complement-back _ (instant-in-range river i l foot (le-refl foot));
     }
 
 -- an accepted river whose report the buffer can hold is what reporting answers

@@ -1,25 +1,29 @@
 -- What an accepted river gives for every reach of the forest above a reach: its card lies in range and passes the flow check.
 use mathlib.Core.Bool.{Bool, true, false}
 use mathlib.Core.List.{List}
-use Prim.Native.Nat.{ℕ, zero, suc, _≤_, _<_}
+use Prim.Native.Nat.{ℕ, zero, suc, _≤_, _<_, zero-le}
 use native.Mathlib.Omega.{arith}
 use lib.ListN.{length, getD}
 use lib.Dec.{eqb}
 use Rattle.decay.specs.Step.{RatesPass}
 use Rattle.river.specs.declared.card.Card.{Card}
-use Rattle.river.specs.Card.{FieldsInRange, LawfulDam, Lawful, blank}
+use Rattle.river.specs.declared.card.Amount.{Amount}
+use Rattle.river.specs.declared.card.Amount.the-variants.{Without, Given}
+use Rattle.river.specs.Card.{FieldsInRange, LawfulDam, LawfulAmount, sludgeLayout, amountOr, Lawful, blank}
 use Rattle.river.specs.Saturation.{SaturationInRange}
 use Rattle.river.proofs.range.Ranges.{lawful-at}
 use Rattle.river.proofs.head.Bounds.{conditions-in-range}
 use Rattle.river.proofs.flow.Table.{deepest-few}
 use Rattle.river.proofs.flow.Take.{flow-remains, flow-within}
-use Rattle.river.specs.Flow.{Feeders, none, more, joinedIf, feedersAmong, reachFlow, reachDepth, ReachPasses, Flows}
+use Rattle.river.specs.Flow.{Feeders, none, more, joinedIf, feedersAmong, sludgeOf, reachFlow, reachDepth, ReachPasses, Flows}
+use Rattle.report.specs.Bed.{BedPasses}
 
 -- an accepted reach: its fields lie in range, and it passes the flow check
 pub record AcceptedReach (card : Card) (up : Feeders) : Type 0 where
   pub fields : FieldsInRange card
   pub saturation : SaturationInRange card
   pub dam : LawfulDam (card .dam)
+  pub sludge : sludgeOf card ≤ 65_535
   pub flows : ReachPasses card up
 
 -- and so the factors' promise holds for it
@@ -35,6 +39,10 @@ rates-pass a =
       k2-short = a .flows .aeration-rule;
     }
 
+-- and its bed passes check 14
+pub bed-passes : {card : Card} {up : Feeders} → AcceptedReach card up → BedPasses card (reachFlow card up)
+bed-passes a = record { sludge = a .sludge; rule = a .flows .bed-rule }
+
 -- every reach of a forest is accepted
 pub data AllAccepted : Feeders → Type 0 where
   no-more : AllAccepted none
@@ -44,6 +52,11 @@ joined-accepted : (t : Bool) (card : Card) (up rest : Feeders) → AcceptedReach
 unfolding joinedIf
 joined-accepted true card up rest own water others = one-more own water others
 joined-accepted false card up rest own water others = others
+
+-- a lawful bed's demand has two bytes
+demand-small : (a : Amount) → LawfulAmount sludgeLayout a → amountOr 0 a ≤ 65_535
+demand-small Without h = zero-le
+demand-small (Given n) h = h .1
 
 -- a river: lawful cards whose flows pass
 module _ (cards : List Card) (lawful : Lawful cards) (flows : Flows cards) where
@@ -55,6 +68,7 @@ module _ (cards : List Card) (lawful : Lawful cards) (flows : Flows cards) where
         fields = own .in-range;
         saturation = conditions-in-range own;
         dam = own .dam;
+        sludge = demand-small (getD cards n blank .sludge) (own .sludge);
         flows = flows .each n l;
       }
 

@@ -6,6 +6,7 @@ pub mod Ties
 pub mod Bounds
 pub mod Locality
 pub mod Accuracy
+pub mod UnitRows
 pub mod Demand3
 pub mod River
 pub mod Orders

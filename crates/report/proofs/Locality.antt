@@ -15,7 +15,8 @@ use Rattle.river.specs.Flow.{Feeders, joinedIf, feedersAmong, fed, takeOf, flow
 use Rattle.river.specs.Saturation.{saturationOf}
 use Rattle.river.specs.Head.{belowDam, headBod, headOxygen}
 use Rattle.report.specs.Record.{Figures}
-use Rattle.report.specs.Program.{factorsAlong, bodAlong, oxygenAlong, bodSum, oxygenSum, bodAtHead, oxygenAtHead, figuresBelow, figuresOf}
+use Rattle.report.specs.Bed.{bedOf}
+use Rattle.report.specs.Program.{factorsAlong, bodAlong, lossAlong, oxygenAlong, bodSum, oxygenSum, bodAtHead, oxygenAtHead, figuresBelow, figuresOf}
 use Rattle.report.specs.Locality.{withOutlet, SameButOutlet, SameForest, bare, alike, exchanged, chained, SameReach, LiesAbove, feeds, through, SameCard, Agree}
 
 -- ---- what a reach takes from its feeders, and what it gives
@@ -87,7 +88,7 @@ dam-any-outlet card true Qu C = refl
 dam-any-outlet card false Qu C = refl
 
 figures-any-outlet : (s : Sums) (card : Card) → figuresBy (withOutlet 0 card) s ≡ figuresBy card s
-unfolding withOutlet headOxygen bodAlong oxygenAlong factorsAlong saturationOf
+unfolding withOutlet headOxygen bodAlong oxygenAlong lossAlong factorsAlong bedOf saturationOf
 figures-any-outlet s card = rw (dam-any-outlet card (s .fed))
 
 gives-any-outlet : (s : Sums) (card : Card) → gives (withOutlet 0 card) s ≡ gives card s

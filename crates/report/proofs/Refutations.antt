@@ -18,8 +18,8 @@ use Rattle.river.specs.Flow.{cardOf, above, feedersAmong, joinedIf, fed, flowOf
 use Rattle.river.specs.Accept.{acceptFile}
 use Rattle.river.specs.Saturation.{saturationThousandths}
 use Rattle.report.specs.Record.{Figures}
-use Rattle.report.specs.Recurrence.{exactSaturation, exactMean, exactBelowDam, exactMixedDemand, exactMixedOxygen, exactHeadDemand, exactHeadOxygen, exactBodAlong, exactOxygenAlong, exactBodSum, exactBodAtHead, exactOxygenAtHead, exactBodAt, exactOxygenAt}
-use Rattle.report.specs.Distance.{stepUnits, allowanceAt, WithinAllowance}
+use Rattle.report.specs.Recurrence.{exactSaturation, exactMean, exactBelowDam, exactMixedDemand, exactMixedOxygen, exactHeadDemand, exactHeadOxygen, exactBodAlong, exactLoss, exactOxygenAlong, exactBodSum, exactBodAtHead, exactOxygenAtHead, exactBodAt, exactOxygenAt}
+use Rattle.report.specs.Distance.{isGiven, hasBed, stepUnits, allowanceAt, WithinAllowance}
 
 -- the reach of the river file paper's bench values, by outlet and inflow
 abbrev reach : (outlet inflow : ℕ) → Card
@@ -37,6 +37,7 @@ reach outlet inflow =
       dam = Absent;
       take = Without;
       pressure = Without;
+      sludge = Without;
     }
 
 -- that reach, and below it as long a one with no inflow of its own
@@ -65,7 +66,7 @@ record Apart : Type 0 where
   heads : headBod 1 -ᶠ headBod 2 ≼ allowed 1 +ᶠ allowed 2 → ⊥
 
 apart : Apart
-unfolding ofℤ _+ᶠ_ -ᶠ_ _*ᶠ_ _÷_ over exponent power factorial term sum S F feedersAmong joinedIf fed flowOf deepest stepUnits saturationThousandths exactSaturation exactMean exactBelowDam exactMixedDemand exactMixedOxygen exactHeadDemand exactHeadOxygen exactBodAlong exactOxygenAlong exactBodSum exactBodAtHead exactOxygenAtHead exactBodAt exactOxygenAt
+unfolding ofℤ _+ᶠ_ -ᶠ_ _*ᶠ_ _÷_ over exponent power factorial term sum S F feedersAmong joinedIf fed flowOf deepest isGiven hasBed stepUnits saturationThousandths exactSaturation exactMean exactBelowDam exactMixedDemand exactMixedOxygen exactHeadDemand exactHeadOxygen exactBodAlong exactLoss exactOxygenAlong exactBodSum exactBodAtHead exactOxygenAtHead exactBodAt exactOxygenAt
 apart = record { head-foot-bod = λ h. h .across .le; head-foot-oxygen = λ h. h .across .le; heads = λ h. h .across .le }
 
 -- of two distances that together are at most e, each is

@@ -12,7 +12,7 @@ use Rattle.river.specs.declared.card.Card.{Card}
 use Rattle.river.specs.Bytes.{AreBytes}
 use Rattle.river.specs.Card.{Lawful}
 use Rattle.river.specs.Refusal.{accepted}
-use Rattle.river.specs.Flow.{cardOf, above, Flows}
+use Rattle.river.specs.Flow.{cardOf, above, sludgeOf, Flows}
 use Rattle.river.proofs.Acceptance.{accepts-exactly}
 use Rattle.report.specs.Program.{bodAtHead, oxygenAtHead, bodAt, oxygenAt, figuresAt, figuresOf, lowest, foot}
 use Rattle.report.specs.Distance.{allowanceAt, WithinAllowance}
@@ -40,12 +40,16 @@ no-rate {k} {volume} (inl e) = rw (e, zero-mul)
 no-rate {k} {volume} (inr e) = rw (e, mul-zero)
 
 no-decay : (card : Card) → NoChange card → card .k1 * card .volume ≡ 0
-no-decay card (inl (h, k)) = no-rate (inl h)
+no-decay card (inl (h, k, s)) = no-rate (inl h)
 no-decay card (inr h) = no-rate (inr h)
 
 no-aeration : (card : Card) → NoChange card → card .k2 * card .volume ≡ 0
-no-aeration card (inl (h, k)) = no-rate (inl k)
+no-aeration card (inl (h, k, s)) = no-rate (inl k)
 no-aeration card (inr h) = no-rate (inr h)
+
+no-demand : (card : Card) → NoChange card → sludgeOf card * card .volume ≡ 0
+no-demand card (inl (h, k, s)) = no-rate (inl s)
+no-demand card (inr h) = no-rate (inr h)
 
 module _ {cards : List Card} (river : IsRiver cards) (i : ℕ) (l : i < length cards) where
   own : AcceptedReach (cardOf cards (suc i)) (above cards (suc i))
@@ -54,12 +58,12 @@ module _ {cards : List Card} (river : IsRiver cards) (i : ℕ) (l : i < length c
   water : AllAccepted (above cards (suc i))
   water = above-accepted cards (river .lawful) (river .flows) i (suc i) (le-of-lt l)
 
-  -- BOD from 0 to 1,000,000,000 and oxygen from -1,000,000,384 to 20,000,128
+  -- BOD from 0 to 1,000,000,000 and oxygen from -1,640,000,384 to 20,000,128, and no more than 1,640,000,384 below BOD
   pub head-in-range : Range (bodAtHead (cardOf cards (suc i)) (above cards (suc i))) (oxygenAtHead (cardOf cards (suc i)) (above cards (suc i)))
   head-in-range = head-range own water (reach-shallow cards (river .lawful) (river .flows) i l)
 
-  pub instant-in-range : (m : ℕ) → Range (bodAt (cardOf cards (suc i)) (above cards (suc i)) m) (oxygenAt (cardOf cards (suc i)) (above cards (suc i)) m)
-  instant-in-range m = instant-range own water (reach-shallow cards (river .lawful) (river .flows) i l) m
+  pub instant-in-range : (m : ℕ) → m ≤ foot → Range (bodAt (cardOf cards (suc i)) (above cards (suc i)) m) (oxygenAt (cardOf cards (suc i)) (above cards (suc i)) m)
+  instant-in-range m h = instant-range own water (reach-shallow cards (river .lawful) (river .flows) i l) m h
 
   -- the ties and the critical point
   pub reach-tied : Tied (cardOf cards (suc i)) (oxygenAt (cardOf cards (suc i)) (above cards (suc i))) (figuresAt cards (suc i))
@@ -72,7 +76,7 @@ module _ {cards : List Card} (river : IsRiver cards) (i : ℕ) (l : i < length c
       record {
         foot-bod = bod-at-most-head own foot;
         bod-kept = λ h. reach-bod-stays own (no-rate h) foot;
-        oxygen-kept = λ h m l. reach-oxygen-stays own (no-decay card h) (no-aeration card h) m;
+        oxygen-kept = λ h m l. reach-oxygen-stays own (no-decay card h) (no-aeration card h) (no-demand card h) m;
         at-head = head;
         at-foot = refl;
         critical = c;

@@ -1,16 +1,31 @@
 -- Demand 3 for a reach: how far its reported figures may stray from the exact recurrence at the series length N.
-use mathlib.Core.List.{List}
+use mathlib.Core.Bool.{Bool, true, false, _||_, cond}
+use mathlib.Core.List.{List, [], _∷_}
 use Prim.Native.Nat.{ℕ, _+_, _*_, _≤_}
 use Rattle.decay.specs.Fraction.{Fraction, ofℕ, ofℤ, _≼_, _+ᶠ_, _-ᶠ_, _*ᶠ_, _÷_, distance}
 use Rattle.decay.specs.Exact.{foot}
+use Rattle.decay.specs.Promise.{deficitDistance}
 use Rattle.river.specs.declared.card.Card.{Card}
+use Rattle.river.specs.declared.card.Amount.{Amount}
+use Rattle.river.specs.declared.card.Amount.the-variants.{Without, Given}
 use Rattle.river.specs.Flow.{Feeders, none, more, flowOf, reachFlow, reachDepth, above}
+use Rattle.report.specs.Bed.{bedOf}
 use Rattle.report.specs.Recurrence.{exactBodAtHead, exactOxygenAtHead, exactBodAt, exactOxygenAt}
 use Rattle.report.specs.Record.{Figures}
 
--- the units that a river allows for each step of depth: 0.0001 mg/L, which is 100 units
+-- whether an amount stands on a card, 0 too
+unfoldable pub isGiven : Amount → Bool
+isGiven Without = false
+isGiven (Given n) = true
+
+-- whether a river has a sludge bed: an `SD` record at any of its reaches
+unfoldable pub hasBed : List Card → Bool
+hasBed [] = false
+hasBed (card ∷ cards) = isGiven (card .sludge) || hasBed cards
+
+-- the units that a river allows for each step of depth: 150 with a sludge bed, else 100, which is 0.0001 mg/L
 unfoldable pub stepUnits : List Card → ℕ
-stepUnits cards = 100
+stepUnits cards = cond (hasBed cards) 150 100
 
 -- units times the depth of a reach
 abbrev pub allowance : (units : ℕ) → Feeders → Fraction
@@ -33,6 +48,11 @@ pub record WithinAllowance (N : ℕ) (card : Card) (up : Feeders) (f : Figures) 
   pub at-critical : distance (ofℤ (f .critical-oxygen)) (exactOxygenAt N card up (f .critical-instant)) ≼ allowed
   -- at no instant is exact oxygen lower than critical oxygen by more than the distance
   pub nowhere-lower : (m : ℕ) → m ≤ foot → ofℤ (f .critical-oxygen) -ᶠ allowed ≼ exactOxygenAt N card up m
+
+-- How near the exact loss to a bed the program's is: 2 units of rounding, and 2^-31 of the loss in the end, by which the share of the deficit
+-- left may be off. That loss is 1,000,000 × demand / k2, so that a small k2 costs digits: 32.52 units at most at k2 = 1, 8.11 at 5, 2.07 at 500.
+abbrev pub lossDistance : Card → (Q : ℕ) → Fraction
+lossDistance card Q = ofℕ 2 +ᶠ deficitDistance *ᶠ ofℕ (bedOf card Q .eventual + 1)
 
 -- What the proof carries down the river is the allowance by water, which is at most that by depth.
 

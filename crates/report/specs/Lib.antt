@@ -1,3 +1,4 @@
+pub mod Bed
 pub mod Program
 pub mod Recurrence
 pub mod Distance

@@ -24,6 +24,7 @@ withOutlet o card =
       dam = card .dam;
       take = card .take;
       pressure = card .pressure;
+      sludge = card .sludge;
     }
 
 -- two cards are the same but for their outlets

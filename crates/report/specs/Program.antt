@@ -13,13 +13,14 @@ use Rattle.river.specs.declared.card.Card.{Card}
 use Rattle.river.specs.Flow.{Feeders, none, more, fed, flowOf, reachFlow, reachDepth, cardOf, above}
 use Rattle.river.specs.Saturation.{saturationOf}
 use Rattle.river.specs.Head.{floor, headBod, headOxygen}
+use Rattle.report.specs.Bed.{bedOf, lossWith}
 use Rattle.report.specs.Record.{Figures}
 
 -- BOD where these factors hold, with head BOD L: the share left of it, rounded down
 unfoldable pub bodWith : Factors → (L : ℕ) → ℕ
 bodWith f L = product (f .left) L
 
--- oxygen where these factors hold, with saturation Cs, head BOD L and head oxygen C: Cs less the share of L that has
+-- oxygen where these factors hold and no bed takes any, with saturation Cs, head BOD L and head oxygen C: Cs less the share of L that has
 -- turned to deficit and the share kept of the head deficit, each rounded down
 unfoldable pub oxygenWith : Factors → (Cs L : ℕ) (C : ℤ) → ℤ
 oxygenWith f Cs L C = pos Cs -ℤ pos (product (f .turned) L) -ℤ floor (pos (f .kept) *ℤ (pos Cs -ℤ C)) one
@@ -28,12 +29,16 @@ oxygenWith f Cs L C = pos Cs -ℤ pos (product (f .turned) L) -ℤ floor (pos (f
 unfoldable pub factorsAlong : Card → (Q m : ℕ) → Factors
 factorsAlong card Q m = factorsOf (card .k1) (card .k2) (card .volume) Q m
 
+-- the oxygen lost to the bed of a reach with flow Q at instant m
+unfoldable pub lossAlong : Card → (Q m : ℕ) → ℕ
+lossAlong card Q m = lossWith (factorsAlong card Q m) (bedOf card Q) m
+
 -- BOD and oxygen at instant m of a reach with flow Q, head BOD L and head oxygen C
 unfoldable pub bodAlong : Card → (Q L m : ℕ) → ℕ
 bodAlong card Q L m = bodWith (factorsAlong card Q m) L
 
 unfoldable pub oxygenAlong : Card → (Q L : ℕ) (C : ℤ) (m : ℕ) → ℤ
-oxygenAlong card Q L C m = oxygenWith (factorsAlong card Q m) (saturationOf card) L C
+oxygenAlong card Q L C m = oxygenWith (factorsAlong card Q m) (saturationOf card) L C -ℤ pos (lossAlong card Q m)
 
 -- the sum over the feeders of Q × foot BOD
 unfoldable pub bodSum : Feeders → ℕ

@@ -1,14 +1,15 @@
 -- The exact recurrence of the river file paper at the series length N: the steps of a head and the formulas along a reach, with
 -- nothing rounded, saturation included. A feeder's foot is the feeder's exact foot. Concentrations are in units.
-use mathlib.Core.Bool.{Bool, true, false}
+use mathlib.Core.Bool.{Bool, true, false, cond}
 use Prim.Native.Nat.{ℕ, _+_, _*_, _-_}
+use lib.Dec.{eqb}
 use Rattle.decay.specs.Fraction.{Fraction, ofℕ, _+ᶠ_, _-ᶠ_, _*ᶠ_, _÷_}
 use Rattle.decay.specs.Exact.{foot, exponent, S, F}
 use Rattle.river.specs.declared.card.Dam.{Dam}
 use Rattle.river.specs.declared.card.Dam.the-variants.{Absent, Aerating}
 use Rattle.river.specs.declared.card.Card.{Card}
 use Rattle.river.specs.declared.source.Source.{Source}
-use Rattle.river.specs.Flow.{Feeders, none, more, fed, flowOf, reachFlow}
+use Rattle.river.specs.Flow.{Feeders, none, more, fed, flowOf, reachFlow, sludgeOf}
 use Rattle.river.specs.Saturation.{saturationThousandths, standardPressure, pressureOf}
 use Rattle.river.specs.Source.{bodSource}
 
@@ -58,11 +59,21 @@ module _ (N : ℕ) where
   unfoldable pub exactBodAlong : Card → (Q : ℕ) (L : Fraction) (m : ℕ) → Fraction
   exactBodAlong card Q L m = L *ᶠ S N (exponent (card .k1) (card .volume) Q m)
 
-  -- oxygen at instant m, with head oxygen C too: Cs − F × L − S(x2) × (Cs − C)
+  -- B, the oxygen lost to the sludge bed at instant m: demand × (1 − S(x2)) / k2 mg/L, and if k2 is 0 demand × volume / (86,400 × Q) mg/L, the
+  -- volume times m / 1024; 1,000,000 units are a mg/L
+  unfoldable pub exactLoss : Card → (Q m : ℕ) → Fraction
+  exactLoss card Q m =
+      let demand = sludgeOf card in
+      let x2 = exponent (card .k2) (card .volume) Q m in
+      ofℕ 1_000_000 *ᶠ
+      cond (eqb (card .k2) 0) (ofℕ (demand * card .volume * m) ÷ ofℕ (86_400 * 1_024 * Q)) (ofℕ demand *ᶠ (ofℕ 1 -ᶠ S N x2) ÷ ofℕ (card .k2))
+
+  -- oxygen at instant m, with head oxygen C too: Cs − F × L − S(x2) × (Cs − C) − B
   unfoldable pub exactOxygenAlong : Card → (Q : ℕ) (L C : Fraction) (m : ℕ) → Fraction
   exactOxygenAlong card Q L C m =
       let Cs = exactSaturation card in
-      Cs -ᶠ F N (card .k1) (card .k2) (card .volume) Q m *ᶠ L -ᶠ S N (exponent (card .k2) (card .volume) Q m) *ᶠ (Cs -ᶠ C)
+      let x2 = exponent (card .k2) (card .volume) Q m in
+      Cs -ᶠ F N (card .k1) (card .k2) (card .volume) Q m *ᶠ L -ᶠ S N x2 *ᶠ (Cs -ᶠ C) -ᶠ exactLoss card Q m
 
   -- the sum over the feeders of Q × exact foot BOD
   unfoldable pub exactBodSum : Feeders → Fraction

@@ -6,15 +6,16 @@ use lib.IntN.{ℤ}
 use lib.Signed.{_≤ℤ_, _<ℤ_}
 use Rattle.decay.specs.Exact.{foot}
 use Rattle.river.specs.declared.card.Card.{Card}
+use Rattle.river.specs.Flow.{sludgeOf}
 use Rattle.report.specs.Record.{Figures}
 
 -- BOD does not decay: k1 = 0 or volume 0
 abbrev pub NoDecay : Card → Type 0
 NoDecay card = (card .k1 ≡ 0) ⊎ (card .volume ≡ 0)
 
--- oxygen does not change: both rates 0, or volume 0
+-- oxygen does not change: both rates and the demand of a sludge bed 0, or volume 0
 abbrev pub NoChange : Card → Type 0
-NoChange card = ((card .k1 ≡ 0) × (card .k2 ≡ 0)) ⊎ (card .volume ≡ 0)
+NoChange card = ((card .k1 ≡ 0) × (card .k2 ≡ 0) × (sludgeOf card ≡ 0)) ⊎ (card .volume ≡ 0)
 
 -- an instant and its oxygen: the lowest of the values at instants 0 to n, at the first instant that has it
 pub record FirstLowest (at : ℕ → ℤ) (n instant : ℕ) (lowest : ℤ) : Type 0 where
@@ -29,7 +30,7 @@ pub record Tied (card : Card) (oxygen : ℕ → ℤ) (f : Figures) : Type 0 wher
   pub foot-bod : f .foot-bod ≤ f .head-bod
   -- k1 = 0 or volume 0 keeps BOD to the unit
   pub bod-kept : NoDecay card → f .foot-bod ≡ f .head-bod
-  -- both rates 0, or volume 0, keep oxygen to the unit at every instant
+  -- both rates 0 without a bed's demand, or volume 0, keep oxygen to the unit at every instant
   pub oxygen-kept : NoChange card → (m : ℕ) → m ≤ foot → oxygen m ≡ f .head-oxygen
   -- instant 0 is the head, and instant 1,024 the foot
   pub at-head : oxygen 0 ≡ f .head-oxygen

@@ -1,4 +1,5 @@
 // Reports of BOD and dissolved oxygen along the reaches of a river.
+pub mod bed;
 pub mod lines;
 pub mod profile;
 pub mod record;

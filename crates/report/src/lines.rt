@@ -1,4 +1,5 @@
 // The report of an accepted river, reach by reach.
+use crate::bed;
 use crate::profile;
 use crate::profile::Start;
 use crate::record;
@@ -15,21 +16,21 @@ ghost use mathlib.Core.Path.{_≡_};
 ghost use mathlib.Core.List.{_++_};
 ghost use Prim.Native.Nat.{_+_, _≤_, _<_};
 ghost use lib.ListN.{length, drop};
-ghost use lib.Seq.{sets};
 ghost use Rattle.decay.specs.Step.{RatesPass};
 ghost use Rattle.river.specs.Card.{river};
+ghost use Rattle.report.specs.Bed.{BedPasses, lossLimit};
 ghost use Rattle.report.specs.Program.{figuresBelow};
-ghost use Rattle.report.specs.Record.{figuresIn, recordSize};
-ghost use Rattle.report.specs.Lines.{Ready, FeetOf, LineOf};
-ghost use Rattle.report.specs.Report.{recordOf, reportOf, reportSize};
+ghost use Rattle.report.specs.Record.{figuresIn};
+ghost use Rattle.report.specs.Lines.{Ready, LineAt, LineBy, PlacedAt, ReportedBy};
+ghost use Rattle.report.specs.Report.{reportOf, reportSize};
 ghost use Rattle.river.specs.Saturation.{SaturationInRange};
 ghost use Rattle.river.specs.Stored.{oxygenOf};
 ghost use Rattle.river.specs.HeadTable.{demandLimit};
 
 // The figures of a reach with this card, flow and depth, below this head.
 pub fn line_of(card: Card, flow: u32, depth: u8, head: Head) -> Line
-    requires { ⌜ RatesPass (card .k1) (card .k2) (card .volume) flow × SaturationInRange card ⌝ }
-    requires { ⌜ (head .bod ≤ demandLimit) × (1_000_000_000 ≤ head .oxygen) ⌝ }
+    requires { ⌜ RatesPass (card .k1) (card .k2) (card .volume) flow × SaturationInRange card × BedPasses card flow ⌝ }
+    requires { ⌜ (head .bod ≤ demandLimit) × (head .bod + lossLimit ≤ head .oxygen) ⌝ }
     ensures { λ r. ⌜ figuresIn r ≡ figuresBelow card depth flow (head .bod) (oxygenOf (head .oxygen)) ⌝ }
 {
     let step = step::step_of(card.k1, card.k2, card.volume, flow);
@@ -39,7 +40,8 @@ pub fn line_of(card: Card, flow: u32, depth: u8, head: Head) -> Line
         oxygen: head.oxygen as u64,
         saturation: saturation as u64,
     };
-    let profile = profile::profile_of(step, start);
+    let bed = bed::bed_of(card, flow);
+    let profile = profile::profile_of(step, start, bed);
     Line {
         depth,
         flow,
@@ -52,33 +54,30 @@ pub fn line_of(card: Card, flow: u32, depth: u8, head: Head) -> Line
     }
 }
 
-// The figures of reach i + 1.
-pub fn line_at(cards: Cards, flows: FlowTable, feet: FootTable, i: usize) -> Line
-    requires { ⌜ Ready (river cards) flows × FeetOf (river cards) feet i × (i < length (river cards)) ⌝ }
-    ensures { λ r. ⌜ LineOf (river cards) i r ⌝ }
+// The figures of reach i + 1, which has this card.
+pub fn line_at(card: Card, flows: FlowTable, feet: FootTable, i: usize) -> Line
+    requires { ⌜ LineAt card flows feet i ⌝ }
+    ensures { λ r. ⌜ LineBy card flows feet i r ⌝ }
 {
-    let head = head::head_of(cards, flows, feet, i);
-    let card = cards.at[i];
     let flow = flows.flow[i] as u32;
     let depth = flows.depth[i];
+    let head = head::head_of(card, flows, feet, i);
     line_of(card, flow, depth, head)
 }
 
-// Puts the record of reach i + 1 at a place, and enters its foot.
+// Puts the record of reach i + 1, which has this card, at a place, and enters its foot.
 pub fn report_reach(
-    cards: Cards,
+    card: Card,
     flows: FlowTable,
     feet: FootTable,
     i: usize,
     report: &mut [u8],
     at: usize,
 ) -> FootTable
-    requires { ⌜ Ready (river cards) flows × FeetOf (river cards) feet i × (i < length (river cards)) ⌝ }
-    requires { ⌜ at + recordSize (river cards) ≤ length (now report) ⌝ }
-    ensures { λ r. ⌜ FeetOf (river cards) r (i + 1) ⌝ }
-    ensures { λ _. ⌜ now (report .exit) ≡ sets (now (report .entry)) at (recordOf (river cards) i) ⌝ }
+    requires { ⌜ PlacedAt card flows feet i at (length (now report)) ⌝ }
+    ensures { λ r. ⌜ ReportedBy card flows feet i at (now (report .entry)) (now (report .exit)) r ⌝ }
 {
-    let line = line_at(cards, flows, feet, i);
+    let line = line_at(card, flows, feet, i);
     record::put_record(report, at, line);
     head::put_foot(feet, i, line.flow as u64, line.foot_bod, line.foot_oxygen)
 }
@@ -93,7 +92,8 @@ pub fn report_all(cards: Cards, flows: FlowTable, report: &mut [u8])
     let mut feet = head::no_feet();
     let mut i: usize = 0;
     while i < count {
-        feet = report_reach(cards, flows, feet, i, report, size * i);
+        let card = cards.at[i];
+        feet = report_reach(card, flows, feet, i, report, size * i);
         i = i + 1;
     }
 }

@@ -20,8 +20,8 @@ use Rattle.river.specs.Accept.{acceptFile}
 use Rattle.river.proofs.head.SaturationRows.{Rows as SaturationRows, rows as saturation-rows}
 
 -- a reach at 20 degrees
-abbrev pub reach : (outlet k1 volume inflow bod oxygen load : ℕ) → Dam → (take pressure : Amount) → Card
-reach outlet k1 volume inflow bod oxygen load dam take pressure =
+abbrev pub reach : (outlet k1 volume inflow bod oxygen load : ℕ) → Dam → (take pressure sludge : Amount) → Card
+reach outlet k1 volume inflow bod oxygen load dam take pressure sludge =
     record {
       outlet = outlet;
       temperature = 20;
@@ -35,14 +35,15 @@ reach outlet k1 volume inflow bod oxygen load dam take pressure =
       dam = dam;
       take = take;
       pressure = pressure;
+      sludge = sludge;
     }
 
 -- the two reaches of the printing program's example, with a dam on reach 2 or without, and with takes or without
 abbrev pub first : Amount → Card
-first take = reach 2 0 1000 3000 2000 8000 0 Absent take Without
+first take = reach 2 0 1000 3000 2000 8000 0 Absent take Without Without
 
 abbrev pub second : Dam → (take pressure : Amount) → Card
-second dam take pressure = reach 0 0 1000 1000 30000 2000 0 dam take pressure
+second dam take pressure = reach 0 0 1000 1000 30000 2000 0 dam take pressure Without
 
 abbrev pub two : Dam → List Card
 two dam = first Without ∷ second dam Without Without ∷ []
@@ -57,13 +58,21 @@ weir = Aerating 500 1000
 abbrev pub hilly : (pressure : Amount) → List Card
 hilly pressure = first Without ∷ second weir Without pressure ∷ []
 
+-- reach 2 with a sludge bed
+abbrev pub bedded : (sludge : Amount) → List Card
+bedded sludge = first Without ∷ reach 0 0 1000 1000 30000 2000 0 Absent Without Without sludge ∷ []
+
+-- one reach with a sludge bed of 1,000 by its volume and take
+abbrev bed : (volume : ℕ) → Amount → List Card
+bed volume take = reach 0 0 volume 10000 0 0 0 Absent take Without (Given 1000) ∷ []
+
 -- one reach by its k1, volume, inflow and take
 abbrev one : (k1 volume inflow : ℕ) → Amount → List Card
-one k1 volume inflow take = reach 0 k1 volume inflow 0 0 0 Absent take Without ∷ []
+one k1 volume inflow take = reach 0 k1 volume inflow 0 0 0 Absent take Without Without ∷ []
 
 -- one reach with Qm 3 and Mm 2,999,999
 abbrev full : Amount → List Card
-full take = reach 0 0 0 3 999_333 0 2 Absent take Without ∷ []
+full take = reach 0 0 0 3 999_333 0 2 Absent take Without Without ∷ []
 
 pub record Rows : Type 0 where
   pub saturation-rows : SaturationRows
@@ -111,8 +120,15 @@ pub record Rows : Type 0 where
   pub highest-read : readFile (encode (hilly (Given 800))) ≡ accepted (hilly (Given 800))
   pub too-low : readFile (encode (hilly (Given 499))) ≡ refused (refuse 4 2)
   pub too-high : readFile (encode (hilly (Given 801))) ≡ refused (refuse 4 2)
+  -- 14 on its limit and past it, by the flow after the take
+  pub bed-passes : flowCheck (bed 4_320_000 Without) ≡ accepted (bed 4_320_000 Without)
+  pub bed-refused : flowCheck (bed 4_320_001 Without) ≡ refused (refuse 14 1)
+  pub bed-after-take : flowCheck (bed 4_320_000 (Given 1)) ≡ refused (refuse 14 1)
+  -- a sludge bed at either end of its range
+  pub none-demanded-read : readFile (encode (bedded (Given 0))) ≡ accepted (bedded (Given 0))
+  pub most-demanded-read : readFile (encode (bedded (Given 65_535))) ≡ accepted (bedded (Given 65_535))
   -- the longest file
-  pub longest : longestFile ≡ 5_636
+  pub longest : longestFile ≡ 6_148
 
 -- THEOREM: the bench values of the paper for flows and heads, and the empty file, a row each
 pub bench : Rows
@@ -156,5 +172,10 @@ bench =
       highest-read = refl;
       too-low = refl;
       too-high = refl;
+      bed-passes = refl;
+      bed-refused = refl;
+      bed-after-take = refl;
+      none-demanded-read = refl;
+      most-demanded-read = refl;
       longest = refl;
     }

@@ -157,6 +157,10 @@ take-or-none c d p q e = let z : _≡_ {A = ℕ} 0 1 = cc (ap (λ (x : Card). x 
 pub pressure-or-none : {n : ℕ} (c d : Card) → c .pressure ≡ Without → d .pressure ≡ Given n → c ≡ d → ⊥
 pressure-or-none c d p q e = let z : _≡_ {A = ℕ} 0 1 = cc (ap (λ (x : Card). x .pressure) e) in omega arith
 
+-- THEOREM: a sludge bed likewise, one of demand 0 too
+pub sludge-or-none : {n : ℕ} (c d : Card) → c .sludge ≡ Without → d .sludge ≡ Given n → c ≡ d → ⊥
+sludge-or-none c d p q e = let z : _≡_ {A = ℕ} 0 1 = cc (ap (λ (x : Card). x .sludge) e) in omega arith
+
 -- each card's records are at most as long as the longest card's
 cards-length : (cs : List Card) → length (encodeCards cs) ≤ longestCard * length cs
 cards-length [] = omega arith

@@ -10,16 +10,16 @@ use Rattle.river.specs.declared.card.Card.{Card}
 use Rattle.river.specs.declared.card.Dam.{Dam}
 use Rattle.river.specs.declared.card.Dam.the-variants.{Absent, Aerating}
 use Rattle.river.specs.Refusal.{accepted, refused, refuse, need, choose, after}
-use Rattle.river.specs.Card.{countOk, inRange, outletOk, encodeDam, damInRange, takeLayout, pressureLayout, encodeAmount, amountInRange}
+use Rattle.river.specs.Card.{countOk, inRange, outletOk, encodeDam, damInRange, takeLayout, pressureLayout, sludgeLayout, encodeAmount, amountInRange}
 use Rattle.river.specs.Optional.{readOptional, readOptionals, optionalsInRange}
 use Rattle.river.specs.Read.{readHeader, readReach, readReaches, readFile, cardAt}
 use Rattle.river.specs.Write.{encode, encodeCard, encodeHeader, checkCard, checkFrom, writeAnswer}
 use Rattle.river.specs.Rewrite.{rewriteAnswer}
 use Rattle.river.specs.Flow.{fed, flowOf, massOf, feedersAmong, joinedIf, damFits, flowCheck, checksFrom, reachChecks}
 
--- a reach by the fields that break a rule, and one without a pressure
-abbrev reach-at : (pressure : Amount) (outlet temperature volume inflow load : ℕ) → Dam → (amount : Amount) → Card
-reach-at pressure outlet temperature volume inflow load dam amount =
+-- a reach by the fields that break a rule, one without a sludge bed, and one without a pressure too
+abbrev reach-on : (sludge pressure : Amount) (outlet temperature volume inflow load : ℕ) → Dam → (amount : Amount) → Card
+reach-on sludge pressure outlet temperature volume inflow load dam amount =
     record {
       outlet = outlet;
       temperature = temperature;
@@ -33,7 +33,11 @@ reach-at pressure outlet temperature volume inflow load dam amount =
       dam = dam;
       take = amount;
       pressure = pressure;
+      sludge = sludge;
     }
+
+abbrev reach-at : (pressure : Amount) (outlet temperature volume inflow load : ℕ) → Dam → (amount : Amount) → Card
+reach-at = reach-on Without
 
 abbrev reach : (outlet temperature volume inflow load : ℕ) → Dam → (amount : Amount) → Card
 reach = reach-at Without
@@ -45,12 +49,19 @@ weir = Aerating 500 0
 abbrev weir-out : Dam
 weir-out = Aerating 1_001 0
 
--- a take and a pressure out of range
+-- a take, a pressure and a sludge bed out of range
 abbrev take-out : Amount
 take-out = Given 100_000_001
 
 abbrev pressure-out : Amount
 pressure-out = Given 499
+
+abbrev sludge-out : Amount
+sludge-out = Given 65_536
+
+-- one reach with a volume of 100, k1 of 1,000, and a sludge bed: 4,320 is the most to a litre a second
+abbrev bed : (sludge inflow : ℕ) (amount : Amount) → List Card
+bed sludge inflow amount = reach-on (Given sludge) Without 0 20 100 inflow 0 Absent amount ∷ []
 
 -- the file of one reach, whatever its fields
 abbrev file : Card → List ℕ
@@ -83,18 +94,27 @@ pub record Reading : Type 0 where
   -- a take behind a pressure is no record that is due, nor is a second pressure
   pub pressure-then-take : readFile (file (reach-at (Given 760) 0 20 0 1 0 Absent Without) ++ encodeAmount takeLayout (Given 0)) ≡ refused (refuse 6 0)
   pub pressure-twice : readFile (file (reach-at (Given 760) 0 20 0 1 0 Absent Without) ++ encodeAmount pressureLayout (Given 760)) ≡ refused (refuse 6 0)
+  -- then its sludge bed: 1
+  pub outlet-and-cut-sludge : readFile (take 33 (file (reach-on (Given 0) Without 9 20 0 1 0 Absent Without))) ≡ refused (refuse 5 1)
+  pub pressure-and-cut-sludge : readFile (take 37 (file (reach-on (Given 0) pressure-out 0 20 0 1 0 Absent Without))) ≡ refused (refuse 4 1)
+  pub cut-sludge : readFile (take 33 (file (reach-on (Given 0) Without 0 20 0 1 0 Absent Without))) ≡ refused (refuse 1 1)
+  -- a pressure behind a sludge bed is no record that is due, nor is a second sludge bed
+  pub sludge-then-pressure : readFile (file (reach-on (Given 0) Without 0 20 0 1 0 Absent Without) ++ encodeAmount pressureLayout (Given 760)) ≡ refused (refuse 6 0)
+  pub sludge-twice : readFile (file (reach-on (Given 0) Without 0 20 0 1 0 Absent Without) ++ encodeAmount sludgeLayout (Given 0)) ≡ refused (refuse 6 0)
   -- 6 comes last
   pub dam-and-more : readFile (file (reach 0 20 0 1 0 weir-out Without) ++ (0 ∷ [])) ≡ refused (refuse 4 1)
   pub take-and-more : readFile (file (reach 0 20 0 1 0 weir take-out) ++ (0 ∷ [])) ≡ refused (refuse 4 1)
   pub pressure-and-more : readFile (file (reach-at pressure-out 0 20 0 1 0 weir Without) ++ (0 ∷ [])) ≡ refused (refuse 4 1)
 
 pub record Writing : Type 0 where
-  -- 3, then 4 and 5 of a reach, then the 4 of its dam, its take and its pressure, then 12
+  -- 3, then 4 and 5 of a reach, then the 4 of its dam, its take, its pressure and its sludge bed, then 12
   pub count-and-range : writeAnswer 0 (reach 9 36 0 1 0 Absent Without ∷ []) 0 ≡ refused (refuse 3 0)
   pub range-and-outlet : writeAnswer 1 (reach 9 36 0 1 0 Absent Without ∷ []) 0 ≡ refused (refuse 4 1)
   pub outlet-and-dam : writeAnswer 1 (reach 9 20 0 1 0 weir-out Without ∷ []) 0 ≡ refused (refuse 5 1)
   pub outlet-and-take : writeAnswer 1 (reach 9 20 0 1 0 Absent take-out ∷ []) 0 ≡ refused (refuse 5 1)
   pub outlet-and-pressure : writeAnswer 1 (reach-at pressure-out 9 20 0 1 0 Absent Without ∷ []) 0 ≡ refused (refuse 5 1)
+  pub outlet-and-sludge : writeAnswer 1 (reach-on sludge-out Without 9 20 0 1 0 Absent Without ∷ []) 0 ≡ refused (refuse 5 1)
+  pub sludge-and-room : writeAnswer 1 (reach-on sludge-out (Given 760) 0 20 0 1 0 weir (Given 0) ∷ []) 0 ≡ refused (refuse 4 1)
   pub pressure-and-room : writeAnswer 1 (reach-at pressure-out 0 20 0 1 0 weir (Given 0) ∷ []) 0 ≡ refused (refuse 4 1)
   pub take-and-room : writeAnswer 1 (reach 0 20 0 1 0 weir take-out ∷ []) 0 ≡ refused (refuse 4 1)
   pub dam-and-room : writeAnswer 1 (reach 0 20 0 1 0 weir-out Without ∷ []) 0 ≡ refused (refuse 4 1)
@@ -102,18 +122,25 @@ pub record Writing : Type 0 where
   pub cut-and-room : rewriteAnswer (88 ∷ 86 ∷ 0 ∷ []) 0 ≡ refused (refuse 1 0)
 
 pub record Flowing : Type 0 where
-  -- 7, 8, 9, 10, 13, 11, each with the next rule that the same reach can break
+  -- 7, 8, 9, 10, 13, 11, 14, each with the next rule that the same reach can break
   pub none-and-dam : flowCheck (reach 0 20 0 0 0 weir Without ∷ []) ≡ refused (refuse 7 1)
   pub flow-and-dam : flowCheck (reach 0 20 0 100_000_001 0 weir Without ∷ []) ≡ refused (refuse 8 1)
   pub dam-and-load : flowCheck (reach 0 20 0 1 1_001 weir Without ∷ []) ≡ refused (refuse 9 1)
   pub load-and-rate : flowCheck (reach 0 20 346 1 1_001 Absent Without ∷ []) ≡ refused (refuse 10 1)
   pub load-and-take : flowCheck (reach 0 20 0 1 1_001 Absent (Given 1) ∷ []) ≡ refused (refuse 10 1)
   pub take-and-rate : flowCheck (reach 0 20 346 1 0 Absent (Given 1) ∷ []) ≡ refused (refuse 13 1)
+  pub rate-and-bed : flowCheck (reach-on (Given 4_321) Without 0 20 346 1 0 Absent Without ∷ []) ≡ refused (refuse 11 1)
   -- a take of Qm less 1 passes 13, and 11 goes by the flow that remains
   pub one-left : flowCheck (reach 0 20 345 2 0 Absent (Given 1) ∷ []) ≡ accepted (reach 0 20 345 2 0 Absent (Given 1) ∷ [])
   pub rate-by-the-rest : flowCheck (reach 0 20 346 2 0 Absent (Given 1) ∷ []) ≡ refused (refuse 11 1)
-  -- and 11 of a reach before 10 of the next
+  -- 14 on its limit and one past it, also by the flow that remains
+  pub bed-most : flowCheck (bed 4_320 1 Without) ≡ accepted (bed 4_320 1 Without)
+  pub bed-past : flowCheck (bed 4_321 1 Without) ≡ refused (refuse 14 1)
+  pub bed-by-the-rest-most : flowCheck (bed 4_320 2 (Given 1)) ≡ accepted (bed 4_320 2 (Given 1))
+  pub bed-by-the-rest : flowCheck (bed 4_321 2 (Given 1)) ≡ refused (refuse 14 1)
+  -- and 11 or 14 of a reach before 10 of the next
   pub rate-and-next : flowCheck (reach 2 20 346 1 0 Absent Without ∷ reach 0 20 0 1 2_001 Absent Without ∷ []) ≡ refused (refuse 11 1)
+  pub bed-and-next : flowCheck (reach-on (Given 4_321) Without 2 20 100 1 0 Absent Without ∷ reach 0 20 0 1 2_001 Absent Without ∷ []) ≡ refused (refuse 14 1)
 
 -- THEOREM: whoever breaks two rules of reading gets the earlier one's number
 pub reading-order : Reading
@@ -138,6 +165,11 @@ reading-order =
       cut-pressure = refl;
       pressure-then-take = refl;
       pressure-twice = refl;
+      outlet-and-cut-sludge = refl;
+      pressure-and-cut-sludge = refl;
+      cut-sludge = refl;
+      sludge-then-pressure = refl;
+      sludge-twice = refl;
       dam-and-more = refl;
       take-and-more = refl;
       pressure-and-more = refl;
@@ -153,6 +185,8 @@ writing-order =
       outlet-and-dam = refl;
       outlet-and-take = refl;
       outlet-and-pressure = refl;
+      outlet-and-sludge = refl;
+      sludge-and-room = refl;
       pressure-and-room = refl;
       take-and-room = refl;
       dam-and-room = refl;
@@ -170,7 +204,13 @@ flow-order =
       load-and-rate = refl;
       load-and-take = refl;
       take-and-rate = refl;
+      rate-and-bed = refl;
       one-left = refl;
       rate-by-the-rest = refl;
+      bed-most = refl;
+      bed-past = refl;
+      bed-by-the-rest-most = refl;
+      bed-by-the-rest = refl;
       rate-and-next = refl;
+      bed-and-next = refl;
     }

@@ -41,6 +41,7 @@ blank =
       dam = Absent;
       take = Without;
       pressure = Without;
+      sludge = Without;
     }
 
 -- the ranges of an `RE` record's fields
@@ -71,6 +72,10 @@ takeLayout = record { first = code "W"; second = code "D"; wide = true; least = 
 abbrev pub pressureLayout : Layout
 pressureLayout = record { first = code "B"; second = code "P"; wide = false; least = 500; most = 800 }
 
+-- the `SD` record: mark; demand (2; any)
+abbrev pub sludgeLayout : Layout
+sludgeLayout = record { first = code "S"; second = code "D"; wide = false; least = 0; most = 65_535 }
+
 -- an amount is none, or a number in the range of its layout
 abbrev pub LawfulAmount : Layout → Amount → Type 0
 LawfulAmount l Without = Unit
@@ -88,6 +93,7 @@ pub record LawfulCard (n i : ℕ) (c : Card) : Type 0 where
   pub dam : LawfulDam (c .dam)
   pub take : LawfulAmount takeLayout (c .take)
   pub pressure : LawfulAmount pressureLayout (c .pressure)
+  pub sludge : LawfulAmount sludgeLayout (c .sludge)
 
 -- lawful cards of the reaches from i on, of n
 abbrev pub LawfulFrom : ℕ → ℕ → List Card → Type 0
@@ -192,20 +198,23 @@ amountRecord l =
       inRange = amountInRange l;
     }
 
--- the `WD` and `BP` records among them
+-- the `WD`, `BP` and `SD` records among them
 abbrev pub takeRecord : Kind
 takeRecord = amountRecord takeLayout
 
 abbrev pub pressureRecord : Kind
 pressureRecord = amountRecord pressureLayout
 
+abbrev pub sludgeRecord : Kind
+sludgeRecord = amountRecord sludgeLayout
+
 -- the records that may follow an `RE` record, in file order
 abbrev pub optional : List Kind
-optional = damRecord ∷ takeRecord ∷ pressureRecord ∷ []
+optional = damRecord ∷ takeRecord ∷ pressureRecord ∷ sludgeRecord ∷ []
 
 -- what a card holds of them
 abbrev pub optionalOf : Card → Values optional
-optionalOf c = (c .dam, (c .take, (c .pressure, tt)))
+optionalOf c = (c .dam, (c .take, (c .pressure, (c .sludge, tt))))
 
 -- the length of a card's records, and that of the longest card's
 abbrev pub sizeOf : Card → ℕ

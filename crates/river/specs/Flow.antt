@@ -24,6 +24,10 @@ massLimit = 1_000_000
 abbrev pub rateLimit : ℕ
 rateLimit = 345_600
 
+-- the most sludge demand × volume to a litre a second
+abbrev pub bedLimit : ℕ
+bedLimit = 432_000
+
 -- what flows into a reach: none, or a feeder's card, what flows into that feeder, and the other feeders
 pub data Feeders : Type 0 where
   none : Feeders
@@ -53,6 +57,10 @@ above cards (suc n) = feedersAmong cards n (suc n)
 -- the take of a reach, 0 without one
 abbrev pub takeOf : Card → ℕ
 takeOf card = amountOr 0 (card .take)
+
+-- the demand of a reach's sludge bed, 0 without one
+abbrev pub sludgeOf : Card → ℕ
+sludgeOf card = amountOr 0 (card .sludge)
 
 -- Qu, the sum of the feeders' flows, each after the feeder's own take
 unfoldable pub flowOf : Feeders → ℕ
@@ -147,15 +155,20 @@ unfoldable pub rateRules : Card → (Q i : ℕ) → Checks
 rateRules card Q i =
     need (rateFits (card .k1) (card .volume) Q) 11 i then need (rateFits (card .k2) (card .volume) Q) 11 i
 
--- the checks of reach i in order, by its card, whether it has feeders, Qu, Qm and Mm; 11 goes by Q, the flow after the take
+-- 14: sludge demand × volume above 432,000 × Q
+unfoldable pub bedRule : Card → (Q i : ℕ) → Checks
+bedRule card Q i = need (leb (sludgeOf card * card .volume) (bedLimit * Q)) 14 i
+
+-- the checks of reach i in order, by its card, whether it has feeders, Qu, Qm and Mm; 11 and 14 go by Q, the flow after the take
 unfoldable pub checksOf : Card → (fed : Bool) (Qu Qm Mm i : ℕ) → Checks
 checksOf card fed Qu Qm Mm i =
     flowRules (card .dam) fed Qu Qm i then
-    loadRule Qm Mm i then takeRule (takeOf card) Qm i then rateRules card (Qm - takeOf card) i
+    loadRule Qm Mm i then
+    takeRule (takeOf card) Qm i then rateRules card (Qm - takeOf card) i then bedRule card (Qm - takeOf card) i
 
 -- the checks of reach i with this card, with what flows into it; to unfold them is to unfold their groups
 unfoldable pub reachChecks : Card → Feeders → ℕ → Checks
-unfolding checksOf flowRules loadRule takeRule rateRules _then_
+unfolding checksOf flowRules loadRule takeRule rateRules bedRule _then_
 reachChecks card up i = checksOf card (fed up) (flowOf up) (mixedFlow card up) (mixedMass card up) i
 
 -- the checks by reach number, of m reaches from i on
@@ -172,7 +185,7 @@ unfoldable pub DamRule : Dam → Feeders → Type 0
 DamRule Absent up = Unit
 DamRule (Aerating share generating) up = (fed up ≡ true) × (generating ≤ flowOf up)
 
--- what checks 7 to 11 and 13 ask of a reach with this card, with what flows into it
+-- what checks 7 to 11, 13 and 14 ask of a reach with this card, with what flows into it
 pub record ReachPasses (card : Card) (up : Feeders) : Type 0 where
   pub flowing : 0 < mixedFlow card up
   pub bounded : mixedFlow card up ≤ flowLimit
@@ -181,6 +194,7 @@ pub record ReachPasses (card : Card) (up : Feeders) : Type 0 where
   pub take-rule : takeOf card < mixedFlow card up
   pub decay-rule : card .k1 * card .volume ≤ rateLimit * reachFlow card up
   pub aeration-rule : card .k2 * card .volume ≤ rateLimit * reachFlow card up
+  pub bed-rule : sludgeOf card * card .volume ≤ bedLimit * reachFlow card up
 
 -- a river passes the flow rules: each of its reaches does
 pub record Flows (cards : List Card) : Type 0 where

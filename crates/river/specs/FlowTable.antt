@@ -83,6 +83,18 @@ pub record NextChecked (cards : List Card) (i : ℕ) (r : Checked) : Type 0 wher
   pub answer : Decides (r .outcome) (reachChecks (cardOf cards (suc i)) (above cards (suc i)) (suc i))
   pub tabled : r .outcome ≡ Outcome.Accepted → Tabled cards (suc i) (r .flows)
 
+-- what the check of reach i + 1 needs, which is handed its card and not all cards: a river whose first i reaches passed and have these
+-- tables, and in which that card is the next
+pub record CheckAt (card : Card) (t : FlowTable) (i : ℕ) : Type 0 where
+  pub cards : List Card
+  pub underway : Underway cards i t
+  pub within : i < length cards
+  pub own : card ≡ cardOf cards (suc i)
+
+-- for every such river the check yields what it is to yield there
+abbrev pub NextBy : Card → FlowTable → ℕ → Checked → Type 0
+NextBy card t i r = (here : CheckAt card t i) → NextChecked (here .cards) i r
+
 -- what the flow check of a river yields: its answer, and the tables of every reach of an accepted river
 pub record FlowChecked (cards : List Card) (r : Checked) : Type 0 where
   pub answer : outcomeOf (r .outcome) cards ≡ flowCheck cards

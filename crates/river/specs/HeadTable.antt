@@ -75,6 +75,12 @@ pub record HeadInput (cards : List Card) (flows : FlowTable) (feet : FootTable) 
   pub tabled : Tabled cards (length cards) flows
   pub carried : Carried cards feet i
 
+-- what a head needs that is handed the card of the reach and not all cards: a river with these tables, in which reach i + 1 has that card
+pub record HeadAt (card : Card) (flows : FlowTable) (feet : FootTable) (i : ℕ) : Type 0 where
+  pub cards : List Card
+  pub input : HeadInput cards flows feet i
+  pub own : card ≡ cardOf cards (suc i)
+
 -- the head of reach i + 1: its BOD and oxygen, and that its BOD is at most the undecayed BOD, after the take too
 pub record HeadOf (cards : List Card) (flows : FlowTable) (feet : FootTable) (i : ℕ) (r : Head) : Type 0 where
   pub bod :
@@ -84,3 +90,7 @@ pub record HeadOf (cards : List Card) (flows : FlowTable) (feet : FootTable) (i 
       oxygenOf (r .oxygen) ≡
       headOxygen (cardOf cards (suc i)) (fed (above cards (suc i))) (flowOf (above cards (suc i))) (oxygenSumOf (flowOf (above cards (suc i))) (feederSum (flows .outlet) (feet .oxygen) i))
   pub mass : flowAt cards (suc i) * r .bod ≤ 1_000 * massAt cards (suc i)
+
+-- for every such river the head is that of its reach i + 1
+abbrev pub HeadBy : Card → FlowTable → FootTable → ℕ → Head → Type 0
+HeadBy card flows feet i r = (here : HeadAt card flows feet i) → HeadOf (here .cards) flows feet i r

@@ -38,6 +38,7 @@ cardAt s vs =
       dam = vs .0;
       take = vs .1 .0;
       pressure = vs .1 .1 .0;
+      sludge = vs .1 .1 .1 .0;
     }
 
 -- reach i of n at the start of the bytes: 1, 2, 4, 5, then the records that follow its `RE` record, or its card

@@ -3,7 +3,7 @@ ghost use mathlib.Core.Path.{_≡_};
 ghost use lib.ListN.{length};
 ghost use Rattle.river.specs.Card.{blank, encodeDam, layoutSize, encodeAmount, amountOr, sizeOf, longestFile};
 
-// The lengths of the records `RV`, `RE`, `DM`, `WD` and `BP`.
+// The lengths of the records `RV`, `RE`, `DM`, `WD`, `BP` and `SD`.
 pub const HEADER_BYTES: usize = 4;
 
 pub const REACH_BYTES: usize = 26;
@@ -13,6 +13,8 @@ pub const DAM_BYTES: usize = 8;
 const TAKE_BYTES: usize = WIDE_BYTES;
 
 const PRESSURE_BYTES: usize = NARROW_BYTES;
+
+const SLUDGE_BYTES: usize = NARROW_BYTES;
 
 // The lengths of a record of one number: a mark and four bytes, or two.
 const WIDE_BYTES: usize = 6;
@@ -26,7 +28,11 @@ pub(crate) const FLOW_MOST: u32 = 100_000_000;
 pub const REACHES: usize = 128;
 
 // The length of the longest card's records, and of the longest file.
-pub const LONGEST_CARD: usize = REACH_BYTES + DAM_BYTES + TAKE_BYTES + PRESSURE_BYTES;
+pub const LONGEST_CARD: usize = REACH_BYTES
+    + DAM_BYTES
+    + TAKE_BYTES
+    + PRESSURE_BYTES
+    + SLUDGE_BYTES;
 
 pub const LONGEST_FILE: usize = HEADER_BYTES + REACHES * LONGEST_CARD;
 
@@ -69,8 +75,17 @@ pub(crate) const PRESSURE: Layout = Layout {
     most: 800,
 };
 
+// The layout of an `SD` record.
+pub(crate) const SLUDGE: Layout = Layout {
+    first: b'S',
+    second: b'D',
+    wide: false,
+    least: 0,
+    most: 65_535,
+};
+
 // A reach card: the numbers of its `RE` record, the short ones first so that there is no padding between them, its dam, its take in litres a
-// second and its pressure in mm of mercury.
+// second, its pressure in mm of mercury and the demand of its sludge bed, in thousandths of mg/L a day.
 pub struct Card {
     pub outlet: u8,
     pub temperature: u8,
@@ -84,6 +99,7 @@ pub struct Card {
     pub dam: Dam,
     pub take: Amount,
     pub pressure: Amount,
+    pub sludge: Amount,
 }
 
 // The cards of a river: the first `count` of them.
@@ -109,6 +125,7 @@ pub fn blank() -> Card
         dam: Dam::Absent,
         take: Amount::Without,
         pressure: Amount::Without,
+        sludge: Amount::Without,
     }
 }
 
@@ -170,5 +187,10 @@ pub fn size_of(c: Card) -> usize
     let dam = c.dam;
     let take = c.take;
     let pressure = c.pressure;
-    REACH_BYTES + dam_size(dam) + amount_size(TAKE, take) + amount_size(PRESSURE, pressure)
+    let sludge = c.sludge;
+    REACH_BYTES
+        + dam_size(dam)
+        + amount_size(TAKE, take)
+        + amount_size(PRESSURE, pressure)
+        + amount_size(SLUDGE, sludge)
 }

@@ -4,8 +4,8 @@ ghost use Prim.Native.Nat.{_<_, _≤_, _^_, max};
 ghost use lib.Dec.{ltb};
 ghost use lib.ListN.{length};
 ghost use Rattle.river.specs.Card.{FieldsInRange, Lawful, river};
-ghost use Rattle.river.specs.Flow.{flowLimit, takeOf, ownMass, remainingMass, damFits, rateFits, flowRules, loadRule, takeRule, rateRules, checksOf};
-ghost use Rattle.river.specs.FlowTable.{Decides, tableSum, tableMax, SumsFit, UpstreamOf, noFlows, Entered, Underway, NextChecked, FlowChecked};
+ghost use Rattle.river.specs.Flow.{flowLimit, takeOf, sludgeOf, ownMass, remainingMass, damFits, rateFits, flowRules, loadRule, takeRule, rateRules, bedRule, checksOf};
+ghost use Rattle.river.specs.FlowTable.{Decides, tableSum, tableMax, SumsFit, UpstreamOf, noFlows, Entered, Underway, CheckAt, NextBy, FlowChecked};
 use crate::card::Card;
 use crate::card::Cards;
 use crate::card::Dam;
@@ -24,6 +24,9 @@ const MASS_LIMIT: u64 = 1_000_000;
 
 // The most rate times volume to a litre a second.
 const RATE_LIMIT: u64 = 345_600;
+
+// The most sludge demand times volume to a litre a second.
+const BED_LIMIT: u64 = 432_000;
 
 // Tables of the reaches that passed: outlet, flow and undecayed BOD after the take, and depth.
 pub struct FlowTable {
@@ -192,6 +195,26 @@ pub(crate) fn take_of(card: Card) -> u64
     amount_or(0, take) as u64
 }
 
+// The demand of a reach's sludge bed.
+pub fn sludge_of(card: Card) -> u32
+    ensures { λ r. ⌜ r ≡ sludgeOf card ⌝ }
+{
+    let sludge = card.sludge;
+    amount_or(0, sludge)
+}
+
+// Check 14.
+fn bed_rule(card: Card, flow: u64, reach: u8) -> Outcome
+    requires { ⌜ flow ≤ flowLimit ⌝ }
+    ensures { λ r. ⌜ Decides r (bedRule card flow reach) ⌝ }
+{
+    let demand = sludge_of(card);
+    if BED_LIMIT * flow < (demand as u64) * (card.volume as u64) {
+        return Outcome::Refused(refuse(14, reach));
+    }
+    Outcome::Accepted
+}
+
 // The checks of a reach in order, group by group, by its flow and undecayed BOD before the take.
 fn check(card: Card, up: Upstream, flow: u64, mass: u64, reach: u8) -> Outcome
     ensures { λ r. ⌜ Decides r (checksOf card (ltb 0 (up .deepest)) (up .flow) flow mass reach) ⌝ }
@@ -210,7 +233,12 @@ fn check(card: Card, up: Upstream, flow: u64, mass: u64, reach: u8) -> Outcome
     let Outcome::Accepted = taken else {
         return taken;
     };
-    rate_rules(card, flow - take, reach)
+    let left = flow - take;
+    let rates = rate_rules(card, left, reach);
+    let Outcome::Accepted = rates else {
+        return rates;
+    };
+    bed_rule(card, left, reach)
 }
 
 // The undecayed BOD that a reach itself takes in.
@@ -244,12 +272,12 @@ fn entered(flows: FlowTable, i: usize, outlet: u8, flow: u64, mass: u64, depth: 
     flows
 }
 
-// The check of the reach after the first i, which passed. A refusal enters nothing; what passes is entered as it is after its take.
-fn check_next(cards: Cards, flows: FlowTable, i: usize) -> Checked
-    requires { ⌜ Underway (river cards) i flows × (i < length (river cards)) ⌝ }
-    ensures { λ r. ⌜ NextChecked (river cards) i r ⌝ }
+// The check of the reach after the first i, which passed; it has this card. A refusal enters nothing; what passes is entered as it is after its
+// take.
+fn check_next(card: Card, flows: FlowTable, i: usize) -> Checked
+    requires { ⌜ CheckAt card flows i ⌝ }
+    ensures { λ r. ⌜ NextBy card flows i r ⌝ }
 {
-    let card = cards.at[i];
     let up = upstream_of(flows, i);
     let flow = up.flow + card.inflow as u64;
     let mass = up.mass + own_mass(card);
@@ -293,7 +321,8 @@ pub fn check_from(cards: Cards, flows: FlowTable, i: usize) -> Checked
     let mut flows = flows;
     let mut i = i;
     while i < count {
-        let next = check_next(cards, flows, i);
+        let card = cards.at[i];
+        let next = check_next(card, flows, i);
         let outcome = next.outcome;
         let Outcome::Accepted = outcome else {
             return next;

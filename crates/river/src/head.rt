@@ -8,11 +8,9 @@ ghost use Rattle.river.specs.Saturation as Sat;
 ghost use Rattle.river.specs.Saturation.{saturationOf, pressureOf, ConditionsInRange, SaturationInRange};
 ghost use Rattle.river.specs.Flow.{flowLimit};
 ghost use Rattle.river.specs.Head.{floor, upstreamDemand, upstreamOxygen, belowDam, headDemand, headOxygen};
-ghost use Rattle.river.specs.Card.{river};
 ghost use Rattle.river.specs.Stored.{oxygenOf, oxygenSumOf};
-ghost use Rattle.river.specs.HeadTable.{PartOf, HeadReady, DemandReady, OxygenReady, noFeet, HeadInput, HeadOf};
+ghost use Rattle.river.specs.HeadTable.{PartOf, HeadReady, DemandReady, OxygenReady, noFeet, HeadAt, HeadBy};
 use crate::card::Card;
-use crate::card::Cards;
 use crate::card::Dam;
 use crate::card::REACHES;
 use crate::card::amount_or;
@@ -187,11 +185,10 @@ pub fn put_foot(feet: FootTable, i: usize, flow: u64, bod: u32, oxygen: u32) -> 
 
 // The head of reach i + 1 of an accepted river, from its flows and the feet of the reaches before it. The report has the river from
 // `accept`, and the feet from `put_foot`.
-pub fn head_of(cards: Cards, flows: FlowTable, feet: FootTable, i: usize) -> Head
-    requires { ⌜ HeadInput (river cards) flows feet i ⌝ }
-    ensures { λ r. ⌜ HeadOf (river cards) flows feet i r ⌝ }
+pub fn head_of(card: Card, flows: FlowTable, feet: FootTable, i: usize) -> Head
+    requires { ⌜ HeadAt card flows feet i ⌝ }
+    ensures { λ r. ⌜ HeadBy card flows feet i r ⌝ }
 {
-    let card = cards.at[i];
     let reach = (i + 1) as u8;
     let bod_sum = feeder_sum(&flows.outlet, &feet.bod, i, reach);
     let oxygen_sum = feeder_sum(&flows.outlet, &feet.oxygen, i, reach);

@@ -14,6 +14,7 @@ use crate::card::Card;
 use crate::card::Dam;
 use crate::card::Layout;
 use crate::card::PRESSURE;
+use crate::card::SLUDGE;
 use crate::card::TAKE;
 
 // How many numbers two bytes hold.
@@ -104,9 +105,11 @@ fn put_optionals(out: &mut [u8], at: usize, c: Card) -> usize
     let dam = c.dam;
     let take = c.take;
     let pressure = c.pressure;
+    let sludge = c.sludge;
     let next = put_dam(out, at, dam);
     let next = put_amount(out, next, TAKE, take);
-    put_amount(out, next, PRESSURE, pressure)
+    let next = put_amount(out, next, PRESSURE, pressure);
+    put_amount(out, next, SLUDGE, sludge)
 }
 
 // The records of a card.

@@ -9,6 +9,7 @@ use crate::card::FLOW_MOST;
 use crate::card::Layout;
 use crate::card::PRESSURE;
 use crate::card::REACHES;
+use crate::card::SLUDGE;
 use crate::card::TAKE;
 
 // The largest values of the fields of `RE` and `DM` records.
@@ -88,7 +89,11 @@ pub fn optionals_in_range(c: Card) -> bool
         return false;
     }
     let pressure = c.pressure;
-    amount_in_range(PRESSURE, pressure)
+    if !amount_in_range(PRESSURE, pressure) {
+        return false;
+    }
+    let sludge = c.sludge;
+    amount_in_range(SLUDGE, sludge)
 }
 
 // Whether reach i of n may have an outlet.

@@ -19,6 +19,7 @@ use crate::card::HEADER_BYTES;
 use crate::card::Layout;
 use crate::card::PRESSURE;
 use crate::card::REACH_BYTES;
+use crate::card::SLUDGE;
 use crate::card::TAKE;
 use crate::card::amount_size;
 use crate::card::dam_size;
@@ -76,9 +77,9 @@ pub fn read_header(file: &[u8]) -> Header
     }
 }
 
-// The card in an `RE` record, with a dam, a take and a pressure.
-pub fn card_at(s: &[u8], dam: Dam, take: Amount, pressure: Amount) -> Card
-    ensures { λ r. ⌜ r ≡ cardAt (now (s .entry)) (dam, (take, (pressure, tt))) ⌝ }
+// The card in an `RE` record, with a dam, a take, a pressure and a sludge bed.
+pub fn card_at(s: &[u8], dam: Dam, take: Amount, pressure: Amount, sludge: Amount) -> Card
+    ensures { λ r. ⌜ r ≡ cardAt (now (s .entry)) (dam, (take, (pressure, (sludge, tt)))) ⌝ }
 {
     Card {
         outlet: byte_at(s, 2),
@@ -93,6 +94,7 @@ pub fn card_at(s: &[u8], dam: Dam, take: Amount, pressure: Amount) -> Card
         dam,
         take,
         pressure,
+        sludge,
     }
 }
 
@@ -164,7 +166,12 @@ fn read_card(s: &[u8], at: usize, reach: u8) -> Reach
     let AmountRead::Found(pressure) = found else {
         return Reach::Refused(amount_refusal(found));
     };
-    let card = card_at(s, dam, take, pressure);
+    let rest = behind(rest, amount_size(PRESSURE, pressure));
+    let found = read_amount(rest, reach, SLUDGE);
+    let AmountRead::Found(sludge) = found else {
+        return Reach::Refused(amount_refusal(found));
+    };
+    let card = card_at(s, dam, take, pressure, sludge);
     let next = at + size_of(card);
     Reach::Read { card, next }
 }
@@ -180,7 +187,13 @@ fn read_here(s: &[u8], at: usize, count: u8, reach: u8) -> Reach
     if !marked(s, b'R', b'E') {
         return Reach::Refused(refuse(2, reach));
     }
-    let card = card_at(s, Dam::Absent, Amount::Without, Amount::Without);
+    let card = card_at(
+        s,
+        Dam::Absent,
+        Amount::Without,
+        Amount::Without,
+        Amount::Without,
+    );
     if !in_range(card) {
         return Reach::Refused(refuse(4, reach));
     }

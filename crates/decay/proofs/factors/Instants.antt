@@ -1,7 +1,8 @@
--- Laws of the factors at every instant: they are shares of one, BOD left never rises, and a rate of 0 or no volume keeps them.
+-- Laws of the factors at every instant: they are shares of one, BOD left never rises, the deficit left falls by at most the
+-- filled share of one at each step, and a rate of 0 or no volume keeps them.
 -- Assumes nothing.
 use mathlib.Core.Path.{_≡_, refl}
-use Prim.Native.Nat.{ℕ, zero, suc, _*_, _≤_}
+use Prim.Native.Nat.{ℕ, zero, suc, _+_, _*_, _≤_}
 use native.Mathlib.Nat.{le-trans, sub-le, mul-zero, zero-div}
 use native.Mathlib.Omega.{arith}
 use Rattle.decay.specs.Fixed.{one, product}
@@ -9,7 +10,7 @@ use Rattle.decay.specs.Step.{RatesPass, stepOf}
 use Rattle.decay.specs.Factors.{SoundStep, AreShares, headFactors, nextFactors, factorsAt}
 use Rattle.decay.specs.declared.step.Step.{Step}
 use Rattle.decay.specs.declared.factors.Factors.{Factors}
-use Rattle.decay.proofs.fixed.Digits.{product-small, product-mono}
+use Rattle.decay.proofs.fixed.Digits.{share-below, product-small, product-mono}
 use Rattle.decay.proofs.step.Shares.{step-loses-nothing, step-fills-nothing}
 use Rattle.decay.proofs.Exponential.{UpTo, here, further, upTo}
 
@@ -56,6 +57,13 @@ left-falls-to s (further {N = n} u) = le-trans (left-falls s n) (left-falls-to s
 -- THEOREM: BOD left never rises from an instant to a later one
 pub left-never-rises : (s : Step) {m n : ℕ} → m ≤ n → (factorsAt s n) .left ≤ (factorsAt s m) .left
 left-never-rises s h = left-falls-to s (upTo h)
+
+-- a step fills at most its filled share of one, so that by instant m the head's deficit has lost at most m of them
+pub deficit-lost : {s : Step} → SoundStep s → (m : ℕ) → one ≤ (factorsAt s m) .kept + m * s .filled
+unfolding factorsAt nextFactors headFactors
+deficit-lost h zero = omega arith
+deficit-lost {s} h (suc m) =
+    omega (arith, deficit-lost h m, moved (factorsAt s m) h .filled-kept, share-below ((factorsAt s m) .kept) (s .filled) (range h m .deficit))
 
 product-zero : (a b : ℕ) → b ≡ 0 → product a b ≡ 0
 unfolding product

@@ -282,6 +282,13 @@ step-sound k1 k2 volume flow p =
       filled-small = le-trans (sum-first z 0 hz zero-le) hz;
     }
 
+-- what a step fills is at most its exponent
+pub step-fills : (k1 k2 volume flow : ℕ) → RatesPass k1 k2 volume flow → (stepOf k1 k2 volume flow) .filled * (88473600 * flow) ≤ k2 * volume * one
+unfolding stepOf exponentOf quotient
+step-fills k1 k2 volume flow p =
+    let z = exponentOf k2 volume flow in
+    le-trans (mul-le-mul-right (88473600 * flow) (sum-first z 0 (exponent-small k2 volume flow (p .k2-short)) zero-le)) (div-mul-le-self (k2 * volume * one) (88473600 * flow))
+
 -- a rate of 0 or no volume leaves an exponent of 0, and such a step loses and uses nothing, or fills nothing
 pub carried-exponent-zero : (k volume flow : ℕ) → k * volume ≡ 0 → exponentOf k volume flow ≡ 0
 unfolding exponentOf quotient

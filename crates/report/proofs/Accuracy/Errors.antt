@@ -2,7 +2,7 @@
 use mathlib.Core.List.{[], _∷_}
 use Prim.Native.Nat.{ℕ}
 use Rattle.decay.specs.Fraction.{Fraction, _≈_, _≼_, ofℕ, _+ᶠ_, -ᶠ_, _-ᶠ_, _*ᶠ_, _÷_}
-use Rattle.decay.proofs.Algebra.{quote, ring, certify, certify-by, certify-over, slack, number, Nonneg, _⊞_, _⊠_, multiple, _⋅_, _&_, none as no-equations, ≈-sym, Positive, positive-nonneg, ÷-cancel-pos, Small, Within, small, near, sized, _⊞ˢ_, _⊠ˢ_, small-minus, small-by, bound-nonneg}
+use Rattle.decay.proofs.Algebra.{quote, ring, certify, certify-by, certify-over, slack, number, Nonneg, _⊞_, _⊠_, multiple, _⋅_, _&_, none as no-equations, ≈-sym, ≼-trans, Positive, positive-nonneg, ÷-cancel-pos, Small, Within, small, near, sized, _⊞ˢ_, _⊠ˢ_, small-minus, small-by, bound-nonneg}
 use Rattle.report.proofs.Facts.Floor.{Rounded}
 use Rattle.report.proofs.Facts.Head.{Dammed}
 use Rattle.report.proofs.Facts.Instant.{Floored, Shares}
@@ -15,9 +15,9 @@ headUnits = 5
 abbrev pub instantUnits : ℕ
 instantUnits = 5
 
--- what a reach adds in all: the factors, off by 2^-28 at most, add 7.53 units to those ten
+-- what a reach adds in all: to those ten the factors, off by 2^-28 and 2^-31 at most, add 4.51 units, and a bed 32.52
 abbrev pub addedUnits : ℕ
-addedUnits = 18
+addedUnits = 48
 
 -- two figures b and o lie near exact ones, with errors that together are at most e
 pub record Near (b bx o ox e : Fraction) : Type 0 where
@@ -105,12 +105,13 @@ share-small : {p S e : Fraction} → Nonneg p → Within p S e → Small S (p +�
 share-small {p} {S} {e} h w =
     small-by (ring (p ∷ S ∷ []) (search quote depth 40 fits 9999) tt) (sized h ⊞ˢ small-minus (small w))
 
--- an instant, reported and exact: shares, exact shares and their distances, head figures, and the three rounded parts
-pub record InstantSteps (p g r S₁ F S₂ e₁ e₂ ε L c cs csx B G R D : Fraction) : Type 0 where
+-- an instant, reported and exact: shares, exact shares and their distances, head figures, the three rounded parts, and the loss to a bed
+pub record InstantSteps (p g r S₁ F S₂ e₁ e₂ ε δ L c cs csx B G R D T Tx τ : Fraction) : Type 0 where
   pub shares : Shares p g r
   pub left-near : Within p S₁ e₁
   pub turned-near : Within g F e₂
-  pub kept-near : Within r S₂ ε
+  pub kept-near : Within r S₂ δ
+  pub sharper : δ ≼ ε
   pub factors-near : e₁ +ᶠ e₂ ≼ ε
   pub bod-floored : Floored B (p *ᶠ L)
   pub turned-floored : Floored G (g *ᶠ L)
@@ -118,27 +119,41 @@ pub record InstantSteps (p g r S₁ F S₂ e₁ e₂ ε L c cs csx B G R D : Fra
   pub head-bod : Nonneg L
   pub head-deficit : Small (cs -ᶠ c) D
   pub saturation-near : Within cs csx (ofℕ 1)
+  pub loss-near : Within T Tx τ
 
 -- from a head whose figures are off by `off` together
-pub instant-near : {p g r S₁ F S₂ e₁ e₂ ε L c cs csx B G R D : Fraction} (Lx cx off : Fraction) → InstantSteps p g r S₁ F S₂ e₁ e₂ ε L c cs csx B G R D → Near L Lx c cx off
-    → Near B (Lx *ᶠ S₁) (cs -ᶠ G -ᶠ R) (csx -ᶠ F *ᶠ Lx -ᶠ S₂ *ᶠ (csx -ᶠ cx)) (ofℕ instantUnits +ᶠ ε +ᶠ ε *ᶠ (L +ᶠ D) +ᶠ (ofℕ 1 +ᶠ ε) *ᶠ off)
-instant-near {p} {g} {r} {S₁} {F} {S₂} {e₁} {e₂} {ε} {L} {c} {cs} {csx} {B} {G} {R} {D} Lx cx off k n =
+pub instant-near : {p g r S₁ F S₂ e₁ e₂ ε δ L c cs csx B G R D T Tx τ : Fraction} (Lx cx off : Fraction) → InstantSteps p g r S₁ F S₂ e₁ e₂ ε δ L c cs csx B G R D T Tx τ → Near L Lx c cx off
+    → Near B (Lx *ᶠ S₁) (cs -ᶠ G -ᶠ R -ᶠ T) (csx -ᶠ F *ᶠ Lx -ᶠ S₂ *ᶠ (csx -ᶠ cx) -ᶠ Tx) (ofℕ instantUnits +ᶠ δ +ᶠ ε *ᶠ L +ᶠ δ *ᶠ D +ᶠ τ +ᶠ (ofℕ 1 +ᶠ ε) *ᶠ off)
+instant-near {p} {g} {r} {S₁} {F} {S₂} {e₁} {e₂} {ε} {δ} {L} {c} {cs} {csx} {B} {G} {R} {D} {T} {Tx} {τ} Lx cx off k n =
     let d = n .bod-error in
     let e = n .oxygen-error in
-    let pε = bound-nonneg (small (k .kept-near)) in
+    let pε = ≼-trans (bound-nonneg (small (k .kept-near))) (k .sharper) in
     record {
       bod-error = ofℕ 1 +ᶠ e₁ *ᶠ L +ᶠ (p +ᶠ e₁) *ᶠ d;
-      oxygen-error = ofℕ 1 +ᶠ ofℕ 1 +ᶠ e₂ *ᶠ L +ᶠ (g +ᶠ e₂) *ᶠ d +ᶠ ofℕ 1 +ᶠ ε *ᶠ D +ᶠ (r +ᶠ ε) *ᶠ (ofℕ 1 +ᶠ e);
+      oxygen-error = ofℕ 1 +ᶠ ofℕ 1 +ᶠ e₂ *ᶠ L +ᶠ (g +ᶠ e₂) *ᶠ d +ᶠ ofℕ 1 +ᶠ δ *ᶠ D +ᶠ (r +ᶠ δ) *ᶠ (ofℕ 1 +ᶠ e) +ᶠ τ;
       bod-near = near (p ∷ S₁ ∷ e₁ ∷ L ∷ Lx ∷ B ∷ d ∷ []) no-equations (floored-small (k .bod-floored) ⊞ˢ small (k .left-near) ⊠ˢ sized (k .head-bod) ⊞ˢ share-small (k .shares .left-part) (k .left-near) ⊠ˢ small (n .bod-near)) (number 0) (search quote depth 40 fits 9999) tt (search quote depth 40 fits 9999) tt;
-      oxygen-near = near (g ∷ r ∷ F ∷ S₂ ∷ e₂ ∷ ε ∷ L ∷ Lx ∷ c ∷ cx ∷ cs ∷ csx ∷ G ∷ R ∷ D ∷ d ∷ e ∷ []) no-equations (small (k .saturation-near) ⊞ˢ small-minus (floored-small (k .turned-floored)) ⊞ˢ small-minus (small (k .turned-near)) ⊠ˢ sized (k .head-bod) ⊞ˢ small-minus (share-small (k .shares .turned-part) (k .turned-near)) ⊠ˢ small (n .bod-near) ⊞ˢ small-minus (floored-small (k .kept-floored)) ⊞ˢ small-minus (small (k .kept-near)) ⊠ˢ k .head-deficit ⊞ˢ small-minus (share-small (k .shares .kept-part) (k .kept-near)) ⊠ˢ (small (k .saturation-near) ⊞ˢ small-minus (small (n .oxygen-near)))) (number 0) (search quote depth 40 fits 9999) tt (search quote depth 40 fits 9999) tt;
-      together = certify (p ∷ g ∷ r ∷ e₁ ∷ e₂ ∷ ε ∷ L ∷ D ∷ d ∷ e ∷ off ∷ []) (slack (k .shares .kept-of-one) ⊠ (number 1 ⊞ bound-nonneg (small (n .oxygen-near))) ⊞ slack (k .factors-near) ⊠ (k .head-bod ⊞ bound-nonneg (small (n .bod-near))) ⊞ slack (k .shares .bod-of-one) ⊠ bound-nonneg (small (n .bod-near)) ⊞ (number 1 ⊞ pε) ⊠ slack (n .together)) (search quote depth 40 fits 9999) tt;
+      oxygen-near = near (g ∷ r ∷ F ∷ S₂ ∷ e₂ ∷ δ ∷ L ∷ Lx ∷ c ∷ cx ∷ cs ∷ csx ∷ G ∷ R ∷ D ∷ d ∷ e ∷ T ∷ Tx ∷ τ ∷ []) no-equations (small (k .saturation-near) ⊞ˢ small-minus (floored-small (k .turned-floored)) ⊞ˢ small-minus (small (k .turned-near)) ⊠ˢ sized (k .head-bod) ⊞ˢ small-minus (share-small (k .shares .turned-part) (k .turned-near)) ⊠ˢ small (n .bod-near) ⊞ˢ small-minus (floored-small (k .kept-floored)) ⊞ˢ small-minus (small (k .kept-near)) ⊠ˢ k .head-deficit ⊞ˢ small-minus (share-small (k .shares .kept-part) (k .kept-near)) ⊠ˢ (small (k .saturation-near) ⊞ˢ small-minus (small (n .oxygen-near))) ⊞ˢ small-minus (small (k .loss-near))) (number 0) (search quote depth 40 fits 9999) tt (search quote depth 40 fits 9999) tt;
+      together = certify (p ∷ g ∷ r ∷ e₁ ∷ e₂ ∷ ε ∷ δ ∷ L ∷ D ∷ τ ∷ d ∷ e ∷ off ∷ []) (slack (k .shares .kept-of-one) ⊠ (number 1 ⊞ bound-nonneg (small (n .oxygen-near))) ⊞ slack (k .sharper) ⊠ bound-nonneg (small (n .oxygen-near)) ⊞ slack (k .factors-near) ⊠ (k .head-bod ⊞ bound-nonneg (small (n .bod-near))) ⊞ slack (k .shares .bod-of-one) ⊠ bound-nonneg (small (n .bod-near)) ⊞ (number 1 ⊞ pε) ⊠ slack (n .together)) (search quote depth 40 fits 9999) tt;
     }
+
+-- a bed's share of its loss in the end, off by δ as the deficit left is, against the exact one: that loss is rounded down, and so is its share
+pub eventual-near : {r S₂ δ c cx T : Fraction} → Nonneg r → r ≼ ofℕ 1 → Nonneg c → Within r S₂ δ → Floored c cx → Floored T ((ofℕ 1 -ᶠ r) *ᶠ c) → Within T (cx *ᶠ (ofℕ 1 -ᶠ S₂)) (ofℕ 2 +ᶠ δ *ᶠ (c +ᶠ ofℕ 1))
+eventual-near {r} {S₂} {δ} {c} {cx} {T} pr r1 pc n fc fT =
+    near (r ∷ S₂ ∷ δ ∷ c ∷ cx ∷ T ∷ []) no-equations (floored-small fT ⊞ˢ small-minus (small n) ⊠ˢ sized pc ⊞ˢ floored-small fc ⊠ˢ share-small {p = ofℕ 1 -ᶠ r} {S = ofℕ 1 -ᶠ S₂} {e = δ} (slack r1) gone) pr (search quote depth 40 fits 9999) tt (search quote depth 40 fits 9999) tt
+  where
+    gone : Within (ofℕ 1 -ᶠ r) (ofℕ 1 -ᶠ S₂) δ
+    gone = near (r ∷ S₂ ∷ δ ∷ []) no-equations (small-minus (small n)) (number 0) (search quote depth 40 fits 9999) tt (search quote depth 40 fits 9999) tt
+
+-- the part a of a loss at the foot, both rounded down, against the exact one
+pub linear-near : {a t tx T : Fraction} → Nonneg a → a ≼ ofℕ 1 → Floored t tx → Floored T (t *ᶠ a) → Within T (tx *ᶠ a) (ofℕ 2)
+linear-near {a} {t} {tx} {T} pa a1 ft fT =
+    near (a ∷ t ∷ tx ∷ T ∷ []) no-equations (floored-small fT ⊞ˢ floored-small ft ⊠ˢ sized pa) (slack a1) (search quote depth 40 fits 9999) tt (search quote depth 40 fits 9999) tt
 
 -- units that cover what a reach adds to the error a that is carried to it: at its head, and at an instant while a is at most 1 mg/L
 pub head-adds : (a units : Fraction) → ofℕ addedUnits ≼ units → a +ᶠ ofℕ headUnits ≼ units +ᶠ a
 head-adds a units h =
-    certify (a ∷ units ∷ []) (slack h ⊞ number 13) (search quote depth 40 fits 9999) tt
+    certify (a ∷ units ∷ []) (slack h ⊞ number 43) (search quote depth 40 fits 9999) tt
 
-pub reach-adds : (ε L a units : Fraction) → Nonneg ε → ofℕ 268_435_456 *ᶠ ε ≈ ofℕ 1 → L ≼ ofℕ 1_000_000_000 → a ≼ ofℕ 1_000_000 → ofℕ addedUnits ≼ units → ofℕ instantUnits +ᶠ ε +ᶠ ε *ᶠ (L +ᶠ ofℕ 1_020_000_000) +ᶠ (ofℕ 1 +ᶠ ε) *ᶠ (a +ᶠ ofℕ headUnits) ≼ units +ᶠ a
-reach-adds ε L a units p e hL ha hu =
-    certify-by (ε ∷ L ∷ a ∷ units ∷ []) (ofℕ 8 ⋅ e & no-equations) (slack hu ⊞ p ⊠ (slack hL ⊞ slack ha ⊞ number 126_483_642)) (search quote depth 40 fits 9999) tt
+pub reach-adds : (ε δ L τ a units : Fraction) → Nonneg δ → ofℕ 2_147_483_648 *ᶠ δ ≈ ofℕ 1 → ε ≈ ofℕ 8 *ᶠ δ → L ≼ ofℕ 1_000_000_000 → τ ≼ ofℕ 2 +ᶠ δ *ᶠ ofℕ 65_535_000_001 → a ≼ ofℕ 1_000_000 → ofℕ addedUnits ≼ units → ofℕ instantUnits +ᶠ δ +ᶠ ε *ᶠ L +ᶠ δ *ᶠ ofℕ 1_660_000_000 +ᶠ τ +ᶠ (ofℕ 1 +ᶠ ε) *ᶠ (a +ᶠ ofℕ headUnits) ≼ units +ᶠ a
+reach-adds ε δ L τ a units p e e′ hL hτ ha hu =
+    certify-by (ε ∷ δ ∷ L ∷ τ ∷ a ∷ units ∷ []) (ofℕ 36 ⋅ e & (L +ᶠ a +ᶠ ofℕ headUnits) ⋅ e′ & no-equations) (slack hu ⊞ slack hτ ⊞ p ⊠ (number 8 ⊠ (slack hL ⊞ slack ha) ⊞ number 2_106_411_286)) (search quote depth 40 fits 9999) tt

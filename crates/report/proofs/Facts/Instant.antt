@@ -76,8 +76,11 @@ kept-floored f Cs C =
     let e : share (f .kept) *ᶠ ofℤ (pos Cs -ℤ C) ≈ share (f .kept) *ᶠ (ofℕ Cs -ᶠ ofℤ C) = *ᶠ-cong (≈-refl (share (f .kept))) (ofℤ-sub (pos Cs) C) in
     record { low = ≼-trans (r .low) (≼-of-≈ e); high = ≼-trans (≼-of-≈ (≈-sym e)) (r .high) }
 
--- oxygen is saturation less these two
-pub oxygen-parts : (f : Factors) (Cs L : ℕ) (C : ℤ) → ofℤ (oxygenWith f Cs L C) ≈ ofℕ Cs -ᶠ ofℕ (product (f .turned) L) -ᶠ ofℤ (keptDeficit f Cs C)
+-- oxygen is saturation less these two and the loss to a bed
+pub oxygen-parts : (f : Factors) (Cs L : ℕ) (C : ℤ) (loss : ℕ) → ofℤ (oxygenWith f Cs L C -ℤ pos loss) ≈ ofℕ Cs -ᶠ ofℕ (product (f .turned) L) -ᶠ ofℤ (keptDeficit f Cs C) -ᶠ ofℕ loss
 unfolding oxygenWith keptDeficit
-oxygen-parts f Cs L C =
-    ≈-trans (ofℤ-sub (pos Cs -ℤ pos (product (f .turned) L)) (keptDeficit f Cs C)) (+ᶠ-cong (ofℤ-sub (pos Cs) (pos (product (f .turned) L))) (≈-refl (-ᶠ (ofℤ (keptDeficit f Cs C)))))
+oxygen-parts f Cs L C loss =
+    let G = product (f .turned) L in
+    let R = keptDeficit f Cs C in
+    ≈-trans (ofℤ-sub (pos Cs -ℤ pos G -ℤ R) (pos loss))
+    (+ᶠ-cong (≈-trans (ofℤ-sub (pos Cs -ℤ pos G) R) (+ᶠ-cong (ofℤ-sub (pos Cs) (pos G)) (≈-refl (-ᶠ (ofℤ R))))) (≈-refl (-ᶠ (ofℕ loss))))

@@ -1,17 +1,19 @@
 -- The head, the line and the foot of reach i + 1 of an accepted river, from the tables of flows and feet.
 -- Assumes nothing.
 use mathlib.Core.Path.{_≡_, refl, sym, ap, ap₂, _∙_, subst}
-use mathlib.Core.List.{List}
+use mathlib.Core.List.{List, [], _∷_}
 use Prim.Native.Nat.{ℕ, suc, _+_, _-_, _*_, _≤_, _<_}
-use native.Mathlib.Nat.{le-trans, not-suc-le-zero, mul-le-mul-left}
+use native.Mathlib.Nat.{le-refl, le-trans, not-suc-le-zero, mul-le-mul-left}
 use native.Mathlib.Numerals.{add-one}
 use native.Mathlib.Omega.{arith}
 use native.Mathlib.Decide.{decLe}
 use lib.Dec.{leb→le}
-use lib.IntN.{ℤ, pos, negsuc}
+use lib.IntN.{ℤ, pos, negsuc, subℕ}
 use lib.Signed.{_≤ℤ_}
 use lib.ListN.{length, getD, set}
+use Rattle.decay.specs.Fraction.{_≼_, ofℕ, ofℤ, _+ᶠ_}
 use Rattle.decay.specs.Step.{RatesPass}
+use Rattle.decay.proofs.Algebra.{quote, certify, slack, number, _⊞_, multiple, ≈-trans, ofℤ-≈, ofℕ-reflect}
 use Rattle.river.specs.declared.card.Card.{Card}
 use Rattle.river.specs.declared.flow.FlowTable.{FlowTable}
 use Rattle.river.specs.declared.head.FootTable.{FootTable}
@@ -20,25 +22,28 @@ use Rattle.river.specs.Saturation.{SaturationInRange}
 use Rattle.river.specs.Card.{Lawful, blank}
 use Rattle.river.specs.Flow.{feedersAmong, fed, flowOf, reachFlow, flowAt, massAt, depthAt, Flows}
 use Rattle.river.specs.Head.{headBod, headOxygen}
-use Rattle.river.proofs.head.Offset.{sub-pos, sub-neg}
+use Rattle.river.proofs.head.Offset.{sub-pos, sub-neg, minus}
 use Rattle.river.proofs.flow.Take.{flow-within}
 use Rattle.river.proofs.flow.Table.{entered, Adds, TableOf, sum-of-feeders}
 use Rattle.river.proofs.head.Feet.{AddsFlowTimes, StoredTable, oxygen-of-feeders, carried-none, carried-next}
+use Rattle.report.specs.Bed.{BedPasses, lossLimit}
 use Rattle.report.specs.Program.{bodSum, oxygenSum, bodAtHead, oxygenAtHead, bodAt, oxygenAt, figuresBelow, figuresOf, figuresAt, foot}
 use Rattle.report.specs.Record.{figuresIn, Figures}
 use Rattle.report.specs.declared.record.Line.{Line}
-use Rattle.report.specs.Lines.{Ready, FeetOf, LineOf}
-use Rattle.report.proofs.Forest.{rates-pass, reach-accepted}
+use Rattle.report.specs.Lines.{Ready, FeetOf, LineOf, LineAt}
+use Rattle.report.proofs.Facts.Floor.{ofℤ-sub}
+use Rattle.report.proofs.Bounds.{mostBelow}
+use Rattle.report.proofs.Forest.{rates-pass, bed-passes, reach-accepted}
 use Rattle.report.proofs.River.{IsRiver, head-in-range, instant-in-range, reach-tied}
 use Rattle.river.specs.Stored.{storedZero, oxygenOf, storedOf}
-use Rattle.river.specs.HeadTable.{demandLimit, HeadInput, HeadOf}
+use Rattle.river.specs.HeadTable.{demandLimit, HeadInput, HeadAt, HeadOf}
 
 -- stored oxygen is back where it was
-pub stored-back : (z : ℤ) → negsuc 1_000_000_383 ≤ℤ z → oxygenOf (storedOf z) ≡ z
+pub stored-back : (z : ℤ) → negsuc 1_640_000_383 ≤ℤ z → oxygenOf (storedOf z) ≡ z
 unfolding oxygenOf storedOf
 stored-back (pos n) h = sub-pos (n + storedZero) storedZero (omega arith) ∙ ap pos (omega arith)
 stored-back (negsuc n) h =
-    let l : n ≤ 1_000_000_383 = leb→le _ _ (h .le) in
+    let l : n ≤ 1_640_000_383 = leb→le _ _ (h .le) in
     sub-neg (storedZero - suc n) storedZero (omega arith) ∙ ap negsuc (omega arith)
 
 pub stored-of : (n : ℕ) → storedOf (oxygenOf n) ≡ n
@@ -49,19 +54,12 @@ stored-of n = by-sign (decLe storedZero n)
     by-sign (yes h) = ap storedOf (sub-pos n storedZero h) ∙ omega arith
     by-sign (no h) = ap storedOf (sub-neg n storedZero (omega arith)) ∙ omega arith
 
--- oxygen in range is stored as a number above the largest BOD
-pub stored-low : (n : ℕ) → negsuc 1_000_000_383 ≤ℤ oxygenOf n → 1_000_000_000 ≤ n
+-- oxygen in range is stored as a number that is at least BOD and what a bed may take
+stored-low : (bod n : ℕ) → ofℕ bod ≼ ofℤ (oxygenOf n) +ᶠ ofℕ mostBelow → bod + lossLimit ≤ n
 unfolding oxygenOf
-stored-low n h = by-sign (decLe storedZero n)
-  where
-    below : n < storedZero → 1_000_000_000 ≤ n
-    below l =
-        let low : negsuc 1_000_000_383 ≤ℤ negsuc (storedZero - suc n) = subst (λ (z : ℤ). negsuc 1_000_000_383 ≤ℤ z) (sub-neg n storedZero l) h in
-        omega (arith, leb→le (storedZero - suc n) 1_000_000_383 (low .le))
-
-    by-sign : Dec (storedZero ≤ n) → 1_000_000_000 ≤ n
-    by-sign (yes l) = omega arith
-    by-sign (no l) = below (omega arith)
+stored-low bod n h =
+    ofℕ-reflect (bod + lossLimit) n
+    (certify (ofℕ bod ∷ ofℕ n ∷ ofℤ (subℕ n storedZero) ∷ []) (slack h ⊞ number 502_483_264 ⊞ multiple (ofℕ 1) (≈-trans (ofℤ-≈ (sym (minus n storedZero))) (ofℤ-sub (pos n) (pos storedZero)))) (search quote depth 40 fits 9999) tt)
 
 -- the river of flows that are ready
 is-river : {cards : List Card} {flows : FlowTable} → Ready cards flows → IsRiver cards
@@ -97,7 +95,7 @@ module _ {cards : List Card} {flows : FlowTable} {feet : FootTable} {i : ℕ} (r
       record {
         outlet = λ j k. ready .tabled .outlet j (omega arith);
         value = f .oxygen;
-        oxygen = λ j k. stored-back _ (instant-in-range (is-river ready) j (omega arith) foot .oxygen-low);
+        oxygen = λ j k. stored-back _ (instant-in-range (is-river ready) j (omega arith) foot (le-refl foot) .oxygen-low);
       }
 
   module _ {h : Head} (of : HeadOf cards flows feet i h) where
@@ -118,10 +116,10 @@ module _ {cards : List Card} {flows : FlowTable} {feet : FootTable} {i : ℕ} (r
     pub head-small : h .bod ≤ demandLimit
     head-small = rw head-bod-is (head-in-range (is-river ready) i l .bod-range)
 
-    pub head-low : 1_000_000_000 ≤ h .oxygen
+    pub head-low : h .bod + lossLimit ≤ h .oxygen
     head-low =
-        stored-low (h .oxygen)
-        (subst (λ (z : ℤ). negsuc 1_000_000_383 ≤ℤ z) (sym head-oxygen-is) (head-in-range (is-river ready) i l .oxygen-low))
+        stored-low (h .bod) (h .oxygen)
+        (subst (λ (z : ℤ). ofℕ (h .bod) ≼ ofℤ z +ᶠ ofℕ mostBelow) (sym head-oxygen-is) (rw head-bod-is (head-in-range (is-river ready) i l .bod-below)))
 
     -- the line below this head is that of the reach
     pub line-of-reach :
@@ -145,8 +143,15 @@ module _ {cards : List Card} {flows : FlowTable} {feet : FootTable} {i : ℕ} (r
   pub reach-saturation : {card : Card} → card ≡ getD cards i blank → SaturationInRange card
   reach-saturation ec = rw ec (reach-accepted cards (ready .lawful) (ready .sound) i l .saturation)
 
+  pub reach-bed : {card : Card} {flow : ℕ} → card ≡ getD cards i blank → flow ≡ flowAt cards (suc i) → BedPasses card flow
+  reach-bed ec ef = rw (ec, ef) (bed-passes (reach-accepted cards (ready .lawful) (ready .sound) i l))
+
   pub reach-flow-small : flowAt cards (suc i) ≤ 100_000_000
   reach-flow-small = flow-within (ready .sound .each i l)
+
+-- the head of a reach that is handed on by its card
+abbrev pub head-at : {card : Card} {flows : FlowTable} {feet : FootTable} {i : ℕ} → LineAt card flows feet i → HeadAt card flows feet i
+head-at p = record { cards = p .cards; input = head-input (p .ready) (p .feet-are) (p .within); own = p .own }
 
 -- what a line says of its reach
 module _ {cards : List Card} {i : ℕ} {line : Line} (of : LineOf cards i line) where

@@ -1,7 +1,7 @@
 -- The figures of a reach from its profile, and the ranges that let them be held in four bytes.
 -- Assumes nothing.
 use mathlib.Core.Path.{_≡_}
-use Prim.Native.Nat.{ℕ, _≤_, _<_}
+use Prim.Native.Nat.{ℕ, _+_, _≤_, _<_}
 use native.Mathlib.Omega.{arith}
 use Rattle.decay.specs.Step.{RatesPass, stepOf}
 use Rattle.decay.specs.Factors.{SoundStep, factorsAt}
@@ -12,11 +12,14 @@ use Rattle.decay.proofs.step.Shares.{step-sound}
 use Rattle.river.specs.declared.card.Card.{Card}
 use Rattle.river.specs.Saturation.{saturationOf, SaturationInRange}
 use Rattle.river.proofs.head.Bounds.{saturation-of-small}
-use Rattle.report.specs.Program.{bodWith, factorsAlong, bodAlong, oxygenAlong, foot, figuresBelow}
+use Rattle.report.specs.Bed.{bedOf, BedPasses, lossLimit, BedInRange}
+use Rattle.report.specs.Program.{bodWith, factorsAlong, bodAlong, lossAlong, oxygenAlong, foot, figuresBelow}
 use Rattle.report.specs.Profile.{StartInRange, Profiled, oxygenAfter}
 use Rattle.report.specs.Record.{figuresIn}
+use Rattle.report.specs.declared.bed.Bed.{Bed}
 use Rattle.report.specs.declared.profile.Start.{Start}
 use Rattle.report.specs.declared.profile.Profile.{Profile}
+use Rattle.report.proofs.bed.Loss.{bed-in-range}
 use Rattle.report.proofs.Lowest.{lowest-first}
 use Rattle.river.specs.Stored.{oxygenOf}
 use Rattle.river.specs.HeadTable.{demandLimit}
@@ -25,7 +28,7 @@ use Rattle.river.specs.HeadTable.{demandLimit}
 pub start-range :
     {bod oxygen saturated : ℕ} (card : Card) →
     bod ≤ demandLimit →
-    1_000_000_000 ≤ oxygen →
+    bod + lossLimit ≤ oxygen →
     oxygen < 4_294_967_296 →
     SaturationInRange card →
     saturated ≡ saturationOf card →
@@ -36,7 +39,11 @@ start-range card b l h t e =
 pub start-sound : {step : Step} {k1 k2 volume flow : ℕ} → step ≡ stepOf k1 k2 volume flow → RatesPass k1 k2 volume flow → SoundStep step
 start-sound e p = rw e (step-sound _ _ _ _ p)
 
-module _ {step : Step} {start : Start} {p : Profile} (sound : SoundStep step) (r : StartInRange start) (profiled : Profiled step start p) where
+-- and its bed
+pub start-bed : {step : Step} {bed : Bed} {flow : ℕ} (card : Card) → step ≡ stepOf (card .k1) (card .k2) (card .volume) flow → bed ≡ bedOf card flow → RatesPass (card .k1) (card .k2) (card .volume) flow → BedPasses card flow → BedInRange step bed
+start-bed card e b p h = rw (e, b) (bed-in-range card _ p h)
+
+module _ {step : Step} {start : Start} {bed : Bed} {p : Profile} (sound : SoundStep step) (r : StartInRange start) (profiled : Profiled step start bed p) where
   -- foot BOD is at most head BOD
   pub foot-below : p .«foot_bod» ≤ start .bod
   unfolding bodWith
@@ -45,16 +52,17 @@ module _ {step : Step} {start : Start} {p : Profile} (sound : SoundStep step) (r
       (share-below (factorsAt step foot .left) (start .bod) (omega (arith, range sound foot .bod)))
 
 -- the critical instant is one of the 1,025
-pub critical-within : {step : Step} {start : Start} {p : Profile} → Profiled step start p → p .«critical_instant» ≤ foot
-critical-within {step} {start} profiled =
-    rw (profiled .critical-instant) (lowest-first (oxygenAfter step start) foot .within)
+pub critical-within : {step : Step} {start : Start} {bed : Bed} {p : Profile} → Profiled step start bed p → p .«critical_instant» ≤ foot
+critical-within {step} {start} {bed} profiled =
+    rw (profiled .critical-instant) (lowest-first (oxygenAfter step start bed) foot .within)
 
 -- the step of a reach and its saturation make its figures
-module _ (card : Card) (flow depth bod oxygen saturated : ℕ) (step : Step) (p : Profile) where
+module _ (card : Card) (flow depth bod oxygen saturated : ℕ) (step : Step) (bed : Bed) (p : Profile) where
   pub line-figures :
       step ≡ stepOf (card .k1) (card .k2) (card .volume) flow →
       saturated ≡ saturationOf card →
-      Profiled step (record { bod = bod; oxygen = oxygen; saturation = saturated }) p →
+      bed ≡ bedOf card flow →
+      Profiled step (record { bod = bod; oxygen = oxygen; saturation = saturated }) bed p →
       figuresIn (record {
         depth = depth;
         flow = flow;
@@ -65,7 +73,7 @@ module _ (card : Card) (flow depth bod oxygen saturated : ℕ) (step : Step) (p 
         «critical_oxygen» = p .«critical_oxygen»;
         «foot_oxygen» = p .«foot_oxygen»;
       }) ≡ figuresBelow card depth flow bod (oxygenOf oxygen)
-  unfolding bodAlong oxygenAlong factorsAlong
-  line-figures e s made =
-      let m : Profiled (stepOf (card .k1) (card .k2) (card .volume) flow) (record { bod = bod; oxygen = oxygen; saturation = saturationOf card }) p = rw (e, s) at made in
+  unfolding bodAlong lossAlong oxygenAlong factorsAlong
+  line-figures e s b made =
+      let m : Profiled (stepOf (card .k1) (card .k2) (card .volume) flow) (record { bod = bod; oxygen = oxygen; saturation = saturationOf card }) (bedOf card flow) p = rw (e, s, b) at made in
       cc (m .foot-bod, m .foot-oxygen .is, m .critical-instant, m .critical-oxygen .is)

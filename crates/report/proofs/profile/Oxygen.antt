@@ -4,13 +4,14 @@ use mathlib.Core.Path.{_≡_, sym, ap, _∙_}
 use Prim.Native.Nat.{ℕ, suc, _+_, _-_, _*_, _≤_, _<_}
 use native.Mathlib.Nat.{add-mul}
 use native.Mathlib.Omega.{arith}
-use lib.IntN.{ℤ, pos, negℤ, negℤ-negℤ, _-ℤ_, _*ℤ_}
+use lib.IntN.{ℤ, pos, negℤ, negℤ-negℤ, _-ℤ_, _*ℤ_, +ℤ-idr}
 use Rattle.river.specs.Head.{floor}
 use Rattle.river.proofs.head.Offset.{sub-pos, sub-neg, sub-eq, minus, sub-plus}
 use Rattle.decay.specs.Fixed.{one, product}
 use Rattle.decay.specs.Factors.{AreShares}
 use Rattle.decay.specs.declared.factors.Factors.{Factors}
 use Rattle.decay.proofs.fixed.Digits.{share-below}
+use Rattle.report.specs.Bed.{lossLimit}
 use Rattle.report.specs.Program.{oxygenWith}
 use Rattle.report.specs.Profile.{StartInRange}
 use Rattle.report.specs.declared.profile.Start.{Start}
@@ -84,7 +85,7 @@ oxygen-over f Cs L c h k l =
     lost : ℕ
     lost = product (one - f .kept) (c - (Cs + storedZero))
 
--- what the program returns, from the products that it was given
+-- what the program returns, from the products that it was given; a bed may take its most of it
 module _ (f : Factors) (h : Start) (s : AreShares f) (r : StartInRange h) where
   pub turned-below : product (f .turned) (h .bod) ≤ h .bod
   turned-below = share-below (f .turned) (h .bod) (omega arith)
@@ -94,26 +95,41 @@ module _ (f : Factors) (h : Start) (s : AreShares f) (r : StartInRange h) where
       g ≡ product (f .turned) (h .bod) →
       h .oxygen ≤ h .saturation + storedZero →
       left ≡ product (f .kept) (h .saturation + storedZero - h .oxygen) →
-      Stores (h .saturation + storedZero - g - left) (oxygenWith f (h .saturation) (h .bod) (oxygenOf (h .oxygen)))
+      Stores (h .saturation + storedZero - g - left) (oxygenWith f (h .saturation) (h .bod) (oxygenOf (h .oxygen))) × (lossLimit ≤ h .saturation + storedZero - g - left)
   holds-under g left eg k el =
-      record {
-        is =
-            rw (eg, el)
-            (oxygen-under f (h .saturation) (h .bod) (h .oxygen) k
-            (omega (arith, turned-below, share-below (f .kept) (h .saturation + storedZero - h .oxygen) (s .deficit))));
-        fits = omega arith;
-      }
+      let kept = share-below (f .kept) (h .saturation + storedZero - h .oxygen) (s .deficit) in (
+        record {
+          is = rw (eg, el) (oxygen-under f (h .saturation) (h .bod) (h .oxygen) k (omega (arith, turned-below, kept)));
+          fits = omega arith;
+        },
+        omega (arith, turned-below, kept),
+      )
 
   pub holds-over :
       (g lost : ℕ) →
       g ≡ product (f .turned) (h .bod) →
       h .saturation + storedZero < h .oxygen →
       lost ≡ product (one - f .kept) (h .oxygen - (h .saturation + storedZero)) →
-      Stores (h .saturation + storedZero - g + (h .oxygen - (h .saturation + storedZero)) - lost) (oxygenWith f (h .saturation) (h .bod) (oxygenOf (h .oxygen)))
-  holds-over g lost eg k el =
-      record {
-        is =
-            rw (eg, el)
-            (oxygen-over f (h .saturation) (h .bod) (h .oxygen) (s .deficit) k (omega (arith, turned-below)));
-        fits = omega arith;
-      }
+      Stores (h .saturation + storedZero - g + (h .oxygen - (h .saturation + storedZero)) - lost) (oxygenWith f (h .saturation) (h .bod) (oxygenOf (h .oxygen))) × (lossLimit ≤ h .saturation + storedZero - g + (h .oxygen - (h .saturation + storedZero)) - lost)
+  holds-over g lost eg k el = (
+    record {
+      is =
+          rw (eg, el)
+          (oxygen-over f (h .saturation) (h .bod) (h .oxygen) (s .deficit) k (omega (arith, turned-below)));
+      fits = omega arith;
+    },
+    omega (arith, turned-below, share-below (one - f .kept) (h .oxygen - (h .saturation + storedZero)) (omega arith)),
+  )
+
+-- stored oxygen less what a bed takes
+pub less-stored : {o : ℕ} {z : ℤ} (loss : ℕ) → Stores o z → loss ≤ o → Stores (o - loss) (z -ℤ pos loss)
+unfolding oxygenOf
+less-stored {o} loss s h =
+    record {
+      is = sym (ap (λ (x : ℤ). x -ℤ pos loss) (sym (s .is)) ∙ sub-less o storedZero loss ∙ sub-eq o (storedZero + loss) (o - loss) storedZero (omega arith));
+      fits = omega (arith, s .fits);
+    }
+
+-- what takes nothing leaves oxygen as it is
+pub nothing-less : {o loss : ℕ} {z : ℤ} → loss ≡ 0 → Stores o z → Stores o (z -ℤ pos loss)
+nothing-less {o} {loss} {z} e s = rw (e, +ℤ-idr z) s

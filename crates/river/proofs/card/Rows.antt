@@ -10,7 +10,7 @@ use native.Mathlib.Omega.{arith}
 use lib.Dec.{lit<}
 use lib.ListN.{length}
 use Rattle.river.specs.Bytes.{AreBytes, Mark, markBytes, twoBytes}
-use Rattle.river.specs.Card.{damRecord, damInRange, layoutSize, numberAt, numberBytes, encodeAmount, amountRecord, amountInRange, takeLayout, pressureLayout, optional, optionalOf, sizeOf, longestCard}
+use Rattle.river.specs.Card.{damRecord, damInRange, layoutSize, numberAt, numberBytes, encodeAmount, amountRecord, amountInRange, takeLayout, pressureLayout, sludgeLayout, optional, optionalOf, sizeOf, longestCard}
 use Rattle.river.specs.Write.{encodeCard}
 use Rattle.river.specs.declared.card.Amount.{Amount}
 use Rattle.river.specs.declared.card.Amount.the-variants.{Without, Given}
@@ -100,7 +100,8 @@ module _ (l : Layout) (f : Fits l) where
       }
 
 pub sound-optional : AllSound optional
-sound-optional = (sound-dam, (sound-amount takeLayout tt, (sound-amount pressureLayout (lit< tt), tt)))
+sound-optional =
+    (sound-dam, (sound-amount takeLayout tt, (sound-amount pressureLayout (lit< tt), (sound-amount sludgeLayout (lit< tt), tt))))
 
 pub length-encodeCard : (c : Card) → length (encodeCard c) ≡ sizeOf c
 length-encodeCard c = omega arith

@@ -1,10 +1,12 @@
 -- How many reaches the river of an array of 128 cards and a count has, and which card each has.
 use mathlib.Core.Path.{_≡_, sym}
+use mathlib.Core.List.{List}
 use Prim.Native.Nat.{ℕ, _<_, _≤_}
 use native.Mathlib.Nat.{mul-le-mul}
 use native.Mathlib.Omega.{arith}
 use lib.ListN.{length, getD, length-take}
 use lib.Seq.{getD-take}
+use Rattle.river.specs.declared.card.Card.{Card}
 use Rattle.river.specs.declared.card.Cards.{Cards}
 use Rattle.river.specs.Card.{Lawful, FieldsInRange, river, blank}
 use Rattle.river.specs.Flow.{ownMass}
@@ -23,12 +25,12 @@ card-of-river cs i h =
     let k : i < cs .count = omega (arith, rw length-take at h) in
     sym (getD-take (cs .count) (cs .at) i blank k)
 
--- and is in range
-pub card-in-range : (cs : Cards) (i : ℕ) → Lawful (river cs) → i < length (river cs) → FieldsInRange (getD (cs .at) i blank)
-card-in-range cs i h l = rw (card-of-river cs i l) (lawful-at h i l .in-range)
+-- the card of a reach is in range
+pub card-in-range : {card : Card} {cards : List Card} {i : ℕ} → card ≡ getD cards i blank → Lawful cards → i < length cards → FieldsInRange card
+card-in-range {i = i} own h l = rw own (lawful-at h i l .in-range)
 
 -- what a reach itself takes in is bounded
-pub own-mass-few : (cs : Cards) (i : ℕ) → Lawful (river cs) → i < length (river cs) → {own : ℕ} → own ≡ ownMass (getD (cs .at) i blank) → own ≤ 104_294_967_296_000
-own-mass-few cs i h l e =
+pub own-mass-few : {card : Card} {cards : List Card} {i : ℕ} → card ≡ getD cards i blank → Lawful cards → i < length cards → {mass : ℕ} → mass ≡ ownMass card → mass ≤ 104_294_967_296_000
+own-mass-few {i = i} own h l e =
     let k = lawful-at h i l in
-    rw (e, card-of-river cs i l) (omega (arith, mul-le-mul (k .in-range .inflow) (k .in-range .inflow-bod), k .load))
+    rw (e, own) (omega (arith, mul-le-mul (k .in-range .inflow) (k .in-range .inflow-bod), k .load))

@@ -1,4 +1,4 @@
--- The flow check accepts exactly the rivers whose reaches pass the rules 7 to 11 and 13, and the laws of the loop over the reaches.
+-- The flow check accepts exactly the rivers whose reaches pass the rules 7 to 11, 13 and 14, and the laws of the loop over the reaches.
 use mathlib.Core.Path.{_≡_, refl, sym, ap, _∙_}
 use mathlib.Core.Logic.{⊎-elim}
 use mathlib.Core.Bool.{true}
@@ -43,19 +43,20 @@ reach-asks card up i =
     record {
       on =
           λ s. groups .on
-          ((s .flowing, (s .bounded, dam-rule-true (card .dam) up (s .dam-rule))), (s .mass-rule, (s .take-rule, (s .decay-rule, s .aeration-rule))));
+          ((s .flowing, (s .bounded, dam-rule-true (card .dam) up (s .dam-rule))), (s .mass-rule, (s .take-rule, ((s .decay-rule, s .aeration-rule), s .bed-rule))));
       told =
           λ e. let k = groups .told e in
           let flow = k .0 .0 in
-          let rates = k .0 .1 .1 .1 in (
+          let left = k .0 .1 .1 .1 in (
             record {
               flowing = flow .0;
               bounded = flow .1 .0;
               dam-rule = true-dam-rule (card .dam) up (flow .1 .1);
               mass-rule = k .0 .1 .0;
               take-rule = k .0 .1 .1 .0;
-              decay-rule = rates .0;
-              aeration-rule = rates .1;
+              decay-rule = left .0 .0;
+              aeration-rule = left .0 .1;
+              bed-rule = left .1;
             },
             k .1,
           );

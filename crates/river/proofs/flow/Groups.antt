@@ -10,7 +10,7 @@ use Rattle.river.specs.declared.card.Dam.{Dam}
 use Rattle.river.specs.declared.refusal.Outcome.{Outcome}
 use Rattle.river.specs.declared.refusal.Refusal.{Refusal}
 use Rattle.river.specs.Refusal.{Answer, accepted, need, goOn}
-use Rattle.river.specs.Flow.{flowLimit, massLimit, rateLimit, takeOf, damFits, Checks, _then_, flowRules, loadRule, takeRule, rateRules, checksOf}
+use Rattle.river.specs.Flow.{flowLimit, massLimit, rateLimit, bedLimit, takeOf, sludgeOf, damFits, Checks, _then_, flowRules, loadRule, takeRule, rateRules, bedRule, checksOf}
 use Rattle.river.specs.FlowTable.{Decides}
 use Rattle.river.proofs.Answers.{need-true, passed}
 
@@ -58,12 +58,17 @@ unfolding rateRules
 rate-rules-ask card Q i =
     asks-both (ask-most (card .k1 * card .volume) (rateLimit * Q) 11 i) (ask-most (card .k2 * card .volume) (rateLimit * Q) 11 i)
 
+pub bed-rule-asks : (card : Card) (Q i : ℕ) → Asks (bedRule card Q i) (sludgeOf card * card .volume ≤ bedLimit * Q)
+unfolding bedRule
+bed-rule-asks card Q i = ask-most (sludgeOf card * card .volume) (bedLimit * Q) 14 i
+
 -- what the checks of a reach ask for, group by group
-pub checks-ask : (card : Card) (fed : Bool) (Qu Qm Mm i : ℕ) → Asks (checksOf card fed Qu Qm Mm i) (((0 < Qm) × ((Qm ≤ flowLimit) × (damFits (card .dam) fed Qu ≡ true))) × ((Mm ≤ massLimit * Qm) × ((takeOf card < Qm) × ((card .k1 * card .volume ≤ rateLimit * (Qm - takeOf card)) × (card .k2 * card .volume ≤ rateLimit * (Qm - takeOf card))))))
+pub checks-ask : (card : Card) (fed : Bool) (Qu Qm Mm i : ℕ) → Asks (checksOf card fed Qu Qm Mm i) (((0 < Qm) × ((Qm ≤ flowLimit) × (damFits (card .dam) fed Qu ≡ true))) × ((Mm ≤ massLimit * Qm) × ((takeOf card < Qm) × (((card .k1 * card .volume ≤ rateLimit * (Qm - takeOf card)) × (card .k2 * card .volume ≤ rateLimit * (Qm - takeOf card))) × (sludgeOf card * card .volume ≤ bedLimit * (Qm - takeOf card))))))
 unfolding checksOf
 checks-ask card fed Qu Qm Mm i =
     asks-both (flow-rules-ask (card .dam) fed Qu Qm i)
-    (asks-both (load-rule-asks Qm Mm i) (asks-both (take-rule-asks (takeOf card) Qm i) (rate-rules-ask card (Qm - takeOf card) i)))
+    (asks-both (load-rule-asks Qm Mm i)
+    (asks-both (take-rule-asks (takeOf card) Qm i) (asks-both (rate-rules-ask card (Qm - takeOf card) i) (bed-rule-asks card (Qm - takeOf card) i))))
 
 module _ {f : Checks} {r : Outcome} (d : Decides r f) where
   -- an accepted outcome has what its checks ask for

@@ -9,7 +9,7 @@ use native.Mathlib.Numerals.{one-add}
 use native.Mathlib.Omega.{arith}
 use lib.ListN.{length, getD}
 use borrow.Author.Tests.{le-leb, leb-true, ltb-true, eq-eqb, eqb-true, ne-eqb}
-use Rattle.river.specs.Card.{FieldsInRange, LawfulDam, LawfulAmount, LawfulCard, LawfulFrom, Lawful, blank, takeLayout, pressureLayout, optional, optionalOf, inRange, damInRange, amountInRange, countOk, outletOk}
+use Rattle.river.specs.Card.{FieldsInRange, LawfulDam, LawfulAmount, LawfulCard, LawfulFrom, Lawful, blank, takeLayout, pressureLayout, sludgeLayout, optional, optionalOf, inRange, damInRange, amountInRange, countOk, outletOk}
 use Rattle.river.specs.Optional.{optionalsInRange}
 use Rattle.river.specs.declared.card.Amount.{Amount}
 use Rattle.river.specs.declared.card.Amount.the-variants.{Without, Given}
@@ -74,7 +74,8 @@ unfolding optionalsInRange
 lawful-optionals {n} {i} {c} h =
     both (damInRange-true (c .dam) (h .dam))
     (both (amountInRange-true takeLayout (c .take) (h .take))
-    (both (amountInRange-true pressureLayout (c .pressure) (h .pressure)) refl))
+    (both (amountInRange-true pressureLayout (c .pressure) (h .pressure))
+    (both (amountInRange-true sludgeLayout (c .sludge) (h .sludge)) refl)))
 
 pub lawful-card : (n i : ℕ) (c : Card) → inRange c ≡ true → c .load < 4294967296 → outletOk n i (c .outlet) ≡ true
     → optionalsInRange optional (optionalOf c) ≡ true → LawfulCard n i c
@@ -83,6 +84,7 @@ lawful-card n i c r l o e =
     let a = both-true e in
     let b = both-true (a .right) in
     let d = both-true (b .right) in
+    let f = both-true (d .right) in
     record {
       in-range = true-inRange c r;
       load = l;
@@ -90,6 +92,7 @@ lawful-card n i c r l o e =
       dam = true-damInRange (c .dam) (a .left);
       take = true-amountInRange takeLayout (c .take) (b .left);
       pressure = true-amountInRange pressureLayout (c .pressure) (d .left);
+      sludge = true-amountInRange sludgeLayout (c .sludge) (f .left);
     }
 
 pub countOk-true : (n : ℕ) → 1 ≤ n → n ≤ 128 → countOk n ≡ true

@@ -5,15 +5,19 @@ use mathlib.Core.List.{List}
 use Prim.Native.Nat.{ℕ, suc, _+_, _*_, _-_, _≤_, _<_}
 use native.Mathlib.Numerals.{add-one}
 use native.Mathlib.Omega.{arith}
-use lib.ListN.{length}
+use lib.ListN.{length, getD}
 use lib.Seq.{sets}
+use borrow.Author.Needs.{needs}
 use Rattle.river.specs.declared.card.Card.{Card}
+use Rattle.river.specs.declared.card.Cards.{Cards}
+use Rattle.river.specs.declared.flow.FlowTable.{FlowTable}
 use Rattle.river.specs.declared.head.FootTable.{FootTable}
-use Rattle.river.specs.Card.{river}
+use Rattle.river.specs.Card.{river, blank}
+use Rattle.river.proofs.flow.Count.{card-of-river}
 use Rattle.report.specs.Program.{figuresAt}
 use Rattle.report.specs.Record.{recordSize}
 use Rattle.report.specs.Report.{recordOf, reportSize}
-use Rattle.report.specs.Lines.{FeetOf}
+use Rattle.report.specs.Lines.{FeetOf, Ready, PlacedAt}
 use Rattle.report.proofs.record.Encoding.{record-length}
 use Rattle.report.proofs.record.Rows.{Filled, fill-start, fill-more, row-fits}
 use Rattle.report.proofs.lines.Feet.{no-feet-yet}
@@ -29,10 +33,10 @@ record Progress (cards : List Card) (report₀ : List ℕ) (count size : ℕ) (r
   filled : Filled (recordOf cards) (recordSize cards) report₀ i report
 
 abbrev Inv-loop : tie.InvT-loop
-Inv-loop cards flows report₀ count size feet₀ i₀ report feet i = Progress (river cards) report₀ count size report feet i
+Inv-loop flows report₀ cards count size feet₀ i₀ report feet i = Progress (river cards) report₀ count size report feet i
 
 abbrev μ-loop : tie.MeasureT-loop
-μ-loop cards flows report₀ count size feet₀ i₀ report feet i = count - i
+μ-loop flows report₀ cards count size feet₀ i₀ report feet i = count - i
 
 reach-count-requires : tie.Need-reach-count-requires Inv-loop μ-loop
 reach-count-requires c κs = tt
@@ -73,21 +77,30 @@ module _ {cards : List Card} {report₀ : List ℕ} {count size : ℕ} {report :
             (fill-more (recordOf cards) (recordSize cards) (λ j. record-length cards (figuresAt cards (suc j))) (p .filled) (rw (p .sized) at room-for) (rw (p .sized) at e));
       }
 
+-- what the next reach is handed
+abbrev record-at : (cs : Cards) {flows : FlowTable} {report₀ : List ℕ} {count size : ℕ} {report : List ℕ} {feet : FootTable} {i : ℕ} → Ready (river cs) flows → Progress (river cs) report₀ count size report feet i → i < count → PlacedAt (getD (cs .at) i blank) flows feet i (size * i) (length report)
+record-at cs {i = i} ready p l =
+    let within : i < length (river cs) = omega (arith, p .counted) in
+    record {
+      line = record { cards = river cs; ready = ready; feet-are = p .feet-are; within = within; own = card-of-river cs i within };
+      room = room-for p l;
+    }
+
 mul-report-reach : tie.Need-mul-report-reach Inv-loop μ-loop
-mul-report-reach c = omega (arith, room-for (c .before .before .loop .inv) (c .before .loop-test .taken))
+mul-report-reach c = omega (arith, room-for (c .before .before .before .loop .inv) (c .before .before .loop-test .taken))
 
 report-reach-requires : tie.Need-report-reach-requires Inv-loop μ-loop
 report-reach-requires c κs =
-    let s = c .before .before .before .before .before .before .before in
-    let v = c .before .before .loop .inv in
-    let l = c .before .loop-test .taken in
-    ((s .pre .0, v .feet-are, omega (arith, l, v .counted)), room-for v l)
+    let s = c .before .before .before .before .before .before .before .before in
+    record-at (s .args .t1) (s .pre .0) (c .before .before .before .loop .inv) (c .before .before .loop-test .taken)
 
 loop-again : tie.Need-loop-again Inv-loop μ-loop
 loop-again c =
-    one-more (c .before .before .before .before .before .loop .inv) (c .before .before .before .before .loop-test .taken)
-    (c .before .before .report-reach .ensures .0)
-    (c .before .before .report-reach .ensures .1)
+    let s = c .before .before .before .before .before .before .before .before .before .before .before in
+    let v = c .before .before .before .before .before .before .loop .inv in
+    let l = c .before .before .before .before .before .loop-test .taken in
+    let done = c .before .before .report-reach .ensures (record-at (s .args .t1) (s .pre .0) v l) in
+    one-more v l (done .feet-are) (done .report)
 
 same-length : tie.Need-same-length Inv-loop μ-loop
 same-length c = c .before .loop .inv .filled .same
@@ -95,7 +108,7 @@ same-length c = c .before .loop .inv .filled .same
 returns : tie.Need-returns Inv-loop μ-loop
 returns c =
     let v = c .before .loop .inv in
-    let all : c .before .loop .i ≡ length (river (c .before .before .before .before .before .before .args .cards)) = omega (arith, v .within, v .counted, c .loop-test .left) in
+    let all : c .before .loop .i ≡ length (river (c .before .before .before .before .before .before .args .t1)) = omega (arith, v .within, v .counted, c .loop-test .left) in
     rw all at (v .filled .is)
 
 pub report-all-spec : {M : Type 1} → statement M
@@ -108,6 +121,8 @@ report-all-spec =
     record-size-requires
     no-feet-requires
     loop-holds
+    (λ mul-card. search needs)
+    (λ element-copy-out-card. search needs)
     mul-report-reach
     report-reach-requires
     (λ add-i. omega arith)

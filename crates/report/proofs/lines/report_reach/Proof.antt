@@ -4,7 +4,6 @@ use mathlib.Core.Path.{_≡_}
 use lib.ListN.{length}
 use native.Mathlib.Omega.{arith}
 use borrow.Author.Needs.{needs}
-use Rattle.river.specs.Card.{river}
 use Rattle.report.specs.Record.{figuresIn}
 use Rattle.report.proofs.record.Encoding.{record-length}
 use Rattle.report.proofs.lines.Feet.{reach-flow-small, line-flow, feet-next}
@@ -13,15 +12,14 @@ use Rattle.report.proofs.lines.report_reach.Tie as tie
 
 put-record-requires : tie.Need-put-record-requires
 put-record-requires c κs =
-    let s = c .before .before .before in
-    omega (arith, s .pre .1, record-length (river (s .args .cards)) (figuresIn (c .before .line-at .result)))
+    let p = c .before .before .before .pre in
+    omega (arith, p .room, record-length (p .line .cards) (figuresIn (c .before .line-at .result)))
 
 put-foot-requires : tie.Need-put-foot-requires
 put-foot-requires c κs =
-    let s = c .before .before .before .before .before .before .before in
-    let p = s .pre .0 in (
-      omega (arith, p .0 .lawful .few, p .2),
-      omega (arith, reach-flow-small (p .0) (p .1) (p .2), line-flow (c .before .before .before .before .before .line-at .ensures)),
+    let p = c .before .before .before .before .before .before .before .pre .line in (
+      omega (arith, p .ready .lawful .few, p .within),
+      omega (arith, reach-flow-small (p .ready) (p .feet-are) (p .within), line-flow (c .before .before .before .before .before .line-at .ensures p)),
     )
 
 -- the tables of feet have 128 places
@@ -34,15 +32,19 @@ oxygen-long s = search needs
 returns : tie.Need-returns
 returns c =
     let s = c .before .before .before .before .before .before .before .before in
-    let p = s .pre .0 in
-    let of = c .before .before .before .before .before .before .line-at .ensures in (
-      feet-next _ (c .put-foot .result) (p .0) (p .1) (p .2) of
-          (omega (arith, c .before .before .before .before .before .before .line-at .ok))
-          (omega (arith, bod-long s, p .2, p .0 .lawful .few))
-          (omega (arith, oxygen-long s, p .2, p .0 .lawful .few))
-          (c .put-foot .ensures .0) (c .put-foot .ensures .1),
-      rw (of .figures) at (c .before .before .before .before .put-record .ensures .buffer),
-    )
+    let made = c .before .before .before .before .before .before .line-at in
+    λ here.
+    let p = here .line in
+    let of = made .ensures p in
+    record {
+      feet-are =
+          feet-next _ (c .put-foot .result) (p .ready) (p .feet-are) (p .within) of (omega (arith, made .ok))
+          (omega (arith, bod-long s, p .within, p .ready .lawful .few))
+          (omega (arith, oxygen-long s, p .within, p .ready .lawful .few))
+          (c .put-foot .ensures .0)
+          (c .put-foot .ensures .1);
+      report = rw (of .figures) at (c .before .before .before .before .put-record .ensures .buffer);
+    }
 
 pub report-reach-spec : {M : Type 1} → statement M
 report-reach-spec =

@@ -1,8 +1,12 @@
--- `report::profile::turn` meets its contract: the factors stay shares, and the lowest oxygen is that of this instant or as before.
--- Assumes nothing.
+-- `report::profile::turn` meets its contract: the factors stay shares, and no bed takes any oxygen. Assumes nothing.
+use Prim.Native.Nat.{suc}
+use native.Mathlib.Numerals.{add-one}
 use borrow.Author.Needs.{needs}
-use Rattle.decay.proofs.factors.Instants.{range, next-range}
-use Rattle.report.proofs.profile.Steps.{walk-lower, walk-kept}
+use Rattle.decay.proofs.factors.Instants.{range}
+use Rattle.report.specs.Bed.{noBed}
+use Rattle.report.proofs.bed.Loss.{no-bed-loss}
+use Rattle.report.proofs.profile.Oxygen.{nothing-less}
+use Rattle.report.proofs.profile.Steps.{next-shares, walk-seen}
 use Rattle.report.proofs.profile.turn.Statement.{statement}
 use Rattle.report.proofs.profile.turn.Tie as tie
 
@@ -14,25 +18,16 @@ next-requires c κs =
 oxygen-with-requires : tie.Need-oxygen-with-requires
 oxygen-with-requires c κs =
     let s = c .before .before in
-    (rw (c .next .ensures) (next-range (s .pre .0) (rw (s .pre .3 .factors) (range (s .pre .0) (s .args .m)))), s .pre .1)
+    (next-shares (s .args .step) (s .args .start) noBed (s .pre .0) (s .pre .3) (c .next .ensures), s .pre .1)
 
 returns : tie.Need-returns
 returns c =
-    let s = c .before .before .before .before .before in
-    walk-lower (s .args .step) (s .args .start) (s .args .m) (s .args .walk) (s .pre .3) _
-    (c .before .before .before .next .ensures)
-    _
-    (c .before .before .oxygen-with .ensures)
-    (c .if1 .taken)
-
-returns-2 : tie.Need-returns-2
-returns-2 c =
-    let s = c .before .before .before .before .before in
-    walk-kept (s .args .step) (s .args .start) (s .args .m) (s .args .walk) (s .pre .3) _
-    (c .before .before .before .next .ensures)
-    _
-    (c .before .before .oxygen-with .ensures)
-    (c .if1 .left)
+    let s = c .before .before .before .before in
+    let a = s .args in
+    let f = c .before .before .next .result in
+    rw (c .seen .ensures, add-one)
+    (walk-seen (a .step) (a .start) noBed (a .m) (a .walk) (s .pre .3) f (c .before .before .next .ensures) _
+    (nothing-less (no-bed-loss f (suc (a .m))) (c .before .oxygen-with .ensures .0)))
 
 pub turn-spec : {M : Type 1} → statement M
-turn-spec = tie.close (tie.spec next-requires oxygen-with-requires (λ add-t10. search needs) returns returns-2)
+turn-spec = tie.close (tie.spec next-requires oxygen-with-requires (λ add. search needs) (λ seen-requires. search needs) returns)

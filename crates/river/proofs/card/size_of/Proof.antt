@@ -11,10 +11,11 @@ use Rattle.river.proofs.card.size_of.Statement.{statement}
 use Rattle.river.proofs.card.size_of.Tie as tie
 
 -- the lengths of the records, added up
-added : (c : tie.After-amount-size2) → let t = c .before in reachBytes + t .before .dam-size .result + t .amount-size .result + c .amount-size2 .result ≡ sizeOf (t .before .before .args .c)
+added : (c : tie.After-amount-size3) → let p = c .before in let t = p .before in reachBytes + t .before .dam-size .result + t .amount-size .result + p .amount-size2 .result + c .amount-size3 .result ≡ sizeOf (t .before .before .args .c)
 added c =
-    let t = c .before in
-    simp length-append (omega (arith, t .before .dam-size .ensures, t .amount-size .ensures, c .amount-size2 .ensures))
+    let p = c .before in
+    let t = p .before in
+    simp length-append (omega (arith, t .before .dam-size .ensures, t .amount-size .ensures, p .amount-size2 .ensures, c .amount-size3 .ensures))
 
 add-result : tie.Need-add-result
 add-result c = omega (arith, c .dam-size .ensures, simp length-append at (size-small (c .before .args .c)))
@@ -24,7 +25,12 @@ add-result-2 c =
     omega (arith, c .before .dam-size .ensures, c .amount-size .ensures, simp length-append at (size-small (c .before .before .args .c)))
 
 add-result-3 : tie.Need-add-result-3
-add-result-3 c = omega (arith, added c, size-small (c .before .before .before .args .c))
+add-result-3 c =
+    let t = c .before in
+    omega (arith, t .before .dam-size .ensures, t .amount-size .ensures, c .amount-size2 .ensures, simp length-append at (size-small (t .before .before .args .c)))
+
+add-result-4 : tie.Need-add-result-4
+add-result-4 c = omega (arith, added c, size-small (c .before .before .before .before .args .c))
 
 returns : tie.Need-returns
 returns c = added c
@@ -39,4 +45,6 @@ size-of-spec =
     add-result-2
     (λ amount-size-requires-2. search needs)
     add-result-3
+    (λ amount-size-requires-3. search needs)
+    add-result-4
     returns)

@@ -32,8 +32,8 @@ returns-3 c =
     (leaves (load .load-rule .ensures) (take .before .before .enum-told3 .given .1)
     (stops (rw (take .before .take-of .ensures) at (take .take-rule .ensures)) _ (c .enum-told6 .given .1)))
 
-sub-rate-rules : tie.Need-sub-rate-rules
-sub-rate-rules c =
+sub-left : tie.Need-sub-left
+sub-left c =
     omega (arith, decided (c .before .before .take-rule .ensures) (take-rule-asks _ _ _) (c .enum-told5 .given .1))
 
 rate-rules-requires : tie.Need-rate-rules-requires
@@ -44,13 +44,30 @@ rate-rules-requires c κs =
 returns-4 : tie.Need-returns-4
 unfolding checksOf
 returns-4 c =
-    let take = c .before .before .before in
+    let rates = c .before .before in
+    let take = rates .before .before .before in
     let load = take .before .before .before .before in
     let flow = load .before in
     leaves (flow .before .before .flow-rules .ensures) (flow .enum-told .given .1)
     (leaves (load .load-rule .ensures) (take .before .before .enum-told3 .given .1)
-    (leaves (rw (take .before .take-of .ensures) at (take .take-rule .ensures)) (c .before .enum-told5 .given .1)
-    (rw (take .before .take-of .ensures) at (c .rate-rules .ensures))))
+    (leaves (rw (take .before .take-of .ensures) at (take .take-rule .ensures)) (rates .before .enum-told5 .given .1)
+    (stops (rw (take .before .take-of .ensures) at (rates .rate-rules .ensures)) _ (c .enum-told8 .given .1))))
+
+bed-rule-requires : tie.Need-bed-rule-requires
+bed-rule-requires c κs = rate-rules-requires (c .before .before .before) κs
+
+returns-5 : tie.Need-returns-5
+unfolding checksOf
+returns-5 c =
+    let rates = c .before .before .before in
+    let take = rates .before .before .before in
+    let load = take .before .before .before .before in
+    let flow = load .before in
+    leaves (flow .before .before .flow-rules .ensures) (flow .enum-told .given .1)
+    (leaves (load .load-rule .ensures) (take .before .before .enum-told3 .given .1)
+    (leaves (rw (take .before .take-of .ensures) at (take .take-rule .ensures)) (rates .before .enum-told5 .given .1)
+    (leaves (rw (take .before .take-of .ensures) at (rates .rate-rules .ensures)) (c .before .enum-told7 .given .1)
+    (rw (take .before .take-of .ensures) at (c .bed-rule .ensures)))))
 
 pub check-spec : {M : Type 1} → statement M
 check-spec =
@@ -69,6 +86,10 @@ check-spec =
     (λ enum-told-5. search needs)
     (λ enum-told-6. search needs)
     returns-3
-    sub-rate-rules
+    sub-left
     rate-rules-requires
-    returns-4)
+    (λ enum-told-7. search needs)
+    (λ enum-told-8. search needs)
+    returns-4
+    bed-rule-requires
+    returns-5)

@@ -21,13 +21,22 @@ put-amount-requires-2 c κs =
     let a = b .before .before .before .before in
     omega (arith, b .put-amount .ensures .place, a .put-dam .ensures .place, simp length-append at (a .before .before .before .pre))
 
+put-amount-requires-3 : tie.Need-put-amount-requires-3
+put-amount-requires-3 c κs =
+    let d = c .before .before .before in
+    let b = d .before .before .before .before in
+    let a = b .before .before .before .before in
+    omega (arith, d .put-amount2 .ensures .place, b .put-amount .ensures .place, a .put-dam .ensures .place, simp length-append at (a .before .before .before .pre))
+
 returns : tie.Need-returns
 returns c =
-    let d = c .before .before in
+    let e = c .before .before in
+    let d = e .before .before .before .before in
     let b = d .before .before .before .before in
-    chain (b .before .before .before .before .put-dam .ensures) (chain (b .put-amount .ensures) (chain (d .put-amount2 .ensures) (put-none _ _)))
+    chain (b .before .before .before .before .put-dam .ensures)
+    (chain (b .put-amount .ensures) (chain (d .put-amount2 .ensures) (chain (e .put-amount3 .ensures) (put-none _ _))))
 
 pub put-optionals-spec : {M : Type 1} → statement M
 put-optionals-spec =
     tie.close
-    (tie.spec put-dam-requires put-amount-requires put-amount-requires-2 (λ same-length. search needs) returns)
+    (tie.spec put-dam-requires put-amount-requires put-amount-requires-2 put-amount-requires-3 (λ same-length. search needs) returns)

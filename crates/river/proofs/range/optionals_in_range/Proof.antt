@@ -20,9 +20,17 @@ returns-2 c =
 returns-3 : tie.Need-returns-3
 unfolding optionalsInRange
 returns-3 c =
-    let e2 = c .before in
+    let e2 = c .before .before in
     let e1 = e2 .before .before in
-    rw (← e1 .before .dam-in-range .ensures, not-false (e1 .before .dam-in-range .result) (e1 .if1 .left), ← e2 .before .amount-in-range .ensures, not-false (e2 .before .amount-in-range .result) (e2 .if2 .left), and-true) (c .amount-in-range2 .ensures)
+    rw (← e1 .before .dam-in-range .ensures, not-false (e1 .before .dam-in-range .result) (e1 .if1 .left), ← e2 .before .amount-in-range .ensures, not-false (e2 .before .amount-in-range .result) (e2 .if2 .left), ← c .before .amount-in-range2 .ensures, not-true (c .before .amount-in-range2 .result) (c .if3 .taken))
+
+returns-4 : tie.Need-returns-4
+unfolding optionalsInRange
+returns-4 c =
+    let e3 = c .before in
+    let e2 = e3 .before .before in
+    let e1 = e2 .before .before in
+    rw (← e1 .before .dam-in-range .ensures, not-false (e1 .before .dam-in-range .result) (e1 .if1 .left), ← e2 .before .amount-in-range .ensures, not-false (e2 .before .amount-in-range .result) (e2 .if2 .left), ← e3 .before .amount-in-range2 .ensures, not-false (e3 .before .amount-in-range2 .result) (e3 .if3 .left), and-true) (c .amount-in-range3 .ensures)
 
 pub optionals-in-range-spec : {M : Type 1} → statement M
 optionals-in-range-spec =
@@ -33,4 +41,6 @@ optionals-in-range-spec =
     (λ amount-in-range-requires. search needs)
     returns-2
     (λ amount-in-range-requires-2. search needs)
-    returns-3)
+    returns-3
+    (λ amount-in-range-requires-3. search needs)
+    returns-4)

@@ -7,7 +7,7 @@ use Prim.Native.Nat.{ℕ}
 use denote.Ref.{now}
 use lib.ListN.{drop}
 use native.Mathlib.Omega.{arith}
-use Rattle.river.specs.Card.{reachBytes, takeRecord, pressureRecord, optional}
+use Rattle.river.specs.Card.{reachBytes, takeRecord, pressureRecord, sludgeRecord, optional}
 use Rattle.river.specs.Optional.{Values, readOptionals}
 use Rattle.river.specs.Read.{cardAt, reachOf}
 use Rattle.river.specs.Refusal.{Answer, accepted, after}
@@ -46,7 +46,7 @@ abbrev start-2 : tie.After-behind2 → tie.Start
 start-2 c = start (dam-found-at c .before .before .before)
 
 take-due : (c : tie.After-behind2)
-    → let a = start-2 c in Due (asked a) (takeRecord ∷ pressureRecord ∷ []) (a .args .reach) (now (c .behind2 .result)) (λ vs. made (now (a .args .s)) (dam-found-at c .found .given .0 .0, vs))
+    → let a = start-2 c in Due (asked a) (takeRecord ∷ pressureRecord ∷ sludgeRecord ∷ []) (a .args .reach) (now (c .behind2 .result)) (λ vs. made (now (a .args .s)) (dam-found-at c .found .given .0 .0, vs))
 take-due c =
     let d = dam-found-at c in
     let r = d .before .before in
@@ -70,7 +70,7 @@ abbrev start-3 : tie.After-behind3 → tie.Start
 start-3 c = start-2 (take-found-at c .before .before .before)
 
 pressure-due : (c : tie.After-behind3)
-    → let a = start-3 c in Due (asked a) (pressureRecord ∷ []) (a .args .reach) (now (c .behind3 .result)) (λ vs. made (now (a .args .s)) (dam-found-before c .found .given .0 .0, (take-found-at c .found2 .given .0 .0, vs)))
+    → let a = start-3 c in Due (asked a) (pressureRecord ∷ sludgeRecord ∷ []) (a .args .reach) (now (c .behind3 .result)) (λ vs. made (now (a .args .s)) (dam-found-before c .found .given .0 .0, (take-found-at c .found2 .given .0 .0, vs)))
 pressure-due c =
     let d = take-found-at c in
     let r = d .before .before in
@@ -83,19 +83,43 @@ returns-3 c =
     card-refused (start-3 (r .before) .args .at) (c .amount-refusal2 .ensures)
     (refused-here (pressure-due (r .before)) (amount-refused _ (r .read-amount2 .ensures) (c .before .enum-told3 .given .1)))
 
--- behind the pressure, the last
-add-next : tie.Need-add-next
-add-next c =
-    let r = c .before .before .before .before .before in
-    omega (arith, start-3 (r .before) .pre, c .size-of .ensures, size-small (c .before .card-at .result))
+-- behind the pressure
+abbrev pressure-found-at : tie.After-behind4 → tie.After-found3
+pressure-found-at c = c .before .before .before
+
+abbrev taken-before : tie.After-behind4 → tie.After-behind3
+taken-before c = pressure-found-at c .before .before .before
+
+abbrev start-4 : tie.After-behind4 → tie.Start
+start-4 c = start-3 (taken-before c)
+
+sludge-due : (c : tie.After-behind4)
+    → let a = start-4 c in let b = taken-before c in Due (asked a) (sludgeRecord ∷ []) (a .args .reach) (now (c .behind4 .result)) (λ vs. made (now (a .args .s)) (dam-found-before b .found .given .0 .0, (take-found-at b .found2 .given .0 .0, (pressure-found-at c .found3 .given .0 .0, vs))))
+sludge-due c =
+    let d = pressure-found-at c in
+    let r = d .before .before in
+    found-here (pressure-due (r .before)) (amount-found _ (r .read-amount2 .ensures) (d .found3 .given .1))
+    (c .behind4 .ensures ∙ ap (λ (k : ℕ). drop k (now (r .before .behind3 .result))) (c .before .amount-size2 .ensures))
 
 returns-4 : tie.Need-returns-4
 returns-4 c =
+    let r = c .before .before .before in
+    card-refused (start-4 (r .before) .args .at) (c .amount-refusal3 .ensures)
+    (refused-here (sludge-due (r .before)) (amount-refused _ (r .read-amount3 .ensures) (c .before .enum-told4 .given .1)))
+
+-- behind the sludge bed, the last
+add-next : tie.Need-add-next
+add-next c =
+    let r = c .before .before .before .before .before in
+    omega (arith, start-4 (r .before) .pre, c .size-of .ensures, size-small (c .before .card-at .result))
+
+returns-5 : tie.Need-returns-5
+returns-5 c =
     let t = c .before .before .before in
     let r = t .before .before in
-    let at = start-3 (r .before) .args .at in
+    let at = start-4 (r .before) .args .at in
     card-made at (c .before .card-at .ensures) (c .size-of .ensures) ∙
-    sym (ap (reachOf at) (none-due (found-here (pressure-due (r .before)) (amount-found _ (r .read-amount2 .ensures) (t .found3 .given .1)) refl)))
+    sym (ap (reachOf at) (none-due (found-here (sludge-due (r .before)) (amount-found _ (r .read-amount3 .ensures) (t .found4 .given .1)) refl)))
 
 pub read-card-spec : {M : Type 1} → statement M
 read-card-spec =
@@ -121,7 +145,14 @@ read-card-spec =
     (λ enum-told-3. search needs)
     (λ amount-refusal-requires-2. search needs)
     returns-3
+    (λ amount-size-requires-2. search needs)
+    (λ behind-requires-4. search needs)
+    (λ read-amount-requires-3. search needs)
+    (λ enum-known-found-4. search needs)
+    (λ enum-told-4. search needs)
+    (λ amount-refusal-requires-3. search needs)
+    returns-4
     (λ card-at-requires. search needs)
     (λ size-of-requires. search needs)
     add-next
-    returns-4)
+    returns-5)

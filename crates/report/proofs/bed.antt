@@ -1,0 +1,3 @@
+-- The laws of sludge beds.
+pub mod Rows
+pub mod Loss

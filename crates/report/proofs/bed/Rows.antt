@@ -1,0 +1,80 @@
+-- Sludge beds at a small reach, computed from the definitions: 864,000 m³ and 20,000 L/s, of which 10,000 are taken, so that the water stays
+-- for a day; the bed's demand is 2 mg/L a day. They are named by the laws of beds, so that these rows are checked first.
+use mathlib.Core.Path.{_≡_, refl}
+use Prim.Native.Nat.{ℕ, _-_, _/_}
+use lib.IntN.{pos}
+use lib.Signed.{leZ-yes}
+use Rattle.decay.specs.Fraction.{_≈_, _≼_, ofℕ, ofℤ, _+ᶠ_, -ᶠ_, _*ᶠ_, _÷_, over}
+use Rattle.decay.specs.Exact.{foot, exponent, power, factorial, term, sum, S, F}
+use Rattle.decay.specs.Fixed.{one, product, quotient}
+use Rattle.decay.specs.Step.{exponentOf, termOf, nextTerms, termsAt, termAt, withTerm, sumOf, countFrom, seriesOf, stepOf}
+use Rattle.decay.specs.Factors.{headFactors, nextFactors, factorsAt}
+use Rattle.decay.specs.declared.factors.Factors.{Factors}
+use Rattle.river.specs.declared.card.Card.{Card}
+use Rattle.river.specs.declared.card.Dam.the-variants.{Absent}
+use Rattle.river.specs.declared.card.Amount.the-variants.{Without, Given}
+use Rattle.river.specs.Flow.{none, fed, flowOf, reachFlow}
+use Rattle.river.specs.Saturation.{saturation, saturationThousandths, saturationOf}
+use Rattle.river.specs.Head.{floor, upstreamDemand, upstreamOxygen, belowDam, headDemand, headOxygen}
+use Rattle.report.specs.Bed.{bedBy, bedOf, lossWith}
+use Rattle.report.specs.Program.{oxygenWith, factorsAlong, lossAlong, oxygenAlong, bodSum, oxygenSum, bodAtHead, oxygenAtHead, oxygenAt}
+use Rattle.report.specs.Recurrence.{exactSaturation, exactMean, exactBelowDam, exactMixedDemand, exactMixedOxygen, exactHeadDemand, exactHeadOxygen, exactLoss, exactOxygenAlong, exactBodSum, exactOxygenSum, exactBodAtHead, exactOxygenAtHead, exactOxygenAt}
+
+-- the reach, by its rate k2; no BOD comes into it, and its oxygen is 14 mg/L
+abbrev reach : (k2 : ℕ) → Card
+reach k2 =
+    record {
+      outlet = 0;
+      temperature = 0;
+      k1 = 0;
+      k2 = k2;
+      volume = 864_000;
+      inflow = 20_000;
+      «inflow_bod» = 0;
+      «inflow_oxygen» = 14_000;
+      load = 0;
+      dam = Absent;
+      take = Given 10_000;
+      pressure = Without;
+      sludge = Given 2_000;
+    }
+
+abbrev flow : (k2 : ℕ) → ℕ
+flow k2 = reachFlow (reach k2) none
+
+-- factors where three quarters of the deficit are left
+abbrev quarter : Factors
+quarter = record { left = one; turned = 0; kept = one - one / 4 }
+
+pub record Rows : Type 0 where
+  -- k2 = 0: 2 mg/L by the foot, half of it half way
+  pub linear-bed : bedOf (reach 0) (flow 0) ≡ record { eventual = 0; linear = 2_000_000 }
+  pub half-way : lossAlong (reach 0) (flow 0) 512 ≡ 1_000_000
+  pub exact-half-way : exactLoss 40 (reach 0) (flow 0) 512 ≈ ofℕ 1_000_000
+  -- and head oxygen less that, with the flow after the take
+  pub foot-oxygen : oxygenAt (reach 0) none foot ≡ pos 12_000_000
+  pub exact-foot-oxygen : exactOxygenAt 40 (reach 0) none foot ≈ ofℕ 12_000_000
+  -- k2 = 1 a day: 2 mg/L in the end, a quarter of it once a quarter of the deficit has gone
+  pub eventual-bed : bedOf (reach 1_000) (flow 1_000) ≡ record { eventual = 2_000_000; linear = 0 }
+  pub quarter-gone : lossWith quarter (bedOf (reach 1_000) (flow 1_000)) 300 ≡ 500_000
+  -- 2 × (1 − 1/e) mg/L at the foot, by the program's factors and exactly
+  pub foot-loss : lossAlong (reach 1_000) (flow 1_000) foot ≡ 1_264_241
+  pub exact-low : ofℕ 1_264_241 ≼ exactLoss 40 (reach 1_000) (flow 1_000) foot
+  pub exact-high : exactLoss 40 (reach 1_000) (flow 1_000) foot ≼ ofℕ 1_264_242
+
+-- THEOREM: these losses, a row each
+pub rows : Rows
+unfolding bedBy bedOf lossWith lossAlong factorsAlong factorsAt nextFactors headFactors stepOf exponentOf quotient product termOf nextTerms termsAt termAt withTerm sumOf countFrom seriesOf oxygenAt oxygenAlong oxygenWith bodAtHead oxygenAtHead headDemand headOxygen upstreamDemand upstreamOxygen belowDam floor bodSum oxygenSum saturationOf saturation saturationThousandths flowOf fed exactLoss ofℤ _+ᶠ_ -ᶠ_ _*ᶠ_ _÷_ over exponent power factorial term sum S F exactSaturation exactMean exactBelowDam exactMixedDemand exactMixedOxygen exactHeadDemand exactHeadOxygen exactOxygenAlong exactBodSum exactOxygenSum exactBodAtHead exactOxygenAtHead exactOxygenAt
+rows =
+    record {
+      linear-bed = refl;
+      half-way = refl;
+      exact-half-way = record { across = refl };
+      foot-oxygen = refl;
+      exact-foot-oxygen = record { across = refl };
+      eventual-bed = refl;
+      quarter-gone = refl;
+      foot-loss = refl;
+      exact-low = record { across = leZ-yes tt };
+      exact-high = record { across = leZ-yes tt };
+    }
