@@ -282,7 +282,7 @@ module _ {card : Card} {up : Feeders} (own : AcceptedReach card up) (above : All
   instant-ranged m l =
       bounded-ranged (ofℕ (reachFlow card up)) (ofℕ (bodAt card up m)) (ofℤ (oxygenAt card up m)) (ofℕ (1000 * reachMass card up)) (ofℕ (fall (1 + levels up) * reachFlow card up)) (ofℕ (20000000 + (1 + levels up))) (positive-whole (flow-remains (own .flows))) mass-small (fall-small (omega arith)) (instant-in-bounds own (head-in-bounds own above (feet-in-bounds above)) m l)
 
--- the same as whole numbers
+-- the same of whole numbers
 pub record Range (bod : ℕ) (oxygen : ℤ) : Type 0 where
   pub bod-range : bod ≤ 1000000000
   pub bod-below : ofℕ bod ≼ ofℤ oxygen +ᶠ ofℕ mostBelow

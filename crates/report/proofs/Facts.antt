@@ -2,5 +2,5 @@
 pub mod Floor
 pub mod Head
 pub mod Instant
-pub mod Bed
 pub mod Exact
+pub mod Bed

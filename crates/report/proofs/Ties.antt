@@ -3,7 +3,7 @@ use mathlib.Core.Path.{_≡_, refl, sym, _∙_, ap}
 use Prim.Native.Nat.{ℕ, _*_, _≤_}
 use native.Mathlib.Nat.{mul-div-cancel-left, zero-mul, add-zero}
 use native.Mathlib.Omega.{arith}
-use lib.IntN.{ℤ, pos, negℤ, _+ℤ_, _-ℤ_, +ℤ-assoc, +ℤ-idl, +ℤ-idr, +ℤ-invr, negℤ-negℤ, negℤ-+ℤ}
+use lib.IntN.{ℤ, pos, negℤ, _+ℤ_, _-ℤ_, +ℤ-assoc, +ℤ-idl, +ℤ-invr, negℤ-negℤ, negℤ-+ℤ}
 use Rattle.decay.specs.Fixed.{one, product}
 use Rattle.decay.specs.Factors.{AreShares, headFactors, factorsAt}
 use Rattle.decay.proofs.fixed.Digits.{one-pos, share-below}
@@ -17,7 +17,7 @@ use Rattle.report.specs.Bed.{bedOf, lossLimit}
 use Rattle.report.specs.Program.{bodWith, oxygenWith, factorsAlong, bodAlong, lossAlong, oxygenAlong, bodAt, oxygenAt, bodAtHead, oxygenAtHead, figuresOf, foot}
 use Rattle.report.proofs.Lowest.{lowest-constant}
 use Rattle.report.proofs.Forest.{AcceptedReach, rates-pass, bed-passes}
-use Rattle.report.proofs.bed.Loss.{head-loss, tied-loss, loss-in-range, bed-in-range}
+use Rattle.report.proofs.bed.Loss.{less-nothing, head-loss, tied-loss, loss-in-range, bed-in-range}
 use Rattle.report.proofs.Facts.Floor.{floor-multiple}
 
 -- where all BOD is left, BOD is that of the head
@@ -33,10 +33,6 @@ back-again a b = ap (λ (x : ℤ). a +ℤ x) (negℤ-+ℤ a (negℤ b) ∙ ap (�
 pub oxygen-stays : (f : Factors) (Cs L : ℕ) (C : ℤ) → f .turned ≡ 0 → f .kept ≡ one → oxygenWith f Cs L C ≡ C
 unfolding oxygenWith product
 oxygen-stays f Cs L C h k = rw (h, k, zero-mul, floor-multiple (pos Cs -ℤ C) one one-pos, add-zero) (back-again (pos Cs) C)
-
--- and no bed takes any
-less-nothing : {z : ℤ} {loss : ℕ} → loss ≡ 0 → z -ℤ pos loss ≡ z
-less-nothing {z} e = rw e (+ℤ-idr z)
 
 -- instant 0 is the head
 pub oxygen-at-head : (card : Card) (up : Feeders) → oxygenAt card up 0 ≡ oxygenAtHead card up

@@ -38,14 +38,14 @@ pub record BedPasses (card : Card) (Q : ℕ) : Type 0 where
 abbrev pub lossLimit : ℕ
 lossLimit = 5_000_000
 
--- a bed takes no more at instant m, where these factors hold
+-- at instant m, where these factors hold, a bed takes no more than that
 pub record LossInRange (f : Factors) (bed : Bed) (m : ℕ) : Type 0 where
   pub eventual : bed .eventual ≤ small
   pub linear : bed .linear ≤ lossLimit
   pub instant : m ≤ foot
   pub loss : lossWith f bed m ≤ lossLimit
 
--- nor at any instant, by the steps of its reach
+-- at no instant of a reach with this step does a bed take more
 pub record BedInRange (step : Step) (bed : Bed) : Type 0 where
   pub eventual : bed .eventual ≤ small
   pub loss : foot * step .filled * bed .eventual + one * bed .linear ≤ one * lossLimit

@@ -48,7 +48,7 @@ pub record LineAt (card : Card) (flows : FlowTable) (feet : FootTable) (i : ℕ)
 abbrev pub LineBy : Card → FlowTable → FootTable → ℕ → Line → Type 0
 LineBy card flows feet i line = (here : LineAt card flows feet i) → LineOf (here .cards) i line
 
--- and for the record a report that has room for it at a place
+-- what its record needs too: room at a place of a report of some length
 pub record PlacedAt (card : Card) (flows : FlowTable) (feet : FootTable) (i at long : ℕ) : Type 0 where
   pub line : LineAt card flows feet i
   pub room : at + recordSize (line .cards) ≤ long
@@ -58,7 +58,7 @@ pub record ReachReported (cards : List Card) (i at : ℕ) (before after : List �
   pub feet-are : FeetOf cards feet (i + 1)
   pub report : after ≡ sets before at (recordOf cards i)
 
--- for every such river that is what is left
+-- for every such river the call leaves the feet and the report so
 abbrev pub ReportedBy : Card → FlowTable → FootTable → (i at : ℕ) (before after : List ℕ) → FootTable → Type 0
 ReportedBy card flows feet i at before after next =
     (here : PlacedAt card flows feet i at (length before)) → ReachReported (here .line .cards) i at before after next

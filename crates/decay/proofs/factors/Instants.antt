@@ -65,7 +65,8 @@ deficit-lost h zero = omega arith
 deficit-lost {s} h (suc m) =
     omega (arith, deficit-lost h m, moved (factorsAt s m) h .filled-kept, share-below ((factorsAt s m) .kept) (s .filled) (range h m .deficit))
 
-product-zero : (a b : ℕ) → b ≡ 0 → product a b ≡ 0
+-- no share of nothing
+pub product-zero : (a b : ℕ) → b ≡ 0 → product a b ≡ 0
 unfolding product
 product-zero a b h = rw (h, mul-zero) (zero-div one)
 

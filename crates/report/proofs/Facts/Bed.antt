@@ -3,7 +3,7 @@ use mathlib.Core.Path.{_≡_, refl}
 use mathlib.Core.Bool.{Bool, true, false, cond}
 use mathlib.Core.List.{[], _∷_}
 use Prim.Native.Nat.{ℕ, _+_, _*_, _-_, _/_, _≤_, _<_}
-use native.Mathlib.Nat.{mul-zero, zero-mul, zero-div, add-zero, zero-add}
+use native.Mathlib.Nat.{zero-mul, zero-div, add-zero, zero-add}
 use native.Mathlib.Omega.{arith}
 use borrow.Author.Tests.{eqb-false}
 use lib.Dec.{eqb, lit<}
@@ -12,8 +12,9 @@ use Rattle.decay.specs.Exact.{foot, exponent, S}
 use Rattle.decay.specs.Fixed.{one, product}
 use Rattle.decay.specs.Promise.{share, deficitDistance}
 use Rattle.decay.proofs.fixed.Digits.{one-pos}
+use Rattle.decay.proofs.factors.Instants.{product-zero}
 use Rattle.decay.proofs.Accuracy.{accuracy}
-use Rattle.decay.proofs.Algebra.{quote, ring-by, certify, certify-over, number, _⋅_, _&_, none as no-equations, ≈-refl, ≈-sym, ≈-trans, +ᶠ-cong, *ᶠ-cong, ≼-trans, ≼-of-≈, ≼-antisym, ofℕ-≈, ofℕ-sub, ofℕ-+, ofℕ-*, positive-whole, ÷-cancel-pos, ÷-reciprocal, ÷-nonneg, ÷-cong, floor-low, floor-high, Within, within-by, within-weaken, within→distance, distance→within}
+use Rattle.decay.proofs.Algebra.{quote, ring-by, certify, certify-over, number, _⋅_, _&_, none as no-equations, ≈-refl, ≈-sym, ≈-trans, +ᶠ-cong, *ᶠ-cong, ≼-of-≈, ≼-antisym, ofℕ-≈, ofℕ-sub, ofℕ-+, ofℕ-*, positive-whole, ÷-cancel-pos, ÷-reciprocal, ÷-nonneg, ÷-cong, floor-low, floor-high, Within, within-by, within-weaken, within→distance, distance→within}
 use Rattle.river.specs.declared.card.Card.{Card}
 use Rattle.river.specs.Flow.{Feeders, sludgeOf, reachFlow}
 use Rattle.river.proofs.flow.Take.{flow-remains}
@@ -25,19 +26,12 @@ use Rattle.report.specs.declared.bed.Bed.{Bed}
 use Rattle.report.proofs.Forest.{AcceptedReach, rates-pass}
 use Rattle.report.proofs.Ties.{factors-range}
 use Rattle.report.proofs.Facts.Head.{share-of}
-use Rattle.report.proofs.Facts.Instant.{Floored, product-floored}
+use Rattle.report.proofs.Facts.Instant.{Floored, floored-by, product-floored}
+use Rattle.report.proofs.Facts.Exact.{over-product}
 use Rattle.report.proofs.Accuracy.Errors.{eventual-near, linear-near}
 
 quotient-floored : (n : ℕ) {d : ℕ} → 0 < d → Floored (ofℕ (n / d)) (ofℕ n ÷ ofℕ d)
 quotient-floored n p = record { low = floor-low n p; high = floor-high n p }
-
-floored-by : {f x y : Fraction} → x ≈ y → Floored f x → Floored f y
-floored-by e h = record { low = ≼-trans (h .low) (≼-of-≈ e); high = ≼-trans (≼-of-≈ (≈-sym e)) (h .high) }
-
--- a product over a number
-over-product : (a b d : Fraction) → a *ᶠ b ÷ d ≈ a *ᶠ (b ÷ d)
-over-product a b d =
-    ring-by (a ∷ b ∷ (b ÷ d) ∷ (a *ᶠ b ÷ d) ∷ (ofℕ 1 ÷ d) ∷ []) (ofℕ 1 ⋅ ÷-reciprocal (a *ᶠ b) d & a ⋅ ÷-reciprocal b d & no-equations) (search quote depth 40 fits 9999) tt
 
 -- what is gone of the deficit
 share-gone : (n : ℕ) → n ≤ one → share (one - n) ≈ ofℕ 1 -ᶠ share n
@@ -89,10 +83,6 @@ eventual-loss s k kept S₂ p h n =
     (floored-by (*ᶠ-cong (share-gone kept h) (≈-refl (ofℕ c))) (product-floored (one - kept) c))))
     (≼-of-≈ (+ᶠ-cong (≈-refl (ofℕ 2)) (*ᶠ-cong (≈-refl deficitDistance) (≈-sym (ofℕ-+ c 1)))))
 
-nothing-of : (a : ℕ) → product a 0 ≡ 0
-unfolding product
-nothing-of a = rw (mul-zero) (zero-div one)
-
 module _ {N : ℕ} (long : 40 ≤ N) {card : Card} {up : Feeders} (own : AcceptedReach card up) where
   exact-kept : (m : ℕ) → m ≤ foot → distance (share ((factorsAlong card (reachFlow card up) m) .kept)) (S N (exponent (card .k2) (card .volume) (reachFlow card up) m)) ≼ deficitDistance
   unfolding factorsAlong
@@ -124,7 +114,7 @@ module _ {N : ℕ} (long : 40 ≤ N) {card : Card} {up : Feeders} (own : Accepte
       by-case : (t : Bool) → eqb (card .k2) 0 ≡ t → Within (ofℕ (product (one - kept) (bed t .eventual) + bed t .linear * m / foot)) (ofℕ 1_000_000 *ᶠ cond t (ofℕ (s * card .volume * m) ÷ ofℕ (86_400 * 1_024 * Q)) (ofℕ s *ᶠ (ofℕ 1 -ᶠ S₂) ÷ ofℕ (card .k2))) (ofℕ 2 +ᶠ deficitDistance *ᶠ ofℕ (bed t .eventual + 1))
       by-case true e =
           within-weaken
-          (within-by (ofℕ-≈ (rw (nothing-of (one - kept), zero-add))) (≈-refl _) (linear-loss (s * card .volume) Q m (flow-remains (own .flows)) l))
+          (within-by (ofℕ-≈ (rw (product-zero (one - kept) 0 refl, zero-add))) (≈-refl _) (linear-loss (s * card .volume) Q m (flow-remains (own .flows)) l))
           (certify (deficitDistance ∷ []) (÷-nonneg (number 1) (number 2_147_483_648)) (search quote depth 40 fits 9999) tt)
       by-case false e =
           within-by (ofℕ-≈ (rw (zero-mul, zero-div foot, add-zero))) (≈-refl _)

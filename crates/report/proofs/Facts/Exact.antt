@@ -4,7 +4,7 @@ use mathlib.Core.List.{[], _∷_}
 use Prim.Native.Nat.{ℕ, _+_, _*_, _-_, _<_}
 use lib.Dec.{lit<}
 use Rattle.decay.specs.Fraction.{Fraction, _≈_, _≼_, ofℕ, _+ᶠ_, -ᶠ_, _-ᶠ_, _*ᶠ_, _÷_}
-use Rattle.decay.proofs.Algebra.{ring, ring-by, quote, _⋅_, _&_, none as no-equations, ≈-trans, *ᶠ-comm, positive-whole, ÷-cancel-pos, ÷-reciprocal, floor-low, floor-high}
+use Rattle.decay.proofs.Algebra.{ring, ring-by, quote, _⋅_, _&_, none as no-equations, ≈-refl, ≈-trans, +ᶠ-cong, *ᶠ-comm, positive-whole, ÷-cancel-pos, ÷-reciprocal, floor-low, floor-high}
 use Rattle.river.specs.declared.card.Dam.{Dam}
 use Rattle.river.specs.declared.card.Dam.the-variants.{Absent, Aerating}
 use Rattle.river.specs.declared.card.Card.{Card}
@@ -46,15 +46,17 @@ module _ (N : ℕ) where
   exact-oxygen-mean (one-more {card} {up} {rest} own above others) =
       mean-fed (flowOf (more card up rest)) (exactOxygenSum N (more card up rest)) (feeders-flow (one-more own above others))
 
+-- a product over a number
+pub over-product : (a b d : Fraction) → a *ᶠ b ÷ d ≈ a *ᶠ (b ÷ d)
+over-product a b d =
+    ring-by (a ∷ b ∷ (b ÷ d) ∷ (a *ᶠ b ÷ d) ∷ (ofℕ 1 ÷ d) ∷ []) (ofℕ 1 ⋅ ÷-reciprocal (a *ᶠ b) d & a ⋅ ÷-reciprocal b d & no-equations) (search quote depth 40 fits 9999) tt
+
 -- a dam takes its part of the way to saturation
 exact-aerated : (dam : Dam) (Cs : Fraction) (Qu : ℕ) (C : Fraction) → exactAerated dam Cs Qu C ≈ C +ᶠ (Cs -ᶠ C) *ᶠ damPart true dam Qu
 unfolding exactAerated damPart
 exact-aerated Absent Cs Qu C = ring (Cs ∷ C ∷ []) (search quote depth 40 fits 9999) tt
-exact-aerated (Aerating share generating) Cs Qu C = quotient (ofℕ (share * (Qu - generating))) (ofℕ (1000 * Qu))
-  where
-    quotient : (n d : Fraction) → C +ᶠ (Cs -ᶠ C) *ᶠ n ÷ d ≈ C +ᶠ (Cs -ᶠ C) *ᶠ (n ÷ d)
-    quotient n d =
-        ring-by (Cs ∷ C ∷ n ∷ (n ÷ d) ∷ ((Cs -ᶠ C) *ᶠ n ÷ d) ∷ (ofℕ 1 ÷ d) ∷ []) (ofℕ 1 ⋅ ÷-reciprocal ((Cs -ᶠ C) *ᶠ n) d & (Cs -ᶠ C) ⋅ ÷-reciprocal n d & no-equations) (search quote depth 40 fits 9999) tt
+exact-aerated (Aerating share generating) Cs Qu C =
+    +ᶠ-cong (≈-refl C) (over-product (Cs -ᶠ C) (ofℕ (share * (Qu - generating))) (ofℕ (1000 * Qu)))
 
 pub exact-below-dam : (card : Card) (t : Bool) (Qu : ℕ) (C : Fraction) → exactBelowDam card t Qu C ≈ C +ᶠ (exactSaturation card -ᶠ C) *ᶠ damPart t (card .dam) Qu
 unfolding exactBelowDam damPart

@@ -20,6 +20,9 @@ pub record Floored (f x : Fraction) : Type 0 where
   pub low : f ≼ x
   pub high : x ≼ f +ᶠ ofℕ 1
 
+pub floored-by : {f x y : Fraction} → x ≈ y → Floored f x → Floored f y
+floored-by e h = record { low = ≼-trans (h .low) (≼-of-≈ e); high = ≼-trans (≼-of-≈ (≈-sym e)) (h .high) }
+
 -- n / d of z, rounded down
 part-floored : (n d : ℕ) (z : ℤ) → 0 < d → Floored (ofℤ (floor (pos n *ℤ z) d)) (ofℕ n ÷ ofℕ d *ᶠ ofℤ z)
 part-floored n d z p =
@@ -72,9 +75,7 @@ keptDeficit f Cs C = floor (pos (f .kept) *ℤ (pos Cs -ℤ C)) one
 pub kept-floored : (f : Factors) (Cs : ℕ) (C : ℤ) → Floored (ofℤ (keptDeficit f Cs C)) (share (f .kept) *ᶠ (ofℕ Cs -ᶠ ofℤ C))
 unfolding keptDeficit
 kept-floored f Cs C =
-    let r = share-floored (f .kept) (pos Cs -ℤ C) in
-    let e : share (f .kept) *ᶠ ofℤ (pos Cs -ℤ C) ≈ share (f .kept) *ᶠ (ofℕ Cs -ᶠ ofℤ C) = *ᶠ-cong (≈-refl (share (f .kept))) (ofℤ-sub (pos Cs) C) in
-    record { low = ≼-trans (r .low) (≼-of-≈ e); high = ≼-trans (≼-of-≈ (≈-sym e)) (r .high) }
+    floored-by (*ᶠ-cong (≈-refl (share (f .kept))) (ofℤ-sub (pos Cs) C)) (share-floored (f .kept) (pos Cs -ℤ C))
 
 -- oxygen is saturation less these two and the loss to a bed
 pub oxygen-parts : (f : Factors) (Cs L : ℕ) (C : ℤ) (loss : ℕ) → ofℤ (oxygenWith f Cs L C -ℤ pos loss) ≈ ofℕ Cs -ᶠ ofℕ (product (f .turned) L) -ᶠ ofℤ (keptDeficit f Cs C) -ᶠ ofℕ loss

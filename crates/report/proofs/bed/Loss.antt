@@ -6,6 +6,7 @@ use Prim.Native.Nat.{ℕ, _*_, _-_, _/_, _≤_, _<_, zero-le}
 use native.Mathlib.Nat.{div-le-of-le-mul, div-le-self, div-mul-le-self, le-of-mul-le-mul-right, mul-le-mul-left, mul-le-mul-right, mul-zero, zero-mul, zero-div}
 use native.Mathlib.Omega.{arith}
 use lib.Dec.{eqb}
+use lib.IntN.{ℤ, pos, _-ℤ_, +ℤ-idr}
 use Rattle.decay.specs.Exact.{foot}
 use Rattle.decay.specs.Fixed.{one, product}
 use Rattle.decay.specs.Step.{RatesPass, stepOf}
@@ -19,6 +20,10 @@ use Rattle.river.specs.Flow.{sludgeOf}
 use Rattle.report.specs.Bed.{bedBy, bedOf, noBed, lossWith, BedPasses, lossLimit, LossInRange, BedInRange}
 use Rattle.report.specs.declared.bed.Bed.{Bed}
 use Rattle.report.proofs.bed.Rows
+
+-- what takes nothing leaves oxygen as it is
+pub less-nothing : {z : ℤ} {loss : ℕ} → loss ≡ 0 → z -ℤ pos loss ≡ z
+less-nothing {z} e = rw e (+ℤ-idr z)
 
 -- no bed takes nothing
 pub no-bed-loss : (f : Factors) (m : ℕ) → lossWith f noBed m ≡ 0
@@ -57,12 +62,12 @@ pub loss-in-range : {step : Step} {bed : Bed} → SoundStep step → BedInRange 
 unfolding lossWith product
 loss-in-range {step} {bed} sound r m l =
     let lost = one - (factorsAt step m) .kept in
-    let share : lost * bed .eventual ≤ foot * step .filled * bed .eventual = mul-le-mul-right (bed .eventual) (omega (arith, deficit-lost sound m, mul-le-mul-right (step .filled) l)) in
+    let most : lost * bed .eventual ≤ foot * step .filled * bed .eventual = mul-le-mul-right (bed .eventual) (omega (arith, deficit-lost sound m, mul-le-mul-right (step .filled) l)) in
     record {
       eventual = r .eventual;
       linear = omega (arith, r .loss);
       instant = l;
-      loss = omega (arith, r .loss, share, div-mul-le-self (lost * bed .eventual) one, div-mul-le-self (bed .linear * m) foot, mul-le-mul-left (bed .linear) l);
+      loss = omega (arith, r .loss, most, div-mul-le-self (lost * bed .eventual) one, div-mul-le-self (bed .linear * m) foot, mul-le-mul-left (bed .linear) l);
     }
 
 -- the loss in the end is largest for the largest demand and the smallest k2

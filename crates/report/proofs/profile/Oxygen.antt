@@ -4,7 +4,7 @@ use mathlib.Core.Path.{_≡_, sym, ap, _∙_}
 use Prim.Native.Nat.{ℕ, suc, _+_, _-_, _*_, _≤_, _<_}
 use native.Mathlib.Nat.{add-mul}
 use native.Mathlib.Omega.{arith}
-use lib.IntN.{ℤ, pos, negℤ, negℤ-negℤ, _-ℤ_, _*ℤ_, +ℤ-idr}
+use lib.IntN.{ℤ, pos, negℤ, negℤ-negℤ, _-ℤ_, _*ℤ_}
 use Rattle.river.specs.Head.{floor}
 use Rattle.river.proofs.head.Offset.{sub-pos, sub-neg, sub-eq, minus, sub-plus}
 use Rattle.decay.specs.Fixed.{one, product}
@@ -15,6 +15,7 @@ use Rattle.report.specs.Bed.{lossLimit}
 use Rattle.report.specs.Program.{oxygenWith}
 use Rattle.report.specs.Profile.{StartInRange}
 use Rattle.report.specs.declared.profile.Start.{Start}
+use Rattle.report.proofs.bed.Loss.{less-nothing}
 use Rattle.report.proofs.profile.Offset.{sub-less, less-sub, floor-surplus}
 use Rattle.river.specs.Stored.{storedZero, oxygenOf, Stores}
 
@@ -130,6 +131,6 @@ less-stored {o} loss s h =
       fits = omega (arith, s .fits);
     }
 
--- what takes nothing leaves oxygen as it is
+-- and less nothing
 pub nothing-less : {o loss : ℕ} {z : ℤ} → loss ≡ 0 → Stores o z → Stores o (z -ℤ pos loss)
-nothing-less {o} {loss} {z} e s = rw (e, +ℤ-idr z) s
+nothing-less {z = z} e s = rw (less-nothing {z = z} e) s
