@@ -84,10 +84,14 @@ static void raise_to(long *largest, long difference)
 static struct distance distance(int k, uint32_t reaches)
 {
     struct distance d = {0, 0};
+    uint32_t size = xylandreo_record_size(file, file_len);
     for (uint32_t i = 1; i <= reaches; i++) {
-        struct xylandreo_record a = xylandreo_record_of(reports[PROVED], i), b = xylandreo_record_of(reports[k], i);
+        struct xylandreo_record a = xylandreo_record_of(reports[PROVED], size, i);
+        struct xylandreo_record b = xylandreo_record_of(reports[k], size, i);
         raise_to(&d.units, (long)a.head_bod - b.head_bod);
         raise_to(&d.units, (long)a.foot_bod - b.foot_bod);
+        raise_to(&d.units, (long)a.head_nitrogenous - b.head_nitrogenous);
+        raise_to(&d.units, (long)a.foot_nitrogenous - b.foot_nitrogenous);
         raise_to(&d.units, (long)a.head_oxygen - b.head_oxygen);
         raise_to(&d.units, (long)a.critical_oxygen - b.critical_oxygen);
         raise_to(&d.units, (long)a.foot_oxygen - b.foot_oxygen);
@@ -137,7 +141,7 @@ static struct river measure(const char *path)
 
 static void print_times(const struct river *r)
 {
-    printf("%-16s %7u ", r->name, r->reaches);
+    printf("%-24s %7u ", r->name, r->reaches);
     for (int k = 0; k < PROGRAMS; k++)
         printf(" %8.2f", r->fastest[k]);
     printf(" ");
@@ -149,7 +153,7 @@ static void print_times(const struct river *r)
 
 static void print_comparison(const struct river *r)
 {
-    printf("%-16s %7u ", r->name, r->reaches);
+    printf("%-24s %7u ", r->name, r->reaches);
     for (int k = 1; k < PROGRAMS; k++)
         printf(" %6.2f (%6.2f)", r->fastest[PROVED] / r->fastest[k], r->median[PROVED] / r->median[k]);
     printf(" ");
@@ -172,15 +176,15 @@ int main(int argc, char **argv)
         perror("bench");
         return 2;
     }
-    printf("%24s  %-35s  %-31s  %s\n", "", "microseconds a call", "microseconds a reach", "checks, us a call");
-    printf("%-16s %7s  %8s %8s %8s %8s  %7s %7s %7s %7s  %7s %7s  %9s\n", "river", "reaches", "proved", "exp", "stepped",
+    printf("%32s  %-35s  %-31s  %s\n", "", "microseconds a call", "microseconds a reach", "checks, us a call");
+    printf("%-24s %7s  %8s %8s %8s %8s  %7s %7s %7s %7s  %7s %7s  %9s\n", "river", "reaches", "proved", "exp", "stepped",
            "closed", "proved", "exp", "stepped", "closed", "proved", "plain", "ns a step");
     for (int i = 1; i < argc; i++) {
         rivers[i] = measure(argv[i]);
         print_times(&rivers[i]);
     }
-    printf("\n%24s  %-47s  %-23s  %s\n", "", "proved time over that of (medians)", "difference", "of instants");
-    printf("%-16s %7s  %15s %15s %15s  %7s %7s %7s  %7s %7s %7s\n", "river", "reaches", "exp", "stepped", "closed",
+    printf("\n%32s  %-47s  %-23s  %s\n", "", "proved time over that of (medians)", "difference", "of instants");
+    printf("%-24s %7s  %15s %15s %15s  %7s %7s %7s  %7s %7s %7s\n", "river", "reaches", "exp", "stepped", "closed",
            "exp", "stepped", "closed", "exp", "stepped", "closed");
     for (int i = 1; i < argc; i++)
         print_comparison(&rivers[i]);

@@ -10,12 +10,19 @@
 struct reach {
     uint32_t outlet, temperature, k1, k2, volume, inflow, inflow_bod, inflow_oxygen, load;
     int has_dam;
-    uint32_t share, generating, take, pressure, sludge;
+    uint32_t share, generating, take, pressure, sludge, kn, inflow_nitrogenous, nitrogenous_load;
     /* Worked out: flow from above, before and after the take, undecayed BOD, depth, and sums of flow times the
        feeders' foot values. */
     uint64_t above, mixed, flow, mass;
     uint32_t depth, feeders;
-    double bod_above, oxygen_above;
+    double bod_above, nitrogenous_above, oxygen_above;
+};
+
+/* A river: reach i at i, where 0 takes what the last reach passes on, and whether the file has any ammonia. */
+struct river {
+    struct reach reaches[129];
+    uint32_t count;
+    int has_ammonia;
 };
 
 static uint32_t number(const uint8_t *p, int width)
@@ -37,6 +44,23 @@ static void put(uint8_t *p, uint32_t value, int width)
 static int follows(const uint8_t *file, size_t length, size_t at, const char *mark)
 {
     return length - at >= 2 && file[at] == (uint8_t)mark[0] && file[at + 1] == (uint8_t)mark[1];
+}
+
+/* Reads the ammonia at *at where it is there, and moves *at past it. */
+static uint32_t read_ammonia(const uint8_t *file, size_t length, size_t *at, struct reach *r, int *has_ammonia)
+{
+    if (follows(file, length, *at, "NT")) {
+        if (length - *at < 16)
+            return 1;
+        *has_ammonia = 1;
+        r->kn = number(file + *at + 2, 2);
+        r->inflow_nitrogenous = number(file + *at + 4, 4);
+        r->nitrogenous_load = number(file + *at + 8, 4);
+        if (r->kn > 20000 || r->inflow_nitrogenous > 1000000 || number(file + *at + 12, 4) != 0)
+            return 4;
+        *at += 16;
+    }
+    return 0;
 }
 
 /* Reads the dam, the take, the pressure and the sludge bed at *at where they are there, and moves *at past them. */
@@ -78,9 +102,11 @@ static uint32_t read_added(const uint8_t *file, size_t length, size_t *at, struc
 }
 
 /* Reads one reach with the records that belong to it at *at, and moves *at past them. */
-static uint32_t read_reach(const uint8_t *file, size_t length, size_t *at, uint32_t i, uint32_t n, struct reach *r)
+static uint32_t read_reach(const uint8_t *file, size_t length, size_t *at, uint32_t i, struct river *river)
 {
     const uint8_t *p = file + *at;
+    struct reach *r = &river->reaches[i];
+    uint32_t n = river->count;
     if (length - *at < 26)
         return 1;
     if (p[0] != 'R' || p[1] != 'E')
@@ -94,21 +120,23 @@ static uint32_t read_reach(const uint8_t *file, size_t length, size_t *at, uint3
     if (i == n ? r->outlet != 0 : r->outlet <= i || r->outlet > n)
         return 5;
     *at += 26;
-    return read_added(file, length, at, r);
+    uint32_t refusal = read_added(file, length, at, r);
+    return refusal ? refusal : read_ammonia(file, length, at, r, &river->has_ammonia);
 }
 
-static uint32_t read_river(const uint8_t *file, size_t length, struct reach *reaches, uint32_t *n)
+static uint32_t read_river(const uint8_t *file, size_t length, struct river *river)
 {
     if (length < 4)
         return 1;
     if (file[0] != 'R' || file[1] != 'V')
         return 2;
-    *n = number(file + 2, 2);
-    if (*n < 1 || *n > 128)
+    river->has_ammonia = 0;
+    river->count = number(file + 2, 2);
+    if (river->count < 1 || river->count > 128)
         return 3;
     size_t at = 4;
-    for (uint32_t i = 1; i <= *n; i++) {
-        uint32_t refusal = read_reach(file, length, &at, i, *n, &reaches[i]);
+    for (uint32_t i = 1; i <= river->count; i++) {
+        uint32_t refusal = read_reach(file, length, &at, i, river);
         if (refusal)
             return refusal + 256 * i;
     }
@@ -120,8 +148,11 @@ static uint32_t check_flows(struct reach *reaches, uint32_t n)
     for (uint32_t i = 1; i <= n; i++) {
         struct reach *r = &reaches[i];
         uint64_t k = r->k1 > r->k2 ? r->k1 : r->k2;
+        if (k < r->kn)
+            k = r->kn;
         r->mixed = r->above + r->inflow;
-        r->mass += (uint64_t)r->inflow * r->inflow_bod + 1000ull * r->load;
+        r->mass += (uint64_t)r->inflow * (r->inflow_bod + r->inflow_nitrogenous);
+        r->mass += 1000ull * r->load + 1000ull * r->nitrogenous_load;
         if (r->mixed == 0)
             return 7 + 256 * i;
         if (r->mixed > 100000000)
@@ -152,19 +183,19 @@ static uint32_t check_flows(struct reach *reaches, uint32_t n)
     return 0;
 }
 
-/* BOD and oxygen of the water at one place. */
+/* BOD, nitrogenous BOD and oxygen of the water at one place. */
 struct water {
-    double bod, oxygen;
+    double bod, nitrogenous, oxygen;
 };
 
 /*
- * What a way along a reach starts from: x1 and x2 are the paper's, ratio is x1 / (x2 - x1), 0 for equal rates. With
- * surface aeration a sludge bed is a saturation lower by its demand over k2, so that it costs nothing on the way;
- * without, fall is what it uses down to the foot, in equal parts.
+ * What a way along a reach starts from: x1, xn and x2 are the paper's, ratio is x1 / (x2 - x1) and ratio_n the same of
+ * xn, 0 for equal rates. With surface aeration a sludge bed is a saturation lower by its demand over k2, so that it
+ * costs nothing on the way; without, fall is what it uses down to the foot, in equal parts.
  */
 struct head {
     struct water water;
-    double saturation, x1, x2, ratio, fall;
+    double saturation, x1, xn, x2, ratio, ratio_n, fall;
 };
 
 /* What it gives: the water at the foot, the lowest oxygen, and the instant of that. */
@@ -176,21 +207,34 @@ struct course {
 
 typedef struct course way(const struct head *h);
 
-/* The water after a part of the travel time, by the formulas. */
-static inline struct water water_at(const struct head *h, double part)
+/* The share of a demand that has turned to deficit, where its S and that of the deficit are s1 and s2. */
+static inline double turned(double x1, double x2, double ratio, double part, double s1, double s2)
 {
-    double s1 = exp(-h->x1 * part), s2 = exp(-h->x2 * part);
-    double turned = h->x1 == h->x2 ? h->x1 * part * s1 : h->ratio * (s1 - s2);
-    double oxygen = h->saturation - turned * h->water.bod - s2 * (h->saturation - h->water.oxygen);
-    return (struct water){h->water.bod * s1, oxygen};
+    return x1 == x2 ? x1 * part * s1 : ratio * (s1 - s2);
 }
 
-/* The formulas at every instant, for a reach where oxygen falls by a bed without surface aeration and for any other. */
-static inline __attribute__((always_inline)) struct course exp_along(const struct head *h, int falls)
+/* The water after a part of the travel time, by the formulas, where ammonia is nitrified or not. */
+static inline struct water water_at(const struct head *h, double part, int nitrifies)
+{
+    double s1 = exp(-h->x1 * part), s2 = exp(-h->x2 * part), sn = 1;
+    double deficit = s2 * (h->saturation - h->water.oxygen);
+    deficit += turned(h->x1, h->x2, h->ratio, part, s1, s2) * h->water.bod;
+    if (nitrifies) {
+        sn = exp(-h->xn * part);
+        deficit += turned(h->xn, h->x2, h->ratio_n, part, sn, s2) * h->water.nitrogenous;
+    }
+    return (struct water){h->water.bod * s1, h->water.nitrogenous * sn, h->saturation - deficit};
+}
+
+/*
+ * The formulas at every instant, for a reach where oxygen falls by a bed without surface aeration and for any other,
+ * and where ammonia is nitrified and not.
+ */
+static inline __attribute__((always_inline)) struct course exp_along(const struct head *h, int falls, int nitrifies)
 {
     struct course c = {h->water, h->water.oxygen, 0};
     for (uint32_t m = 1; m <= 1024; m++) {
-        c.foot = water_at(h, m / 1024.0);
+        c.foot = water_at(h, m / 1024.0, nitrifies);
         if (falls)
             c.foot.oxygen -= h->fall * (m / 1024.0);
         if (c.foot.oxygen < c.lowest) {
@@ -203,25 +247,42 @@ static inline __attribute__((always_inline)) struct course exp_along(const struc
 
 static struct course by_exp(const struct head *h)
 {
-    return h->fall > 0 ? exp_along(h, 1) : exp_along(h, 0);
+    if (h->xn > 0)
+        return h->fall > 0 ? exp_along(h, 1, 1) : exp_along(h, 0, 1);
+    return h->fall > 0 ? exp_along(h, 1, 0) : exp_along(h, 0, 0);
+}
+
+/*
+ * The deficit that one step makes of a demand: y1 / (y2 - y1) * (s1 - s2), written so that no digits are lost as the
+ * rates nearly meet.
+ */
+static inline double turned_in_step(double y1, double y2)
+{
+    double apart = y1 - y2;
+    return y1 * exp(-y1) * (apart == 0 ? 1 : expm1(apart) / apart);
 }
 
 /*
  * The deficit stepped from instant to instant by multiplication, with no exp() in the loop. Over what is left of a head
- * deficit it is a sum whose terms grow by s1 / s2 a step, so that each step waits for one product of the step before.
- * The deficit that a step makes of BOD, f, is y1 / (y2 - y1) * (s1 - s2), written so that no digits are lost as the
- * rates nearly meet. The deficit of a bed is added step by step only without surface aeration, where all of it is left.
+ * deficit it is a sum whose terms, one for each demand, grow by s1 / s2 a step, so that each step waits for one product
+ * of the step before. The deficit of a bed is added step by step only without surface aeration, where all of it is
+ * left.
  */
-static inline __attribute__((always_inline)) struct course stepped_along(const struct head *h, int falls)
+static inline __attribute__((always_inline)) struct course
+stepped_along(const struct head *h, int falls, int nitrifies)
 {
-    double y1 = h->x1 / 1024, y2 = h->x2 / 1024, apart = y1 - y2;
-    double s1 = exp(-y1), s2 = exp(-y2), growth = exp(-apart);
-    double f = y1 * s1 * (apart == 0 ? 1 : expm1(apart) / apart);
-    double left = 1, sum = h->saturation - h->water.oxygen, term = f / s2 * h->water.bod;
-    double deficit = sum, largest = sum;
+    double y1 = h->x1 / 1024, yn = h->xn / 1024, y2 = h->x2 / 1024;
+    double s2 = exp(-y2), growth = exp(y2 - y1), growth_n = exp(y2 - yn);
+    double left = 1, sum = h->saturation - h->water.oxygen, term = turned_in_step(y1, y2) / s2 * h->water.bod;
+    double term_n = turned_in_step(yn, y2) / s2 * h->water.nitrogenous, deficit = sum, largest = sum;
     uint32_t instant = 0;
     for (uint32_t m = 1; m <= 1024; m++) {
-        sum += falls ? term + h->fall / 1024 : term;
+        double made = falls ? term + h->fall / 1024 : term;
+        if (nitrifies) {
+            made += term_n;
+            term_n *= growth_n;
+        }
+        sum += made;
         term *= growth;
         left *= s2;
         deficit = sum * left;
@@ -230,17 +291,20 @@ static inline __attribute__((always_inline)) struct course stepped_along(const s
             instant = m;
         }
     }
-    return (struct course){{h->water.bod * exp(-h->x1), h->saturation - deficit}, h->saturation - largest, instant};
+    struct water foot = {h->water.bod * exp(-h->x1), h->water.nitrogenous * exp(-h->xn), h->saturation - deficit};
+    return (struct course){foot, h->saturation - largest, instant};
 }
 
 static struct course stepped(const struct head *h)
 {
-    return h->fall > 0 ? stepped_along(h, 1) : stepped_along(h, 0);
+    if (h->xn > 0)
+        return h->fall > 0 ? stepped_along(h, 1, 1) : stepped_along(h, 0, 1);
+    return h->fall > 0 ? stepped_along(h, 1, 0) : stepped_along(h, 0, 0);
 }
 
 /*
- * The part of the travel time after which oxygen is lowest, as textbooks give it. Where that does not lie between
- * head and foot, the result is not between 0 and 1: it may be infinite or no number.
+ * The part of the travel time after which oxygen is lowest, as textbooks give it for one demand. Where that does not
+ * lie between head and foot, the result is not between 0 and 1: it may be infinite or no number.
  */
 static double critical_part(const struct head *h)
 {
@@ -250,18 +314,47 @@ static double critical_part(const struct head *h)
     return log(h->x2 / h->x1 * (1 - deficit * apart / (h->x1 * h->water.bod))) / apart;
 }
 
+/* How fast oxygen falls after a part of the travel time: what both demands use there, less what aeration brings in. */
+static double falling(const struct head *h, double part)
+{
+    struct water w = water_at(h, part, 1);
+    return h->x1 * w.bod + h->xn * w.nitrogenous - h->x2 * (h->saturation - w.oxygen);
+}
+
 /*
- * Foot and critical point in closed form. This answers a slightly different question: the lowest oxygen is that at
- * the critical time itself, not the lowest of 1,025 values, and the instant is that time to the nearest 1024th.
- * Without surface aeration there is no critical time, with a bed or without one, and the lowest oxygen is at the foot.
+ * The part of the travel time at which both demands and aeration are even, by halving; 0 where oxygen does not fall at
+ * the head and rise at the foot.
+ */
+static double even_part(const struct head *h)
+{
+    double low = 0, high = 1;
+    if (h->x2 == 0 || falling(h, 0) <= 0 || falling(h, 1) >= 0)
+        return 0;
+    for (int i = 0; i < 20; i++) {
+        double middle = (low + high) / 2;
+        if (falling(h, middle) > 0)
+            low = middle;
+        else
+            high = middle;
+    }
+    return low;
+}
+
+/*
+ * Foot and critical point in closed form, or by halving where ammonia is nitrified. This answers a slightly different
+ * question: the lowest oxygen is that at the critical time itself, not the lowest of 1,025 values, and the instant is
+ * that time to the nearest 1024th. Without surface aeration there is no critical time, with a bed or without one, and
+ * the lowest oxygen is at the foot.
  */
 static struct course closed(const struct head *h)
 {
-    struct course c = {water_at(h, 1), h->water.oxygen, 0};
-    double part = critical_part(h);
+    int nitrifies = h->xn > 0;
+    struct course c = {water_at(h, 1, nitrifies), h->water.oxygen, 0};
+    double part = nitrifies ? even_part(h) : critical_part(h);
     c.foot.oxygen -= h->fall;
     if (part > 0 && part < 1) { /* false for no number */
-        c.lowest = h->saturation - h->x1 / h->x2 * h->water.bod * exp(-h->x1 * part);
+        double deficit = h->x1 / h->x2 * h->water.bod * exp(-h->x1 * part);
+        c.lowest = nitrifies ? water_at(h, part, 1).oxygen : h->saturation - deficit;
         c.instant = (uint32_t)(1024 * part + 0.5);
     } else if (c.foot.oxygen < c.lowest) {
         c.lowest = c.foot.oxygen;
@@ -274,24 +367,27 @@ static struct head head_of(const struct reach *r)
 {
     double t = r->temperature, above = (double)r->above, mixed = (double)r->mixed, flow = (double)r->flow;
     double saturation = 1e6 * (14.652 - 0.41022 * t + 0.007991 * t * t - 0.000077774 * t * t * t);
-    double bod = 0, oxygen = 0;
+    double bod = 0, nitrogenous = 0, oxygen = 0;
     if (r->pressure)
         saturation *= r->pressure / 760.0;
     if (r->feeders) {
         bod = r->bod_above / above;
+        nitrogenous = r->nitrogenous_above / above;
         oxygen = r->oxygen_above / above;
         if (r->has_dam)
             oxygen += (saturation - oxygen) * r->share * (above - r->generating) / (1000 * above);
     }
     bod = (above * bod + 1e3 * r->inflow * r->inflow_bod + 1e6 * r->load) / mixed;
+    nitrogenous = (above * nitrogenous + 1e3 * r->inflow * r->inflow_nitrogenous + 1e6 * r->nitrogenous_load) / mixed;
     oxygen = (above * oxygen + 1e3 * r->inflow * r->inflow_oxygen) / mixed;
 
-    double x1 = (double)r->k1 * r->volume / (86400 * flow), x2 = (double)r->k2 * r->volume / (86400 * flow), fall = 0;
+    double days = r->volume / (86400 * flow), x1 = r->k1 * days, xn = r->kn * days, x2 = r->k2 * days, fall = 0;
     if (r->sludge && r->k2)
         saturation -= 1e6 * r->sludge / r->k2;
     else if (r->sludge)
-        fall = 1e6 * r->sludge * r->volume / (86400 * flow);
-    return (struct head){{bod, oxygen}, saturation, x1, x2, x1 == x2 ? 0 : x1 / (x2 - x1), fall};
+        fall = 1e6 * r->sludge * days;
+    return (struct head){{bod, nitrogenous, oxygen}, saturation, x1, xn, x2, x1 == x2 ? 0 : x1 / (x2 - x1),
+        xn == x2 ? 0 : xn / (x2 - xn), fall};
 }
 
 static void write_record(const struct reach *r, const struct head *h, const struct course *c, uint8_t *record)
@@ -308,13 +404,28 @@ static void write_record(const struct reach *r, const struct head *h, const stru
     put(record + 25, (uint32_t)(int32_t)floor(c->foot.oxygen), 4);
 }
 
-/* Reads and checks the river file; the result is that of a report, 12 for a short buffer included. */
-static uint32_t accept(const uint8_t *file, size_t file_len, size_t report_len, struct reach *reaches, uint32_t *n)
+/* The record that follows in a file with ammonia. */
+static void write_nitrogenous(const struct head *h, const struct course *c, uint8_t *record)
 {
-    uint32_t refusal = read_river(file, file_len, reaches, n);
+    record[0] = 'R';
+    record[1] = 'N';
+    put(record + 2, (uint32_t)h->water.nitrogenous, 4);
+    put(record + 6, (uint32_t)c->foot.nitrogenous, 4);
+}
+
+/* How many bytes each reach has in the report. */
+static size_t record_size(const struct river *river)
+{
+    return river->has_ammonia ? 39 : 29;
+}
+
+/* Reads and checks the river file; the result is that of a report, 12 for a short buffer included. */
+static uint32_t accept(const uint8_t *file, size_t file_len, size_t report_len, struct river *river)
+{
+    uint32_t refusal = read_river(file, file_len, river);
     if (!refusal)
-        refusal = check_flows(reaches, *n);
-    if (!refusal && report_len < 29 * *n)
+        refusal = check_flows(river->reaches, river->count);
+    if (!refusal && report_len < record_size(river) * river->count)
         refusal = 12;
     return refusal;
 }
@@ -323,18 +434,21 @@ static uint32_t accept(const uint8_t *file, size_t file_len, size_t report_len, 
 static inline __attribute__((always_inline)) uint32_t
 report_by(way *along, const uint8_t *file, size_t file_len, uint8_t *report, size_t report_len)
 {
-    struct reach reaches[129]; /* reach i at i; 0 takes what the last reach passes on */
-    uint32_t n, refusal = accept(file, file_len, report_len, reaches, &n);
+    struct river river;
+    uint32_t refusal = accept(file, file_len, report_len, &river);
     if (refusal)
         return refusal;
-    reaches[0].bod_above = reaches[0].oxygen_above = 0;
-    for (uint32_t i = 1; i <= n; i++) {
-        struct reach *r = &reaches[i], *next = &reaches[r->outlet];
+    river.reaches[0].bod_above = river.reaches[0].nitrogenous_above = river.reaches[0].oxygen_above = 0;
+    for (uint32_t i = 1; i <= river.count; i++) {
+        struct reach *r = &river.reaches[i], *next = &river.reaches[r->outlet];
         struct head h = head_of(r);
         struct course c = along(&h);
         next->bod_above += (double)r->flow * c.foot.bod;
+        next->nitrogenous_above += (double)r->flow * c.foot.nitrogenous;
         next->oxygen_above += (double)r->flow * c.foot.oxygen;
-        write_record(r, &h, &c, report + 29 * (i - 1));
+        write_record(r, &h, &c, report + record_size(&river) * (i - 1));
+        if (river.has_ammonia)
+            write_nitrogenous(&h, &c, report + record_size(&river) * (i - 1) + 29);
     }
     return 0;
 }

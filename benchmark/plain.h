@@ -5,13 +5,16 @@
 #include <stddef.h>
 #include <stdint.h>
 
-/* With exp() twice at each of the 1,025 instants but the head. */
+/* With exp() twice at each of the 1,025 instants but the head, and three times where ammonia is nitrified. */
 uint32_t exp_report(const uint8_t *file, size_t file_len, uint8_t *report, size_t report_len);
 
 /* Stepped from instant to instant by multiplication. */
 uint32_t stepped_report(const uint8_t *file, size_t file_len, uint8_t *report, size_t report_len);
 
-/* By the closed formula for the critical time: the lowest oxygen is that at this time, not the lowest of 1,025 values. */
+/*
+ * By the closed formula for the critical time: the lowest oxygen is that at this time, not the lowest of 1,025 values.
+ * Two demands have no such formula, so where ammonia is nitrified the time is found by halving.
+ */
 uint32_t closed_report(const uint8_t *file, size_t file_len, uint8_t *report, size_t report_len);
 
 #endif

@@ -21,20 +21,27 @@ for count in 1 2 4 8 16 32 64; do
     ../tools/river make "$name.txt" "$name.river"
     rivers+=("$name.river")
 done
-# The chain with a sludge bed at each reach: what a bed costs.
-grep -v '^#' ../examples/chain.txt | sed 's/$/ sludge 1500/' > "$scratch/chain-beds.txt"
-../tools/river make "$scratch/chain-beds.txt" "$scratch/chain-beds.river"
-"$scratch/bench" ../examples/town.river ../examples/chain.river "$scratch/chain-beds.river" "${rivers[@]}"
+# The chain with more at the end of each line, as a river of its own: what a sludge bed and what ammonia costs.
+variant() {
+    grep -v '^#' ../examples/chain.txt | sed "s/\$/ $2/" > "$scratch/$1.txt"
+    ../tools/river make "$scratch/$1.txt" "$scratch/$1.river"
+}
+variant chain-beds "sludge 1500"
+variant chain-ammonia "ammonia 300 2000 0"
+variant chain-ammonia-beds "sludge 1500 ammonia 300 2000 0"
+"$scratch/bench" ../examples/town.river ../examples/chain.river "$scratch"/chain-{beds,ammonia,ammonia-beds}.river "${rivers[@]}"
 cat <<'END'
 
 proved       xylandreo_report
-exp          plain C in doubles: exp() twice at each instant
+exp          plain C in doubles: exp() twice at each instant, three times where ammonia is nitrified
 stepped      plain C in doubles: stepped from instant to instant by multiplication
-closed       plain C in doubles: the closed formula for the critical time; oxygen at that time, not the lowest of 1,025 values
+closed       plain C in doubles: the closed formula for the critical time, halving where ammonia is nitrified; oxygen at that time, not the
+             lowest of 1,025 values
              Times are those of the fastest of 201 batches each that take turns; (medians) are ratios of the median batches.
 checks       reading and flow check alone (calls that are refused with 12), part of the times; the plain programs share theirs
 ns a step    the rest of the proved time over 1,024 steps a reach: head, step shares, instants, record
 difference   largest distance of a concentration from that of the proved report, in units of 0.000001 mg/L
 of instants  the same of the critical instant, in 1024ths of the travel time
-chain-beds   the chain with a sludge bed at each reach; chain-N, its first N reaches without
+chain-beds   the chain with a sludge bed at each reach; chain-ammonia, with ammonia at each; chain-ammonia-beds, with both; chain-N, its first N
+             reaches with neither
 END

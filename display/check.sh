@@ -54,6 +54,11 @@ make_odd_files() {
     head -c 59 two-sludge.river > "$1/sludge-cut.river"
     { head -c 30 two.river; printf 'SD\005\334SD\005\334'; tail -c +31 two.river; } > "$1/sludge-twice.river"
     { cat two-sludge.river; tail -c +65 two-pressure.river; } > "$1/sludge-before-pressure.river"
+    head -c 45 two-ammonia.river > "$1/ammonia-cut.river"
+    { head -c 46 two-ammonia.river; tail -c +31 two-ammonia.river; } > "$1/ammonia-twice.river"
+    { head -c 46 two-ammonia.river; printf 'SD\005\334'; tail -c +47 two-ammonia.river; } > "$1/ammonia-before-sludge.river"
+    { head -c 32 two-ammonia.river; printf '\377\377'; tail -c +35 two-ammonia.river; } > "$1/ammonia-too-fast.river"
+    { head -c 45 two-ammonia.river; printf '\001'; tail -c +47 two-ammonia.river; } > "$1/ammonia-not-zero.river"
     { cat town.river; echo; } > "$1/line-end-more.river"
     { cat chain.river; head -c 5000000 /dev/zero; } > "$1/long.river"
     cp town.txt "$1/text.river"
@@ -73,7 +78,7 @@ check_lines() {
 }
 
 # The rows that a table should have, worked out from the lines: mg/L with three decimals, rounded down, and a mark where
-# the units are below those of the limit.
+# the units are below those of the limit. Lines of eleven numbers end with nitrogenous BOD.
 rows_from_lines() {
     awk -v limit="$1" '
         function mg(units,   size) {
@@ -84,7 +89,7 @@ rows_from_lines() {
         { flow[NR] = $3; if ($3 >= 10000) cubic = 1
           before[NR] = $1 " " $2
           after[NR] = mg($4) " " mg($5) " " oxygen($6) " " oxygen($8) " " oxygen($9) " " \
-                      sprintf("%.1f", int($7 * 1000 / 1024 + 0.5) / 10) }
+                      sprintf("%.1f", int($7 * 1000 / 1024 + 0.5) / 10) (NF == 11 ? " " mg($10) " " mg($11) : "") }
         END { for (i = 1; i <= NR; i++) print before[i], cubic ? sprintf("%.3f", flow[i] / 1000) : flow[i], after[i] }'
 }
 
@@ -143,6 +148,14 @@ says 'sludge-cut.river: refused 1 reach 2: fewer bytes'
 says 'sludge-twice.river: refused 2 reach 2: the mark'
 says 'sludge-before-pressure.river: refused 6 reach 0: bytes remain'
 says '14-thick-bed.river: refused 14 reach 1: the reach is too long for its sludge bed, which uses more than 5 mg/L, and must be split$'
+expect 1 "$display" "$scratch"/odd/ammonia-*.river refused/10-both-demands.river refused/11-fast-nitrifiers.river
+says 'ammonia-cut.river: refused 1 reach 1: fewer bytes'
+says 'ammonia-twice.river: refused 2 reach 2: the mark'
+says 'ammonia-before-sludge.river: refused 2 reach 2: the mark'
+says 'ammonia-too-fast.river: refused 4 reach 1: a field is out of range: kn is 65535, not from 0 to 20000 thousandths per day$'
+says 'ammonia-not-zero.river: refused 4 reach 1: a field is out of range: last number is 1, not 0$'
+says '10-both-demands.river: refused 10 reach 1: all BOD of both kinds'
+says '11-fast-nitrifiers.river: refused 11 reach 1: the reach is too long for its rates'
 expect 1 "$display" refused/5-uphill.river "$scratch"/odd/outlet-*.river "$scratch/odd/text.river"
 says 'refused 5 reach 2: the outlet is wrong: outlet is 2, not 3$'
 says 'refused 5 reach 1: the outlet is wrong: outlet is 1, not from 2 to 5$'
@@ -154,15 +167,18 @@ expect 0 "$collection" .
 expect 1 "$collection" refused
 expect 1 "$collection" "$scratch/odd"
 says '^text.river .*; this looks like a text; tools/river make'
-says '^22 rivers: 0 accepted, 22 refused; rewritten: 0 the same, 0 differ; reports beside them: 0 the same, 0 differ$'
-# A pressure of 760 and a bed that demands nothing, written out, are other files with the figures of none.
+says '^27 rivers: 0 accepted, 27 refused; rewritten: 0 the same, 0 differ; reports beside them: 0 the same, 0 differ$'
+# A pressure of 760, a bed that demands nothing and ammonia of zeros, written out, are other files with the figures of none; ammonia adds
+# its two to each line.
 mkdir "$scratch/standard" "$scratch/changed" "$scratch/none"
 { head -c 66 two-pressure.river; printf '\002\370'; } > "$scratch/standard/two.river"
 cp two-dam.report "$scratch/standard/two.report"
 { head -c 58 two-sludge.river; printf '\000\000'; } > "$scratch/standard/bare.river"
 cp two.report "$scratch/standard/bare.report"
+{ cat two.river; printf 'NT'; head -c 14 /dev/zero; } > "$scratch/standard/zeros.river"
+sed 's/$/ 0 0/' two.report > "$scratch/standard/zeros.report"
 expect 0 "$collection" "$scratch/standard"
-says '^2 rivers: 2 accepted, 0 refused; rewritten: 2 the same, 0 differ; reports beside them: 2 the same, 0 differ$'
+says '^3 rivers: 3 accepted, 0 refused; rewritten: 3 the same, 0 differ; reports beside them: 3 the same, 0 differ$'
 cp two.river two.report "$scratch/changed"
 echo >> "$scratch/changed/two.report"
 expect 1 "$collection" "$scratch/changed"

@@ -1,6 +1,6 @@
 /*
  * Goes through the river files of a folder, not of its subfolders, sorted by name: a line for each, and a
- * last one with the counts. Of the archive it calls reporting and rewriting.
+ * last one with the counts. Of the archive it calls reporting, the size of a reach in a report, and rewriting.
  *
  *   collection DIR
  *
@@ -148,7 +148,7 @@ static void show_headings(size_t width)
 static void show_accepted(const struct finding *finding)
 {
     uint32_t reach = lowest_reach(&finding->report);
-    struct text oxygen = milligrams(xylandreo_record_of(finding->report.bytes, reach).critical_oxygen);
+    struct text oxygen = milligrams(record_at(&finding->report, reach).critical_oxygen);
     printf("  %-20s %-9s %20s %6" PRIu32 "  %s\n", "accepted", word(finding->rewritten), oxygen.chars, reach,
            word(finding->kept));
 }

@@ -36,14 +36,24 @@ void report_river(const struct river *river, struct report *report)
 {
     report->result = xylandreo_report(river->bytes, river->length, report->bytes, sizeof report->bytes);
     report->reaches = report->result == 0 ? xylandreo_reaches(river->bytes) : 0;
+    report->size = xylandreo_record_size(river->bytes, river->length);
+}
+
+struct xylandreo_record record_at(const struct report *report, uint32_t reach)
+{
+    return xylandreo_record_of(report->bytes, report->size, reach);
+}
+
+int has_nitrogenous(const struct report *report)
+{
+    return report->size > XYLANDREO_RECORD;
 }
 
 uint32_t lowest_reach(const struct report *report)
 {
     uint32_t lowest = 1;
     for (uint32_t i = 2; i <= report->reaches; i++)
-        if (xylandreo_record_of(report->bytes, i).critical_oxygen <
-            xylandreo_record_of(report->bytes, lowest).critical_oxygen)
+        if (record_at(report, i).critical_oxygen < record_at(report, lowest).critical_oxygen)
             lowest = i;
     return lowest;
 }
@@ -80,13 +90,14 @@ void show_refusal(FILE *to, const struct river *river, uint32_t result)
     show_reason(to, river, result);
 }
 
-/* An outlet has no unit, and may have one lawful value alone. */
+/* An outlet has no unit, and may have one lawful value alone, as the last number of ammonia has. */
 static void show_fault(FILE *to, const struct xylandreo_fault *fault, int is_outlet)
 {
+    const char *unit = is_outlet ? "" : fault->field->unit;
     fprintf(to, ": %s is %" PRIu64 ", not ", fault->field->name, fault->value);
     if (fault->lowest < fault->highest)
         fprintf(to, "from %" PRIu64 " to ", fault->lowest);
-    fprintf(to, "%" PRIu64 "%s%s", fault->highest, is_outlet ? "" : " ", is_outlet ? "" : fault->field->unit);
+    fprintf(to, "%" PRIu64 "%s%s", fault->highest, *unit ? " " : "", unit);
 }
 
 /* Whether a file begins not as a river file does but as a text: printable characters, or bytes of UTF-8. */
@@ -112,13 +123,19 @@ void show_reason(FILE *to, const struct river *river, uint32_t result)
         fputs("; this looks like a text; tools/river make TEXT OUT makes a river file of it", to);
 }
 
-/* Puts the line of one reach. */
+/* Puts the line of one reach, without its end. */
 static int put_line(char *text, uint32_t reach, const struct xylandreo_record *r)
 {
     return snprintf(text, MAX_LINE,
-                    "%" PRIu32 " %u %" PRIu32 " %" PRIu32 " %" PRIu32 " %" PRId32 " %u %" PRId32 " %" PRId32 "\n",
-                    reach, r->depth, r->flow, r->head_bod, r->foot_bod, r->head_oxygen, r->critical_instant,
+                    "%" PRIu32 " %u %" PRIu32 " %" PRIu32 " %" PRIu32 " %" PRId32 " %u %" PRId32 " %" PRId32, reach,
+                    r->depth, r->flow, r->head_bod, r->foot_bod, r->head_oxygen, r->critical_instant,
                     r->critical_oxygen, r->foot_oxygen);
+}
+
+/* Puts the numbers that end the line in a report with nitrogenous BOD. */
+static int put_nitrogenous(char *text, const struct xylandreo_record *r)
+{
+    return snprintf(text, MAX_LINE, " %" PRIu32 " %" PRIu32, r->head_nitrogenous, r->foot_nitrogenous);
 }
 
 size_t put_lines(const struct report *report, char text[MAX_LINES])
@@ -128,8 +145,11 @@ size_t put_lines(const struct report *report, char text[MAX_LINES])
                                 xylandreo_number(report->result), xylandreo_reach(report->result));
     size_t length = 0;
     for (uint32_t i = 1; i <= report->reaches; i++) {
-        struct xylandreo_record record = xylandreo_record_of(report->bytes, i);
+        struct xylandreo_record record = record_at(report, i);
         length += (size_t)put_line(text + length, i, &record);
+        if (has_nitrogenous(report))
+            length += (size_t)put_nitrogenous(text + length, &record);
+        text[length++] = '\n';
     }
     return length;
 }

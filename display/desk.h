@@ -31,11 +31,16 @@ int finish(const char *program, int status);
 struct report {
     uint32_t result;
     uint32_t reaches; /* 0 where the river was refused */
+    uint32_t size;    /* bytes of each reach */
     uint8_t bytes[XYLANDREO_MAX_REPORT];
 };
 
-/* Calls the reporting entry. */
+/* Calls the reporting entry, and the one that tells the size of a reach. */
 void report_river(const struct river *river, struct report *report);
+
+/* What the report of an accepted river has for a reach, counted from 1; and whether it has nitrogenous BOD. */
+struct xylandreo_record record_at(const struct report *report, uint32_t reach);
+int has_nitrogenous(const struct report *report);
 
 /* The reach with the lowest oxygen of an accepted river, the first of them where several have it. */
 uint32_t lowest_reach(const struct report *report);
@@ -59,8 +64,8 @@ struct text milligrams(int64_t units);
 void show_refusal(FILE *to, const struct river *river, uint32_t result);
 void show_reason(FILE *to, const struct river *river, uint32_t result);
 
-/* Room for what the printing program prints: nine numbers of at most eleven characters a line. */
-#define MAX_LINE (9 * 12)
+/* Room for what the printing program prints: at most eleven numbers of at most eleven characters a line. */
+#define MAX_LINE (11 * 12)
 #define MAX_LINES (XYLANDREO_MAX_REACHES * MAX_LINE + 1)
 
 /* Puts what the printing program prints for a report, and returns its length. */

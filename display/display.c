@@ -1,6 +1,6 @@
 /*
  * The desk's display: shows the reports of river files as tables with units. Of the archive it calls
- * reporting and nothing deeper.
+ * reporting and the size of a reach in a report, and nothing deeper.
  *
  *   display [--limit 5.0] FILE...   a table and a summary line for each; marks oxygen below the limit, in mg/L
  *   display --lines FILE            the lines that the printing program prints
@@ -54,16 +54,17 @@ static int is_below(int32_t oxygen, const struct limit *limit)
 static int in_cubic_metres(const struct report *report)
 {
     for (uint32_t i = 1; i <= report->reaches; i++)
-        if (xylandreo_record_of(report->bytes, i).flow >= 10000)
+        if (record_at(report, i).flow >= 10000)
             return 1;
     return 0;
 }
 
-static void show_headings(int cubic)
+static void show_headings(int cubic, int nitrogenous)
 {
-    printf("%39s%22s%19s\n", "BOD, mg/L", "oxygen, mg/L", "lowest at,");
-    printf("reach depth %10s %8s %8s %8s  %8s  %8s  %9s\n", cubic ? "flow, m3/s" : "flow, L/s", "head", "foot",
-           "head", "lowest", "foot", "% of time");
+    printf("%39s%22s%19s%s\n", "BOD, mg/L", "oxygen, mg/L", "lowest at,",
+           nitrogenous ? "   nitrogenous BOD, mg/L" : "");
+    printf("reach depth %10s %8s %8s %8s  %8s  %8s  %9s%s\n", cubic ? "flow, m3/s" : "flow, L/s", "head", "foot",
+           "head", "lowest", "foot", "% of time", nitrogenous ? "           head     foot" : "");
 }
 
 /* Three decimals of m3/s are the litres, so neither unit rounds anything. */
@@ -84,10 +85,10 @@ static void show_oxygen(int32_t oxygen, const struct limit *limit)
 static void show_share(uint16_t instant)
 {
     unsigned tenths = (instant * 1000u + XYLANDREO_INSTANTS / 2) / XYLANDREO_INSTANTS;
-    printf(" %7u.%u\n", tenths / 10, tenths % 10);
+    printf(" %7u.%u", tenths / 10, tenths % 10);
 }
 
-static void show_row(uint32_t reach, struct xylandreo_record r, int cubic, const struct limit *limit)
+static void show_row(uint32_t reach, struct xylandreo_record r, int cubic, int nitrogenous, const struct limit *limit)
 {
     printf("%5" PRIu32 " %5u", reach, r.depth);
     show_flow(r.flow, cubic);
@@ -96,15 +97,18 @@ static void show_row(uint32_t reach, struct xylandreo_record r, int cubic, const
     show_oxygen(r.critical_oxygen, limit);
     show_oxygen(r.foot_oxygen, limit);
     show_share(r.critical_instant);
+    if (nitrogenous)
+        printf("       %8s %8s", milligrams(r.head_nitrogenous).chars, milligrams(r.foot_nitrogenous).chars);
+    printf("\n");
 }
 
 static void show_summary(const struct report *report, const struct limit *limit)
 {
     uint32_t below = 0, lowest = lowest_reach(report);
     for (uint32_t i = 1; i <= report->reaches; i++)
-        below += (uint32_t)is_below(xylandreo_record_of(report->bytes, i).critical_oxygen, limit);
-    printf("lowest oxygen %s mg/L in reach %" PRIu32,
-           milligrams(xylandreo_record_of(report->bytes, lowest).critical_oxygen).chars, lowest);
+        below += (uint32_t)is_below(record_at(report, i).critical_oxygen, limit);
+    printf("lowest oxygen %s mg/L in reach %" PRIu32, milligrams(record_at(report, lowest).critical_oxygen).chars,
+           lowest);
     if (limit->text)
         printf("; %" PRIu32 " of %" PRIu32 " %s below %s mg/L%s", below, report->reaches,
                report->reaches == 1 ? "reach" : "reaches", limit->text, below ? ", marked *" : "");
@@ -112,12 +116,12 @@ static void show_summary(const struct report *report, const struct limit *limit)
 
 static void show_table(const char *path, const struct report *report, const struct limit *limit)
 {
-    int cubic = in_cubic_metres(report);
+    int cubic = in_cubic_metres(report), nitrogenous = has_nitrogenous(report);
     show_name(stdout, path);
     printf(": %" PRIu32 " %s\n", report->reaches, report->reaches == 1 ? "reach" : "reaches");
-    show_headings(cubic);
+    show_headings(cubic, nitrogenous);
     for (uint32_t i = 1; i <= report->reaches; i++)
-        show_row(i, xylandreo_record_of(report->bytes, i), cubic, limit);
+        show_row(i, record_at(report, i), cubic, nitrogenous, limit);
 }
 
 /* The table of an accepted river, and the summary line that every river has. */

@@ -33,19 +33,29 @@ static int is_pattern(const uint8_t *bytes, size_t length)
 static void check_bounds(const struct xylandreo_record *r)
 {
     int32_t highest = r->head_oxygen > r->foot_oxygen ? r->head_oxygen : r->foot_oxygen;
-    expect(r->head_bod <= XYLANDREO_MAX_BOD, "BOD is at most 1,000 mg/L", 0);
+    uint64_t bod = (uint64_t)r->head_bod + r->head_nitrogenous;
+    expect(bod <= XYLANDREO_MAX_BOD, "BOD and nitrogenous BOD together are at most 1,000 mg/L", 0);
     expect(r->critical_oxygen >= XYLANDREO_MIN_OXYGEN && highest <= XYLANDREO_MAX_OXYGEN, "oxygen is within its bounds",
            0);
 }
 
-/* What the figures of every record keep, each by itself and among themselves. */
-static void check_record(const uint8_t *report, uint32_t reach)
+/* The marks of a reach's records. */
+static void check_marks(const uint8_t *records, uint32_t size)
 {
-    struct xylandreo_record r = xylandreo_record_of(report, reach);
-    expect(memcmp(report + (reach - 1) * XYLANDREO_RECORD, "RP", 2) == 0, "each record begins with its mark", 0);
+    expect(memcmp(records, "RP", 2) == 0, "each record begins with its mark", 0);
+    expect(size == XYLANDREO_RECORD || memcmp(records + XYLANDREO_RECORD, "RN", 2) == 0,
+           "each record of nitrogenous BOD begins with its mark", 0);
+}
+
+/* What the figures of every reach keep, each by itself and among themselves. */
+static void check_record(const uint8_t *report, uint32_t size, uint32_t reach)
+{
+    struct xylandreo_record r = xylandreo_record_of(report, size, reach);
+    check_marks(report + (size_t)(reach - 1) * size, size);
     check_bounds(&r);
     expect(r.depth >= 1 && r.depth <= reach, "depth is from 1 to the reach's number", 0);
     expect(r.foot_bod <= r.head_bod, "BOD at the foot is at most that at the head", 0);
+    expect(r.foot_nitrogenous <= r.head_nitrogenous, "nitrogenous BOD at the foot is at most that at the head", 0);
     expect(r.critical_instant <= XYLANDREO_INSTANTS, "the critical instant lies in the reach", 0);
     expect(r.critical_oxygen <= r.head_oxygen && r.critical_oxygen <= r.foot_oxygen, "critical oxygen is the lowest",
            0);
@@ -62,6 +72,18 @@ static void check_refusal(uint32_t result)
     expect(xylandreo_reach(result) <= XYLANDREO_MAX_REACHES, "a refusal names a reach of the file", result);
 }
 
+/* The size of a reach in the report of a file whose result is given. */
+static uint32_t checked_size(const struct river *river, uint32_t result)
+{
+    uint32_t number = xylandreo_number(result), size = xylandreo_record_size(river->bytes, river->length);
+    if (number >= 1 && number <= 6)
+        expect(size == 0, "a file that reading refuses has no size of a reach", result);
+    else
+        expect(size == XYLANDREO_RECORD || size == XYLANDREO_RECORD + XYLANDREO_RN_BYTES,
+               "a reach has an RP record, or an RP and an RN", result);
+    return size;
+}
+
 /* Calls the entry with a buffer of the given length, full of the pattern, and checks which bytes it wrote. */
 static uint32_t checked_call(const struct river *river, size_t report_len)
 {
@@ -69,14 +91,15 @@ static uint32_t checked_call(const struct river *river, size_t report_len)
     uint8_t *report = memory + GUARD;
     memset(memory, PATTERN, sizeof memory);
     uint32_t result = xylandreo_report(river->bytes, river->length, report, report_len);
+    uint32_t size = checked_size(river, result);
     size_t written = 0;
     calls++;
     if (result == 0) {
         uint32_t reaches = xylandreo_reaches(river->bytes);
-        written = (size_t)reaches * XYLANDREO_RECORD;
+        written = (size_t)reaches * size;
         expect(written <= report_len, "a buffer shorter than the report is refused", result);
         for (uint32_t i = 1; i <= reaches; i++)
-            check_record(report, i);
+            check_record(report, size, i);
     } else {
         refusals++;
         check_refusal(result);
@@ -96,7 +119,7 @@ static void check_file(const struct river *river)
         expect(checked_call(river, 0) == result, "a refused river is refused alike whatever the buffer", result);
         return;
     }
-    size_t needed = (size_t)xylandreo_reaches(river->bytes) * XYLANDREO_RECORD;
+    size_t needed = (size_t)xylandreo_reaches(river->bytes) * checked_size(river, result);
     expect(checked_call(river, needed) == 0, "a buffer of the report's length is long enough", result);
     expect(checked_call(river, needed - 1) == 12, "a buffer one byte too short gets 12 with reach 0", result);
     expect(checked_call(river, 0) == 12, "an empty buffer gets 12 with reach 0", result);

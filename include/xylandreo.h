@@ -2,7 +2,7 @@
  * River oxygen reports for C and C++. Link with target/staticlib/libreport.a, which `scripts/build archive`
  * makes; display/ has two programs over it, and scripts/build the command that compiles them.
  *
- * The two entries come first. Below them are the reasons of refusals, the table of all records of a river
+ * The three entries come first. Below them are the reasons of refusals, the table of all records of a river
  * file (xylandreo_kinds), and a reader for the records of a report.
  */
 #ifndef XYLANDREO_H
@@ -17,27 +17,30 @@ extern "C" {
 
 #define XYLANDREO_MAX_REACHES 128
 
-/* Bytes of each record: of a river file, and last of a report. */
+/* Bytes of each record: of a river file, and last of a report, XYLANDREO_RECORD of an RP and the other of an RN. */
 #define XYLANDREO_RV_BYTES 4
 #define XYLANDREO_RE_BYTES 26
 #define XYLANDREO_DM_BYTES 8
 #define XYLANDREO_WD_BYTES 6
 #define XYLANDREO_BP_BYTES 4
 #define XYLANDREO_SD_BYTES 4
+#define XYLANDREO_NT_BYTES 16
 #define XYLANDREO_RECORD 29
+#define XYLANDREO_RN_BYTES 10
 
 /* Bytes of the longest river file, in which every reach has every record, and of the longest report. */
 #define XYLANDREO_MAX_FILE                                                                   \
     (XYLANDREO_RV_BYTES + XYLANDREO_MAX_REACHES * (XYLANDREO_RE_BYTES + XYLANDREO_DM_BYTES + \
                                                    XYLANDREO_WD_BYTES + XYLANDREO_BP_BYTES + \
-                                                   XYLANDREO_SD_BYTES))
-#define XYLANDREO_MAX_REPORT (XYLANDREO_MAX_REACHES * XYLANDREO_RECORD)
+                                                   XYLANDREO_SD_BYTES + XYLANDREO_NT_BYTES))
+#define XYLANDREO_MAX_REPORT (XYLANDREO_MAX_REACHES * (XYLANDREO_RECORD + XYLANDREO_RN_BYTES))
 
 /*
- * Reads the river file file[0 .. file_len), checks its flows and writes one record for each of its
- * n reaches, in the order of the file, to the start of report[0 .. report_len).
+ * Reads the river file file[0 .. file_len), checks its flows and writes for each of its n reaches, in the
+ * order of the file, an RP record and, in a file with any NT record, an RN record after it, to the start of
+ * report[0 .. report_len).
  *
- * The result is 0 exactly for an accepted river whose report the buffer can hold, XYLANDREO_RECORD * n
+ * The result is 0 exactly for an accepted river whose report the buffer can hold, xylandreo_record_size(..) * n
  * bytes. Otherwise it is number + 256 * reach, with the number of the refusal (xylandreo_reason below)
  * and the reach, counted from 1, where it was met; reach is 0 for the header and for 6 and 12.
  *
@@ -46,6 +49,13 @@ extern "C" {
  * Neither pointer may be null, even for a length of 0, and the buffers may not overlap.
  */
 uint32_t xylandreo_report(const uint8_t *file, size_t file_len, uint8_t *report, size_t report_len);
+
+/*
+ * How many bytes each reach has in the report of a file: XYLANDREO_RECORD, and XYLANDREO_RN_BYTES more where the
+ * file has an NT record, of zeros too; 0 for a file that reading refuses. The flow check plays no part, and
+ * pointer and length are as for xylandreo_report. XYLANDREO_MAX_REPORT bytes hold any report.
+ */
+uint32_t xylandreo_record_size(const uint8_t *file, size_t file_len);
 
 /*
  * Reads the river file file[0 .. file_len) and writes the river that it read to the start of
@@ -75,11 +85,11 @@ static inline uint32_t xylandreo_reach(uint32_t result)
 }
 
 /*
- * What a number means; 1 to 6 are refusals of reading. 10 tests the undecayed BOD, all that has entered the
- * reach and those above it as if nothing had decayed, less what takes draw off, so a river can be refused with
- * 10 though BOD at the head would be far lower. 7, 8, 10 and 13 go by the flow before the reach's own take, 11 and
- * 14 by the flow after it. 14 tests what the bed uses on the way, whether or not air makes up for it. The script
- * `run` takes its reasons from these lines.
+ * What a number means; 1 to 6 are refusals of reading. 10 tests the undecayed BOD, nitrogenous BOD included: all
+ * that has entered the reach and those above it as if nothing had decayed, less what takes draw off, so a river can
+ * be refused with 10 though BOD at the head would be far lower. 7, 8, 10 and 13 go by the flow before the reach's own
+ * take, 11 and 14 by the flow after it. 14 tests what the bed uses on the way, whether or not air makes up for it. The
+ * script `run` takes its reasons from these lines.
  */
 static inline const char *xylandreo_reason(uint32_t number)
 {
@@ -94,7 +104,7 @@ static inline const char *xylandreo_reason(uint32_t number)
         "the reach has no flow",
         "the flow is above 100,000,000 L/s",
         "a dam without feeders, or one that generates with more than the flow from above",
-        "all BOD that entered down to here and was not drawn off, undecayed, is above 1,000 mg/L of the flow",
+        "all BOD of both kinds that entered down to here and was not drawn off, undecayed, is above 1,000 mg/L",
         "the reach is too long for its rates and must be split",
         "the buffer is too short",
         "the take is not below the flow at the head",
@@ -155,6 +165,12 @@ static const struct xylandreo_kind xylandreo_kinds[] = {
     }},
     {"SD", XYLANDREO_SD_BYTES, 1, {
         {"sludge demand", 2, 2, 0, 65535, "thousandths of mg/L a day"},
+    }},
+    {"NT", XYLANDREO_NT_BYTES, 1, {
+        {"kn", 2, 2, 0, 20000, "thousandths per day"},
+        {"inflow nitrogenous BOD", 4, 4, 0, 1000000, "thousandths of mg/L"},
+        {"nitrogenous load", 8, 4, 0, 4294967295u, "mg/s"},
+        {"last number", 12, 4, 0, 0, ""},
     }},
 };
 
@@ -251,7 +267,7 @@ static inline struct xylandreo_fault xylandreo_fault_of(const uint8_t *file, siz
 }
 
 /*
- * One record of a report, XYLANDREO_RECORD bytes, whole numbers high byte first:
+ * What a report has for a reach, xylandreo_record_size(..) bytes, whole numbers high byte first:
  *
  *   at  bytes
  *    0    2   mark, "RP"
@@ -264,8 +280,14 @@ static inline struct xylandreo_fault xylandreo_fault_of(const uint8_t *file, siz
  *   21    4   lowest oxygen, two's complement
  *   25    4   oxygen at the foot, two's complement
  *
- * Concentrations are in units of 0.000001 mg/L. BOD is at most 1,000 mg/L; oxygen may lie below zero, and is from
- * XYLANDREO_MIN_OXYGEN to XYLANDREO_MAX_OXYGEN.
+ * and in the report of a file with an NT record
+ *
+ *   29    2   mark, "RN"
+ *   31    4   nitrogenous BOD at the head
+ *   35    4   nitrogenous BOD at the foot
+ *
+ * Concentrations are in units of 0.000001 mg/L. BOD and nitrogenous BOD are together at most 1,000 mg/L; oxygen may
+ * lie below zero, and is from XYLANDREO_MIN_OXYGEN to XYLANDREO_MAX_OXYGEN.
  */
 struct xylandreo_record {
     uint8_t depth;
@@ -276,12 +298,14 @@ struct xylandreo_record {
     uint16_t critical_instant;
     int32_t critical_oxygen;
     int32_t foot_oxygen;
+    uint32_t head_nitrogenous; /* both 0 where the report has no RN records */
+    uint32_t foot_nitrogenous;
 };
 
 #define XYLANDREO_UNITS 1000000 /* of one mg/L */
 #define XYLANDREO_INSTANTS 1024 /* of the travel time of a reach */
 
-/* Bounds of all reported figures, in units: BOD from 0, and oxygen. */
+/* Bounds of all reported figures, in units: BOD and nitrogenous BOD together, from 0, and oxygen. */
 #define XYLANDREO_MAX_BOD 1000000000
 #define XYLANDREO_MIN_OXYGEN (-1640000384)
 #define XYLANDREO_MAX_OXYGEN 20000128
@@ -299,10 +323,14 @@ static inline int32_t xylandreo_signed(const uint8_t *p)
     return value < 0x80000000u ? (int32_t)value : -(int32_t)(0xffffffffu - value) - 1;
 }
 
-/* The record of a reach, counted from 1, in a report whose result was 0. */
-static inline struct xylandreo_record xylandreo_record_of(const uint8_t *report, uint32_t reach)
+/*
+ * What a report whose result was 0 has for a reach, counted from 1. The size is xylandreo_record_size(..) of its
+ * file.
+ */
+static inline struct xylandreo_record xylandreo_record_of(const uint8_t *report, uint32_t size, uint32_t reach)
 {
-    const uint8_t *p = report + (size_t)(reach - 1) * XYLANDREO_RECORD;
+    const uint8_t *p = report + (size_t)(reach - 1) * size;
+    int nitrogenous = size > XYLANDREO_RECORD;
     struct xylandreo_record record;
     record.depth = p[2];
     record.flow = xylandreo_unsigned(p + 3);
@@ -312,6 +340,8 @@ static inline struct xylandreo_record xylandreo_record_of(const uint8_t *report,
     record.critical_instant = (uint16_t)(p[19] << 8 | p[20]);
     record.critical_oxygen = xylandreo_signed(p + 21);
     record.foot_oxygen = xylandreo_signed(p + 25);
+    record.head_nitrogenous = nitrogenous ? xylandreo_unsigned(p + 31) : 0;
+    record.foot_nitrogenous = nitrogenous ? xylandreo_unsigned(p + 35) : 0;
     return record;
 }
 

@@ -8,10 +8,15 @@ import sys
 
 import reference
 import vectors
-from reference import LONGEST, Card, Dam, Pressure, Refused, River, Sludge, Take
+from reference import LONGEST, Ammonia, Card, Dam, Pressure, Refused, River, Sludge, Take
 
 CRATE = "crates/file_vectors"
-AMOUNTS = "take", "pressure", "sludge"      # the records of one number
+# The fields of a card that hold the records after a reach, with their types and names, and those of one number among them.
+RECORDS = [("dam", "Dam", "dam"), ("take", "Amount", "take"), ("pressure", "Amount", "pressure"), ("sludge", "Amount", "sludge bed"),
+           ("nitrification", "Nitrification", "nitrification")]
+AMOUNTS = [name for name, kind, _ in RECORDS if kind == "Amount"]
+# Functions that make a plain card by its outlet and the first so many of these records, and no others.
+MAKERS = {"plain": 2, "plain_with": 3, "plain_on": 4, "plain_in": 5}
 ROOM = 100              # bytes of the buffer to which a river that was read is written again
 CHAIN_ROOM = LONGEST    # bytes of the buffer for a chain
 
@@ -24,6 +29,7 @@ DM = b"DM\x01\xf4\x00\x00\x03\xe8"
 WD = b"WD\x00\x00\x03\xe8"
 BP = b"BP\x02\xbc"
 SD = b"SD\x0f\xa0"
+NT = b"NT\x01\x2c\x00\x00\x0f\xa0\x00\x00\x00\x05" + bytes(4)
 
 
 def file(*cards):
@@ -49,6 +55,10 @@ def under(pressure, **fields):
 
 def bedded(sludge, **fields):
     return changed(sludge=Sludge(sludge), **fields)
+
+
+def nitrified(*ammonia, **fields):
+    return changed(ammonia=Ammonia(*ammonia), **fields)
 
 
 ONE = file(PLAIN)
@@ -90,6 +100,14 @@ FILES = {
         ONE + SD + BP, TWO[:30] + SD + BP + TWO[30:], ONE + SD + DM, TWO[:30] + SD + WD + TWO[30:], ONE + SD + SD, TWO[:30] + SD + SD + TWO[30:],
         ONE[:4] + SD + ONE[4:], bedded(65535) + b"\x00",
     ],
+    "ammonias": [
+        ONE + b"NT", ONE + SD + NT[:15], ONE + NT[:12], nitrified(20001, 0, 0), nitrified(0, 1000001, 0), nitrified(65535, 4294967295, 4294967295),
+        *(ONE + NT[:byte] + b"\x01" + NT[byte + 1:] for byte in range(12, 16)), ONE + NT[:12] + b"NTNT", TWO[:30] + NT[:15] + b"\xff" + TWO[30:],
+        nitrified(20001, 0, 0, outlet=1), changed(outlet=1) + NT[:15], under(801) + NT[:15], bedded(0, ammonia=Ammonia(20001, 0, 0)),
+        file(FIRST._replace(ammonia=Ammonia(20001, 0, 0)), PLAIN._replace(outlet=1)), file(FIRST, PLAIN._replace(ammonia=Ammonia(0, 1000001, 0))),
+        ONE + NT + SD, TWO[:30] + NT + SD + TWO[30:], ONE + NT + DM, TWO[:30] + NT + WD + TWO[30:], ONE + NT + NT, TWO[:30] + NT + NT + TWO[30:],
+        ONE[:4] + NT + ONE[4:], nitrified(0, 0, 0) + b"\x00",
+    ],
     "trailing": [ONE + b"D", ONE + b"\x00", ONE + ONE[4:], TWO + b"RE", DAMMED + b"M", DAMMED + DM, TWO[:2] + b"\x00\x01" + changed()[4:] + TWO[30:]],
     "lawful": [
         ONE, file(LEAST), file(MOST), TWO, DAMMED, dammed(0, 0), dammed(0, 1), dammed(1000, 100000000), taken(0), taken(100000000),
@@ -100,6 +118,9 @@ FILES = {
         under(500), under(760), dammed(7, 8, pressure=Pressure(634)), file(FIRST, MOST_TAKEN._replace(pressure=Pressure(800))),
         bedded(0), bedded(65535), dammed(7, 8, sludge=Sludge(4000)),
         file(FIRST._replace(sludge=Sludge(1)), MOST._replace(take=Take(1), pressure=Pressure(500), sludge=Sludge(256))),
+        nitrified(0, 0, 0), nitrified(20000, 1000000, 4294967295), nitrified(1, 2, 3, sludge=Sludge(4)), dammed(7, 8, ammonia=Ammonia(300, 4000, 5)),
+        file(FIRST._replace(ammonia=Ammonia(1, 2, 3)), PLAIN._replace(ammonia=Ammonia(256, 65536, 16777216))),
+        file(FIRST, MOST._replace(take=Take(1), pressure=Pressure(500), sludge=Sludge(256), ammonia=Ammonia(257, 66051, 67305985))),
     ],
 }
 
@@ -121,6 +142,11 @@ RIVERS = [
     ([PLAIN._replace(sludge=Sludge(0))], 34), ([PLAIN._replace(sludge=Sludge(0))], 33), ([PLAIN._replace(sludge=Sludge(65536))], 40),
     ([PLAIN._replace(outlet=1, sludge=Sludge(65536))], 40), ([FIRST._replace(sludge=Sludge(4294967295)), PLAIN._replace(outlet=9)], 80),
     ([FIRST._replace(sludge=Sludge(4000)), PLAIN._replace(dam=Dam(1, 2), take=Take(3), pressure=Pressure(800), sludge=Sludge(258))], 82),
+    ([PLAIN._replace(ammonia=Ammonia(0, 0, 0))], 46), ([PLAIN._replace(ammonia=Ammonia(0, 0, 0))], 45), ([PLAIN._replace(ammonia=Ammonia(20001, 0, 0))], 50),
+    ([PLAIN._replace(ammonia=Ammonia(0, 1000001, 0))], 50), ([PLAIN._replace(outlet=1, ammonia=Ammonia(20001, 0, 0))], 50),
+    ([FIRST._replace(ammonia=Ammonia(65535, 0, 0)), PLAIN._replace(outlet=9)], 80),
+    ([FIRST._replace(ammonia=Ammonia(1, 2, 3)), PLAIN._replace(dam=Dam(1, 2), take=Take(3), pressure=Pressure(800), sludge=Sludge(258),
+                                                               ammonia=Ammonia(20000, 1000000, 4294967295))], 110),
 ]
 
 # Chains of so many reaches are written and read again.
@@ -185,10 +211,34 @@ def amount_value(amount):
     return "Amount::Without" if amount is None else f"Amount::Given({amount[0]})"
 
 
+def nitrification_value(ammonia):
+    return "Nitrification::Idle" if ammonia is None else "Nitrification::Nitrifying {{ rate: {}, concentration: {}, load: {} }}".format(*ammonia)
+
+
+def record_values(card):
+    """What a card holds in the fields of the records after a reach."""
+    return [dam_value(card.dam), *(amount_value(getattr(card, name)) for name in AMOUNTS), nitrification_value(card.ammonia)]
+
+
 def card_function(head, card, *given):
     """A function that yields a card, with some of its fields given as parameters of the same name."""
-    fields = reference.reach_values(card)._asdict() | {"dam": dam_value(card.dam)} | {name: amount_value(getattr(card, name)) for name in AMOUNTS}
+    fields = reference.reach_values(card)._asdict() | {name: value for (name, _, _), value in zip(RECORDS, record_values(card))}
     return [f"fn {head} -> Card {{", "Card { " + ", ".join(name if name in given else f"{name}: {value}" for name, value in fields.items()) + " }", "}", ""]
+
+
+def maker_functions():
+    """The functions that make plain cards, each but the first by the one before it."""
+    lines, wider = [], None
+    for made, count in reversed(MAKERS.items()):
+        names, _, words = zip(*RECORDS[:count])
+        head = f"{made}(outlet: u8, {', '.join(f'{name}: {kind}' for name, kind, _ in RECORDS[:count])})"
+        lines += [f"// The plain card with this outlet, {', '.join(words[:-1])} and {words[-1]}."]
+        if wider:
+            lines += [f"fn {head} -> Card {{", f"{wider}(outlet, {', '.join(names)}, {record_values(PLAIN)[count]})", "}", ""]
+        else:
+            lines += card_function(head, PLAIN, "outlet", *names)
+        wider = made
+    return lines
 
 
 def card_statements(name, card):
@@ -197,12 +247,9 @@ def card_statements(name, card):
         return [f"let {name} = most({amount_value(card.take)});"]
     changes = [f"{name}.{field} = {number};" for field, number in reference.reach_values(card)._asdict().items()
                if field != "outlet" and number != getattr(PLAIN, field)]
-    made, records = "plain", [dam_value(card.dam), amount_value(card.take)]
-    if card.pressure or card.sludge:
-        made, records = "plain_with", records + [amount_value(card.pressure)]
-    if card.sludge:
-        made, records = "plain_on", records + [amount_value(card.sludge)]
-    return [f"let {'mut ' if changes else ''}{name} = {made}({card.outlet}, {', '.join(records)});"] + changes
+    values, none = record_values(card), record_values(PLAIN)
+    made, count = next((made, count) for made, count in MAKERS.items() if values[count:] == none[count:])
+    return [f"let {'mut ' if changes else ''}{name} = {made}({card.outlet}, {', '.join(values[:count])});"] + changes
 
 
 def writing(cards, room):
@@ -225,13 +272,7 @@ def source():
     bodies |= functions("rivers", [writing(cards, room) for cards, room in RIVERS], each=4)
     bodies |= functions("counts", [f"many({count});" for count in COUNTS] + ["longest();"], each=7)
     lines = ["// Vectors of the test program, made by tests/file_vectors.py from the reference program.",
-             "use crate::shown::{longest, many, show, wrote, wrote_two};", "use river::card::{Amount, Card, Dam};", "",
-             "// The plain card with this outlet, dam, take, pressure and sludge bed."]
-    lines += card_function("plain_on(outlet: u8, dam: Dam, take: Amount, pressure: Amount, sludge: Amount)", PLAIN, "outlet", "dam", *AMOUNTS)
-    lines += ["// The plain card with this outlet, dam, take and pressure.",
-              "fn plain_with(outlet: u8, dam: Dam, take: Amount, pressure: Amount) -> Card {", "plain_on(outlet, dam, take, pressure, Amount::Without)", "}", ""]
-    lines += ["// The plain card with this outlet, dam and take.", "fn plain(outlet: u8, dam: Dam, take: Amount) -> Card {",
-              "plain_with(outlet, dam, take, Amount::Without)", "}", ""]
+             "use crate::shown::{longest, many, show, wrote, wrote_two};", "use river::card::{Amount, Card, Dam, Nitrification};", ""] + maker_functions()
     lines += ["// The card with the largest numbers in its reach and its dam, and this take."] + card_function("most(take: Amount)", MOST, "take")
     for name, body in bodies.items():
         lines += [f"fn {name}() {{"] + body + ["}", ""]

@@ -8,8 +8,8 @@ import os
 import random
 
 import reference
-from reference import (AFTER_REACH, DAM, HEADER, LONGEST, PRESSURE, REACH, SLUDGE, STANDARD_PRESSURE, TAKE,
-                       Card, Dam, Pressure, Reach, Refused, River, Sludge, Take)
+from reference import (AFTER_REACH, AMMONIA, DAM, HEADER, LONGEST, PRESSURE, REACH, SLUDGE, STANDARD_PRESSURE, TAKE,
+                       Ammonia, Card, Dam, Pressure, Reach, Refused, River, Sludge, Take)
 
 MOST_FLOW = 100_000_000
 MOST_RATE = 20_000
@@ -19,6 +19,7 @@ MOST_OXYGEN = 20_000
 MOST_LOAD = 2 ** 32 - 1
 LEAST_PRESSURE, MOST_PRESSURE = 500, 800
 MOST_SLUDGE = 2 ** 16 - 1
+MOST_AMMONIA = Ammonia(MOST_RATE, MOST_BOD, MOST_LOAD)
 
 
 def pick(rng, most):
@@ -76,7 +77,7 @@ VOLUMES = {
     "zero": lambda rng, most: 0,
 }
 
-# Inflow BOD, inflow oxygen, and the load in hundredths of what check 10 leaves room for.
+# Inflow BOD, inflow oxygen, and the load in hundredths of what check 10 leaves room for; ammonia has a part of both demands.
 WATERS = {
     "any": lambda rng: (pick(rng, MOST_BOD), pick(rng, MOST_OXYGEN), rng.choice((0, 0, 1, 50, 100))),
     "ordinary": lambda rng: (rng.randint(0, 30_000), rng.randint(0, 14_000), rng.choice((0, 0, 1, 3))),
@@ -121,6 +122,23 @@ SLUDGES = {
     "zero": lambda rng, most: Sludge(0),
 }
 
+# The nitrification rate and how much of inflow BOD and load is nitrogenous, in hundredths, or None, for a source or another reach with rates k1 and k2.
+AMMONIAS = {
+    "none": lambda rng, source, k1, k2: None,
+    "some": lambda rng, source, k1, k2: rng.choice((None, (pick(rng, MOST_RATE), rng.randint(0, 100)))),
+    "all": lambda rng, source, k1, k2: (pick(rng, MOST_RATE), rng.randint(0, 100)),
+    "ordinary": lambda rng, source, k1, k2: (rng.randint(50, 600), rng.randint(20, 80)),
+    "of sources": lambda rng, source, k1, k2: (pick(rng, MOST_RATE), rng.randint(20, 100)) if source else None,     # the other reaches carry it
+    "ends": lambda rng, source, k1, k2: (rng.choice((0, 1, k1, k2, MOST_RATE)), rng.choice((0, 1, 99, 100))),
+    "as BOD": lambda rng, source, k1, k2: (k1, 50),
+    "as aeration": lambda rng, source, k1, k2: (k2, 50),
+    "near": lambda rng, source, k1, k2: (min(MOST_RATE, max(0, rng.choice((k1, k2)) + rng.choice((-1, 1)))), 50),
+    "top": lambda rng, source, k1, k2: (MOST_RATE, 50),
+    "alone": lambda rng, source, k1, k2: (pick(rng, MOST_RATE), 100),
+    "kept": lambda rng, source, k1, k2: (0, rng.choice((50, 100))),
+    "zeros": lambda rng, source, k1, k2: (0, 0),
+}
+
 TEMPERATURES = {
     "any": lambda rng: rng.randint(0, 35),
     "ends": lambda rng: rng.choice((0, 35)),
@@ -128,7 +146,7 @@ TEMPERATURES = {
 }
 
 TABLES = {"shape": SHAPES, "flow": FLOWS, "rates": RATES, "volume": VOLUMES, "water": WATERS, "dams": DAMS, "takes": TAKES, "pressures": PRESSURES,
-          "sludges": SLUDGES, "temperature": TEMPERATURES}
+          "sludges": SLUDGES, "ammonias": AMMONIAS, "temperature": TEMPERATURES}
 
 # What a style fixes; the rest is drawn once for a river. "each" draws anew for each reach.
 STYLES = {
@@ -176,7 +194,34 @@ STYLES = {
     "beds below takes": {"sludges": "most", "takes": "all", "volume": "half"},
     "beds at dams": {"sludges": "all", "dams": "all", "pressures": "all", "shape": "near"},
     "foul beds": {"sludges": "most", "water": "foul", "rates": "each", "volume": "long", "shape": "chain"},
-    "no added records": {"dams": "none", "takes": "none", "pressures": "none", "sludges": "none"},
+    "ammonia": {"ammonias": "all", "volume": "half"},
+    "ordinary ammonia": {"ammonias": "ordinary", "flow": "ordinary", "rates": "ordinary", "volume": "any", "water": "ordinary", "dams": "some"},
+    "some ammonia": {"ammonias": "some", "sludges": "some", "dams": "some", "takes": "some", "pressures": "some", "shape": "near"},
+    "ammonia carried": {"ammonias": "of sources", "shape": "near", "volume": "half"},
+    "ammonia carried down a chain": {"ammonias": "of sources", "shape": "chain", "rates": "each"},
+    "ammonia at rate ends": {"ammonias": "ends", "volume": "long", "shape": "chain"},
+    "ammonia at the rate of BOD": {"ammonias": "as BOD", "volume": "long"},
+    "ammonia at the rate of aeration": {"ammonias": "as aeration", "volume": "long"},
+    "ammonia at equal rates": {"ammonias": "as BOD", "rates": "equal", "volume": "half"},
+    "ammonia at near rates": {"ammonias": "near", "rates": "near", "volume": "long", "water": "foul"},
+    "ammonia of the top rate": {"ammonias": "top", "volume": "long", "rates": "each"},
+    "ammonia without aeration": {"ammonias": "all", "rates": "no aeration", "volume": "long"},
+    "ammonia that alone decays": {"ammonias": "alone", "rates": "zero", "volume": "long"},
+    "ammonia and aeration": {"ammonias": "alone", "rates": "no decay", "volume": "half"},
+    "ammonia that does not decay": {"ammonias": "kept", "volume": "half"},
+    "ammonia of zeros": {"ammonias": "zeros"},
+    "ammonia of zeros at rates of 0": {"ammonias": "zeros", "rates": "zero", "volume": "any", "sludges": "none"},
+    "ammonia of zeros over beds": {"ammonias": "zeros", "sludges": "all", "volume": "half"},
+    "ammonia in no volume": {"ammonias": "all", "volume": "zero"},
+    "ammonia below takes": {"ammonias": "all", "takes": "all", "volume": "half"},
+    "ammonia at dams": {"ammonias": "all", "dams": "all", "pressures": "all", "sludges": "none", "shape": "near"},
+    "ammonia over beds": {"ammonias": "all", "sludges": "all", "volume": "half"},
+    "ammonia over beds of most demand": {"ammonias": "ends", "sludges": "most", "rates": "little aeration", "volume": "any", "shape": "chain"},
+    "foul ammonia": {"ammonias": "alone", "water": "foul", "rates": "each", "volume": "long", "shape": "chain"},
+    "foul ammonia and BOD": {"ammonias": "all", "water": "foul", "rates": "each", "volume": "long"},
+    "tiny ammonia": {"ammonias": "all", "flow": "tiny", "volume": "small"},
+    "huge ammonia": {"ammonias": "ends", "flow": "huge", "volume": "long"},
+    "no added records": {"dams": "none", "takes": "none", "pressures": "none", "sludges": "none", "ammonias": "none"},
     "tiny": {"flow": "tiny", "volume": "small"},
     "tiny long": {"flow": "tiny", "volume": "long"},
     "huge": {"flow": "huge", "volume": "long"},
@@ -203,8 +248,8 @@ def size(rng):
 
 
 def drawn_way(rng, name):
-    """A way of a table. Half of all rivers are to have no sludge bed, since a bed widens the allowance of the whole river."""
-    return "none" if name == "sludges" and rng.randrange(2) else rng.choice(list(TABLES[name]))
+    """A way of a table. Half of all rivers are to have no sludge bed, and half no ammonia, since either widens the allowance of the whole river."""
+    return "none" if name in ("sludges", "ammonias") and rng.randrange(2) else rng.choice(list(TABLES[name]))
 
 
 def accepted_river(rng, style, n):
@@ -228,17 +273,27 @@ def lawful_card(rng, fixed, outlet, feeders, room):
     inflow = max(min(way("flow")(rng, not feeders), room), 0 if feeders else 1)
     k1, k2 = way("rates")(rng)
     bod, oxygen, hundredths = way("water")(rng)
-    card = Card(outlet, way("temperature")(rng), k1, k2, 0, inflow, bod, oxygen, 0)
+    ammonia = way("ammonias")(rng, not feeders, k1, k2)
+    card = with_demands(Card(outlet, way("temperature")(rng), k1, k2, 0, inflow, 0, oxygen, 0), ammonia, bod, 0)
     so_far = Reach(0, card._replace(take=way("takes")(rng, Reach(0, card, feeders).Qm)), feeders)
     load = (1_000_000 * so_far.Qm - so_far.Mm) // 1_000 * hundredths // 100
     volume, sludge = volume_and_bed(rng, way("volume"), way("sludges"), so_far)
     dam = way("dams")(rng, so_far.Qu) if feeders else None
-    return so_far.card._replace(load=min(load, MOST_LOAD), volume=volume, dam=dam, pressure=way("pressures")(rng), sludge=sludge)
+    return with_demands(so_far.card._replace(volume=volume, dam=dam, pressure=way("pressures")(rng), sludge=sludge), ammonia, bod, min(load, MOST_LOAD))
+
+
+def with_demands(card, ammonia, bod, load):
+    """A card with so much inflow BOD and load, of both demands together, for a way of ammonia or None."""
+    if ammonia is None:
+        return card._replace(inflow_bod=bod, load=load)
+    kn, hundredths = ammonia
+    part, part_of_load = bod * hundredths // 100, load * hundredths // 100
+    return card._replace(inflow_bod=bod - part, load=load - part_of_load, ammonia=Ammonia(kn, part, part_of_load))
 
 
 def volume_and_bed(rng, volume_way, bed_way, reach):
     """A volume, and a sludge bed or None, that pass checks 11 and 14: either is drawn first, and the other from what it leaves."""
-    longest = min(MOST_VOLUME, 345_600 * reach.Q // max(reach.card.k1, reach.card.k2, 1))
+    longest = min(MOST_VOLUME, 345_600 * reach.Q // max(1, *reach.rates()))
     if rng.randrange(2):
         bed = bed_way(rng, MOST_SLUDGE)
         return volume_way(rng, min(longest, 432_000 * reach.Q // max(1, bed.sludge if bed else 0))), bed
@@ -265,20 +320,39 @@ def dam_limit(past):
     return lambda rng, river, i, reach: reach.feeders and replaced(river, i, dam=Dam(rng.randint(0, 1_000), reach.Qu + past))
 
 
+def with_rate(rng, reach, kn):
+    """Ammonia of a reach with another rate, or now and then none where that is 0."""
+    return None if kn == 0 and rng.randrange(2) else Ammonia(kn, reach.nitrogenous.inflow, reach.nitrogenous.load)
+
+
+def room_for_load(reach):
+    """How much more load check 10 leaves room for."""
+    return (1_000_000 * reach.Qm - reach.Mm) // 1_000
+
+
 def bod_limit(past):
-    """Check 10."""
+    """Check 10, by the load."""
     def change(rng, river, i, reach):
-        load = reach.card.load + (1_000_000 * reach.Qm - reach.Mm) // 1_000 + past
+        load = reach.card.load + room_for_load(reach) + past
         return load <= MOST_LOAD and replaced(river, i, load=load)
     return change
 
 
-def length_limit(rate, other, past):
+def nitrogenous_limit(past):
+    """Check 10, by the nitrogenous load: both demands count."""
+    def change(rng, river, i, reach):
+        load = reach.nitrogenous.load + room_for_load(reach) + past
+        return load <= MOST_LOAD and replaced(river, i, ammonia=Ammonia(*reach.nitrogenous)._replace(nitrogenous_load=load))
+    return change
+
+
+def length_limit(which, past):
     """Check 11 for one of the rates, without a sludge bed, for which the reach may be too long as well."""
     def change(rng, river, i, reach):
         k = rng.randint(1, MOST_RATE)
+        k1, k2, kn = (k if name == which else rng.choice((0, rng.randint(0, k))) for name in ("k1", "k2", "kn"))
         volume = 345_600 * reach.Q // k + past
-        return volume <= MOST_VOLUME and replaced(river, i, **{rate: k, other: rng.randint(0, k)}, volume=volume, sludge=None)
+        return volume <= MOST_VOLUME and replaced(river, i, k1=k1, k2=k2, ammonia=with_rate(rng, reach, kn), volume=volume, sludge=None)
     return change
 
 
@@ -290,18 +364,21 @@ def take_limit(past, **fields):
     return change
 
 
-def length_after_take(past):
-    """Check 11, where the flow before the take would pass."""
+def length_after_take(which, past):
+    """Check 11 for one of the rates, where the flow before the take would pass."""
     def change(rng, river, i, reach):
         k, left = rng.randint(1, MOST_RATE), rng.randint(1, max(1, reach.Qm - 1))
+        k1, kn = (k, 0) if which == "k1" else (0, k)
         volume = 345_600 * left // k + past
-        return left < reach.Qm and volume <= MOST_VOLUME and replaced(river, i, k1=k, k2=0, volume=volume, take=Take(reach.Qm - left), sludge=None)
+        return left < reach.Qm and volume <= MOST_VOLUME and replaced(river, i, k1=k1, k2=0, volume=volume, take=Take(reach.Qm - left), sludge=None,
+                                                                     ammonia=with_rate(rng, reach, kn))
     return change
 
 
-def rates_below(rng, demand):
+def rates_below(rng, reach, demand):
     """Rates with which a reach that is not too long for a bed of this demand passes check 11."""
-    return {"k1": rng.randint(0, min(MOST_RATE, demand // 2)), "k2": rng.randint(0, min(MOST_RATE, demand // 2))}
+    k1, k2, kn = (rng.randint(0, min(MOST_RATE, demand // 2)) for _ in range(3))
+    return {"k1": k1, "k2": k2, "ammonia": with_rate(rng, reach, rng.choice((0, kn)))}
 
 
 def bed_by_volume(past):
@@ -309,7 +386,7 @@ def bed_by_volume(past):
     def change(rng, river, i, reach):
         demand = max(1, pick(rng, MOST_SLUDGE))
         volume = 432_000 * reach.Q // demand + past
-        return volume <= MOST_VOLUME and replaced(river, i, sludge=Sludge(demand), volume=volume, **rates_below(rng, demand))
+        return volume <= MOST_VOLUME and replaced(river, i, sludge=Sludge(demand), volume=volume, **rates_below(rng, reach, demand))
     return change
 
 
@@ -318,7 +395,7 @@ def bed_by_demand(past):
     def change(rng, river, i, reach):
         volume = rng.randint(7 * reach.Q, 6_000 * reach.Q)
         demand = 432_000 * reach.Q // volume + past
-        return volume <= MOST_VOLUME and replaced(river, i, sludge=Sludge(demand), volume=volume, **rates_below(rng, demand))
+        return volume <= MOST_VOLUME and replaced(river, i, sludge=Sludge(demand), volume=volume, **rates_below(rng, reach, demand))
     return change
 
 
@@ -328,7 +405,7 @@ def bed_after_take(past):
         demand, left = rng.randint(1, MOST_SLUDGE), rng.randint(1, max(1, reach.Qm - 1))
         volume = 432_000 * left // demand + past
         return left < reach.Qm and volume <= MOST_VOLUME and replaced(river, i, sludge=Sludge(demand), volume=volume, take=Take(reach.Qm - left),
-                                                                     **rates_below(rng, demand))
+                                                                     **rates_below(rng, reach, demand))
     return change
 
 
@@ -353,17 +430,26 @@ def first_with_cut(rng):
     return Card(2, 20, 0, 0, 0, inflow, MOST_BOD - 1, rng.randint(0, MOST_OXYGEN), load, take=Take(rng.randint(few + 1, inflow - 1)))
 
 
+def first_with_ammonia(rng):
+    """One that brings both demands, of which the take takes its part alike."""
+    first = first_with_take(rng)
+    return first._replace(inflow_bod=first.inflow_bod // 2, ammonia=Ammonia(rng.randint(0, MOST_RATE), rng.randint(0, MOST_BOD // 4), rng.randint(0, 200 * first.inflow)))
+
+
 def bod_below_take(first_reach, past):
-    """Check 10 below a take, to the last digit of M: the second reach brings all the BOD that there is room for."""
+    """Check 10 below a take, to the last digit of M: the second reach brings all the demand that there is room for, the last digits as either."""
     def river(rng):
         first = first_reach(rng)
         above = Reach(1, first, [])
-        room = 1_000_000 * (above.Q + 1) - above.M + past
-        return River([first, Card(0, 20, 0, 0, 0, 1, room % 1_000, rng.randint(0, MOST_OXYGEN), room // 1_000)])
+        load, digits = divmod(1_000_000 * (above.Q + 1) - above.M + past, 1_000)
+        second = Card(0, 20, 0, 0, 0, 1, digits, rng.randint(0, MOST_OXYGEN), load)
+        if rng.randrange(2):
+            second = second._replace(inflow_bod=0, ammonia=Ammonia(rng.randint(0, MOST_RATE), digits, 0))
+        return River([first, second])
     return river
 
 
-BELOW_A_TAKE = {"below a take": first_with_take, "below a cut": first_with_cut}
+BELOW_A_TAKE = {"below a take": first_with_take, "below a cut": first_with_cut, "below a take of both": first_with_ammonia}
 
 
 # Each change is given a river, a reach of it and its flows, and gives a changed river, or a false value where it does not fit.
@@ -371,9 +457,12 @@ ON_A_LIMIT = {
     "on check 8": flow_limit(0),
     "on check 9": dam_limit(0),
     "on check 10": bod_limit(0),
-    "on check 11 k1": length_limit("k1", "k2", 0),
-    "on check 11 k2": length_limit("k2", "k1", 0),
-    "on check 11 after a take": length_after_take(0),
+    "on check 10 nitrogenous": nitrogenous_limit(0),
+    "on check 11 k1": length_limit("k1", 0),
+    "on check 11 k2": length_limit("k2", 0),
+    "on check 11 kn": length_limit("kn", 0),
+    "on check 11 after a take": length_after_take("k1", 0),
+    "on check 11 kn after a take": length_after_take("kn", 0),
     "on check 13": take_limit(0),
     "on check 14 volume": bed_by_volume(0),
     "on check 14 demand": bed_by_demand(0),
@@ -385,9 +474,12 @@ PAST_A_LIMIT = {
     "check 9 no feeders": lambda rng, river, i, reach: not reach.feeders and replaced(river, i, dam=Dam(rng.randint(0, 1_000), 0)),
     "check 9 generating": dam_limit(1),
     "check 10": bod_limit(1),
-    "check 11 k1": length_limit("k1", "k2", 1),
-    "check 11 k2": length_limit("k2", "k1", 1),
-    "check 11 after a take": length_after_take(1),
+    "check 10 nitrogenous": nitrogenous_limit(1),
+    "check 11 k1": length_limit("k1", 1),
+    "check 11 k2": length_limit("k2", 1),
+    "check 11 kn": length_limit("kn", 1),
+    "check 11 after a take": length_after_take("k1", 1),
+    "check 11 kn after a take": length_after_take("kn", 1),
     "check 13": take_limit(1),
     "check 13 one more": take_limit(2),
     "check 14 volume": bed_by_volume(1),
@@ -409,6 +501,12 @@ PAST_A_LIMIT = {
     "check 11 and 14": too_long_for_all(),
     "check 13 and 14": lambda rng, river, i, reach: replaced(river, i, take=Take(reach.Qm), k1=0, k2=0, sludge=Sludge(MOST_SLUDGE), volume=MOST_VOLUME),
     "check 10 and 14": too_long_for_all(load=MOST_LOAD),
+    "check 9 and 10 nitrogenous": lambda rng, river, i, reach: reach.Qm < 4_000_000 and replaced(river, i, dam=Dam(1, MOST_FLOW), ammonia=MOST_AMMONIA),
+    "check 10 nitrogenous and 13": lambda rng, river, i, reach: reach.Qm < 4_000_000 and replaced(river, i, ammonia=MOST_AMMONIA, take=Take(reach.Qm)),
+    "check 10 nitrogenous and 11 kn": lambda rng, river, i, reach: reach.Qm < 4_000_000 and replaced(river, i, ammonia=MOST_AMMONIA, volume=MOST_VOLUME),
+    "check 13 and 11 kn": lambda rng, river, i, reach: replaced(river, i, take=Take(reach.Qm), ammonia=with_rate(rng, reach, MOST_RATE), volume=MOST_VOLUME),
+    "check 11 kn and 14": lambda rng, river, i, reach: reach.Qm < 4_000_000 and replaced(
+        river, i, k1=0, k2=0, ammonia=with_rate(rng, reach, MOST_RATE), sludge=Sludge(MOST_SLUDGE), volume=MOST_VOLUME),
 }
 
 
@@ -431,11 +529,18 @@ def any_reach(rng, n):
     return rng.randint(1, n)
 
 
+# A record of each kind whose numbers change no result.
+WITHOUT_EFFECT = {DAM: Dam(0, 0), TAKE: Take(0), PRESSURE: Pressure(STANDARD_PRESSURE), SLUDGE: Sludge(0), AMMONIA: Ammonia(0, 0, 0)}
+
+
+def with_all_but_dam(card):
+    """A card with every record but a dam: those that it has, and others without effect."""
+    return card._replace(**{kind.name: getattr(card, kind.name) or values for kind, values in WITHOUT_EFFECT.items() if kind is not DAM})
+
+
 def most_reaches(rng):
-    """The longest file that is accepted: 128 reaches, each with a take, a pressure and a bed and each but the first with a dam."""
-    river = accepted_river(rng, "chain", 128)
-    cards = [card._replace(take=card.take or Take(0), pressure=card.pressure or Pressure(STANDARD_PRESSURE), sludge=card.sludge or Sludge(0))
-             for card in river.cards]
+    """The longest file that is accepted: 128 reaches, each with every record, the first without a dam."""
+    cards = [with_all_but_dam(card) for card in accepted_river(rng, "chain", 128).cards]
     return River(cards[:1] + [card._replace(dam=Dam(rng.randint(0, 1_000), 0)) for card in cards[1:]])
 
 
@@ -444,6 +549,13 @@ def lowest_oxygen(rng):
     inflow = rng.randint(1, 20_000)
     first = Card(2, 35, 8, 0, 43_200 * inflow, inflow, MOST_BOD, 0, 0, sludge=Sludge(10))
     return River([first] + [first._replace(outlet=reach + 1 if reach < 128 else 0, inflow=0, inflow_bod=0) for reach in range(2, 129)])
+
+
+def lowest_by_ammonia(rng):
+    """The same, where a part of the BOD is nitrogenous."""
+    first, *others = lowest_oxygen(rng).cards
+    part = rng.randint(0, MOST_BOD)
+    return River([first._replace(inflow_bod=MOST_BOD - part, ammonia=Ammonia(8, part, 0))] + [card._replace(ammonia=Ammonia(8, 0, 0)) for card in others])
 
 
 def longest_file(rng):
@@ -459,8 +571,10 @@ KINDS = (HEADER, REACH) + AFTER_REACH
 
 def base_river(rng):
     """An accepted river with every kind of record on its last reach, and each on some other, so that each is met inside and at the end."""
-    river = replaced(accepted_river(rng, "dams", rng.randint(3, 8)), 2, take=Take(0), pressure=Pressure(STANDARD_PRESSURE), sludge=Sludge(0))
-    return replaced(river, len(river.cards), dam=Dam(rng.randint(0, 1_000), 0), take=Take(0), pressure=Pressure(LEAST_PRESSURE), sludge=Sludge(1), volume=0)
+    river = accepted_river(rng, "dams", rng.randint(3, 8))
+    second, n = with_all_but_dam(river.cards[1]), len(river.cards)
+    river = replaced(river, 2, **{kind.name: values for kind, values in reference.added_records(second)})
+    return replaced(river, n, dam=Dam(rng.randint(0, 1_000), 0), take=Take(0), pressure=Pressure(LEAST_PRESSURE), sludge=Sludge(1), ammonia=Ammonia(1, 0, 0), volume=0)
 
 
 def starts(river):
@@ -510,6 +624,15 @@ def field(kind, which, number):
         if kind is REACH:
             return reference.encode(replaced(river, i, **{which: number}))
         return reference.encode(replaced(river, i, **{kind.name: getattr(river.cards[i - 1], kind.name)._replace(**{which: number})}))
+    return damage
+
+
+def not_zero(k):
+    """One of the bytes of zero at the end of some record of ammonia is another."""
+    def damage(rng, river):
+        at = any_start(rng, river, AMMONIA) + AMMONIA.size - AMMONIA.zeros + k
+        file = reference.encode(river)
+        return file[:at] + bytes([rng.choice((1, 128, rng.randint(1, 255)))]) + file[at + 1:]
     return damage
 
 
@@ -586,7 +709,7 @@ def counts_and_fields():
             for number in sorted({one.lowest - 1, one.highest + 1, reference.most(one.width)}):
                 if 0 <= number <= reference.most(one.width) and not one.lowest <= number <= one.highest:
                     faults[f"field {one.name} {number}"] = field(kind, one.name, number)
-    return faults
+    return faults | {f"zero byte {k} of ammonia": not_zero(k) for k in range(AMMONIA.zeros)}
 
 
 OUTLETS_AND_ENDS = {
@@ -601,10 +724,7 @@ OUTLETS_AND_ENDS = {
     "trailing line end": trailing(lambda rng, file: b"\n"),
     "trailing half mark": trailing(lambda rng, file: rng.choice(KINDS).mark[:1]),
     "trailing mark": trailing(lambda rng, file: rng.choice(KINDS).mark),
-    "trailing dam": trailing(lambda rng, file: DAM.encode(Dam(0, 0))),
-    "trailing take": trailing(lambda rng, file: TAKE.encode(Take(0))),
-    "trailing pressure": trailing(lambda rng, file: PRESSURE.encode(Pressure(STANDARD_PRESSURE))),
-    "trailing bed": trailing(lambda rng, file: SLUDGE.encode(Sludge(0))),
+    **{f"trailing {kind.name}": trailing(lambda rng, file, kind=kind: kind.encode(WITHOUT_EFFECT[kind])) for kind in AFTER_REACH},
     "trailing file": trailing(lambda rng, file: file),
     "trailing to one too many": trailing(lambda rng, file: bytes(LONGEST + 1 - len(file))),
     "trailing long": trailing(lambda rng, file: rng.randbytes(LONGEST + rng.randint(0, 9_000))),
@@ -624,36 +744,30 @@ TWO_FAULTS = {
     "take, then pressure": two_faults((lambda n: n - 1, {"take": Take(100_000_001)}), (lambda n: n, {"pressure": Pressure(0)})),
     "no flow, then pressure": two_faults((lambda n: 1, {"inflow": 0}), (lambda n: n, {"pressure": Pressure(MOST_PRESSURE + 1)})),
     "thick bed, then pressure": two_faults((lambda n: 1, {"sludge": Sludge(MOST_SLUDGE), "volume": MOST_VOLUME}), (lambda n: n, {"pressure": Pressure(0)})),
+    "outlet and ammonia": two_faults((lambda n: n, {"outlet": 1, "ammonia": Ammonia(MOST_RATE + 1, 0, 0)})),
+    "ammonia, then outlet": two_faults((lambda n: 1, {"ammonia": Ammonia(0, MOST_BOD + 1, 0)}), (lambda n: 2, {"outlet": 0})),
+    "pressure, then ammonia": two_faults((lambda n: n - 1, {"pressure": Pressure(0)}), (lambda n: n, {"ammonia": Ammonia(MOST_RATE + 1, 0, 0)})),
+    "foul, then ammonia": two_faults((lambda n: 1, {"load": MOST_LOAD}), (lambda n: n, {"ammonia": Ammonia(MOST_RATE + 1, 0, 0)})),
     "no flow, then field": two_faults((lambda n: 1, {"inflow": 0}), (lambda n: n, {"volume": 1_000_000_001})),
 }
 
-NOT_DUE = {
-    "take before dam": moved_up(TAKE, DAM),
-    "pressure before take": moved_up(PRESSURE, TAKE),
-    "pressure before dam": moved_up(PRESSURE, DAM),
-    "pressure twice": inserted((PRESSURE, True), PRESSURE.encode(Pressure(LEAST_PRESSURE))),
-    "take after pressure": inserted((PRESSURE, True), TAKE.encode(Take(1))),
-    "pressure before reach": inserted((HEADER, True), PRESSURE.encode(Pressure(MOST_PRESSURE))),
-    "bed before pressure": moved_up(SLUDGE, PRESSURE),
-    "bed before take": moved_up(SLUDGE, TAKE),
-    "bed before dam": moved_up(SLUDGE, DAM),
-    "bed twice": inserted((SLUDGE, True), SLUDGE.encode(Sludge(MOST_SLUDGE))),
-    "pressure after bed": inserted((SLUDGE, True), PRESSURE.encode(Pressure(LEAST_PRESSURE))),
-    "bed before reach": inserted((HEADER, True), SLUDGE.encode(Sludge(1))),
-    "take twice": inserted((TAKE, True), TAKE.encode(Take(1))),
-    "dam twice": inserted((DAM, True), DAM.encode(Dam(1, 1))),
-    "dam after take": inserted((TAKE, True), DAM.encode(Dam(1, 1))),
-    "take before reach": inserted((HEADER, True), TAKE.encode(Take(1))),
-    "take before header": inserted((HEADER, False), TAKE.encode(Take(1))),
-    "unknown record": inserted((TAKE, True), b"XX\0\0\0\1"),
-}
+def not_due():
+    """Records where they are not due: before one that is due earlier, twice, behind one that is due later, before a reach and before the header."""
+    faults = {}
+    for k, kind in enumerate(AFTER_REACH):
+        record = kind.encode(WITHOUT_EFFECT[kind])
+        faults |= {f"{kind.name} before {earlier.name}": moved_up(kind, earlier) for earlier in AFTER_REACH[:k]}
+        faults |= {f"{kind.name} after {later.name}": inserted((later, True), record) for later in AFTER_REACH[k + 1:]}
+        faults |= {f"{kind.name} twice": inserted((kind, True), record), f"{kind.name} before reach": inserted((HEADER, True), record)}
+    return faults | {"take before header": inserted((HEADER, False), TAKE.encode(Take(1))), "unknown record": inserted((TAKE, True), b"XX\0\0\0\1")}
+
 
 NOISE = {"flipped 1": flipped, "flipped 2": flipped, "flipped 3": flipped, "noise 1": noise, "noise 2": noise}
 
 
 def reading_faults():
     """The kinds of files that reading refuses (the flipped ones mostly)."""
-    return cut_and_marked() | counts_and_fields() | OUTLETS_AND_ENDS | TWO_FAULTS | NOT_DUE | NOISE
+    return cut_and_marked() | counts_and_fields() | OUTLETS_AND_ENDS | TWO_FAULTS | not_due() | NOISE
 
 
 # ---- Files in turn
@@ -671,7 +785,7 @@ def accepted_kinds():
     kinds = {style: lambda rng, style=style: accepted_river(rng, style, size(rng)) for style in STYLES}
     kinds |= {name: lambda rng, change=change: changed_river(rng, change, last) for name, change in ON_A_LIMIT.items()}
     kinds |= {f"on check 10 {name}": bod_below_take(first, 0) for name, first in BELOW_A_TAKE.items()}
-    kinds |= {"most reaches": most_reaches, "lowest oxygen": lowest_oxygen}
+    kinds |= {"most reaches": most_reaches, "lowest oxygen": lowest_oxygen, "lowest oxygen by ammonia": lowest_by_ammonia}
     return {name: lambda rng, make=make: reference.encode(make(rng)) for name, make in kinds.items()}
 
 

@@ -9,15 +9,16 @@ import sys
 
 import reference
 import vectors
-from reference import Card, Dam, Pressure, Refused, River, Sludge, Take
+from reference import Ammonia, Card, Dam, Pressure, Refused, River, Sludge, Take
 
 CRATE = "crates/head_vectors"
 OFFSET = 2 ** 31        # the program holds oxygen as units + 2^31
 
 
-def card(outlet, temperature=20, k1=0, k2=0, volume=1000, inflow=3000, bod=2000, oxygen=8000, load=0, dam=None, take=None, pressure=None, sludge=None):
+def card(outlet, temperature=20, k1=0, k2=0, volume=1000, inflow=3000, bod=2000, oxygen=8000, load=0, dam=None, take=None, pressure=None, sludge=None,
+         ammonia=None):
     return Card(outlet, temperature, k1, k2, volume, inflow, bod, oxygen, load, Dam(*dam) if dam else None, None if take is None else Take(take),
-                Pressure(pressure) if pressure else None, None if sludge is None else Sludge(sludge))
+                Pressure(pressure) if pressure else None, None if sludge is None else Sludge(sludge), Ammonia(*ammonia) if ammonia else None)
 
 
 def two(dam=None, above=None, **more):
@@ -34,6 +35,11 @@ def confluence(first=None, second=None):
         card(6, 0, 1, 2, 3, 4, 5, 6, 3),
         card(0, 23, 250, 700, 1000000, 5000, 3000, 4000, 1000),
     ]
+
+
+def nitrifying(cards, ammonias):
+    """Some of the cards get ammonia: its values by the number of the reach."""
+    return [card._replace(ammonia=Ammonia(*ammonias[reach])) if reach in ammonias else card for reach, card in enumerate(cards, 1)]
 
 
 def dams():
@@ -78,8 +84,22 @@ GROUPS = {
         ([card(0, inflow=10001, volume=4320000, sludge=1000, take=1)], LEVEL, 0),
         ([card(0, inflow=100000000, volume=1000000000, sludge=43200)], LEVEL, 0),
     ],
+    "ammonias": [
+        (nitrifying(two(), {1: (300, 4000, 5)}), LEVEL, 0),
+        (nitrifying(two(), {2: (300, 4000, 5)}), LEVEL, 0),
+        (nitrifying(two(), {1: (0, 0, 0)}), LEVEL, 0),
+        (nitrifying(two(above=1000, take=1), {1: (20000, 4001, 0), 2: (0, 0, 7)}), LEVEL, 0),
+        (nitrifying(two((500, 1000), take=999, pressure=700, sludge=65535), {1: (1, 2, 3), 2: (256, 65537, 66051)}), LEVEL, 0),
+        ([card(3, ammonia=(500, 8000, 11)), card(3, inflow=700), card(4, inflow=0, take=1234), card(0, inflow=1)], LEVEL, 0),
+        ([card(2, inflow=1, bod=499999, ammonia=(0, 500000, 0)), card(3, inflow=2, bod=0, take=2, ammonia=(0, 1000000, 0)),
+          card(0, inflow=5, bod=1000000)], LEVEL, 0),
+    ],
     "confluences": [(confluence(), LEVEL, 12345), (confluence(), HIGH, 1), (confluence(), LOW, 1234567)],
     "confluences_taken": [(confluence(333, 1), LOW, 1234567)],
+    "confluences_nitrifying": [
+        (nitrifying(confluence(), {2: (900, 12345, 0), 3: (0, 999999, 67)}), LEVEL, 12345),
+        (nitrifying(confluence(333, 1), {1: (300, 4000, 5), 5: (2, 65536, 2), 6: (20, 1, 1)}), LOW, 1234567),
+    ],
     "dams_level": [(dams(), LEVEL, 54321)],
     "dams_high": [(dams(), HIGH, 3)],
     "dams_low": [(dams(), LOW, 777777)],
@@ -124,21 +144,52 @@ GROUPS = {
         ([card(0, inflow=10000, k2=1000, volume=4320001, sludge=1000)], LEVEL, 0),
         ([card(2, volume=1000000000, sludge=65535), card(0, inflow=100000000)], LEVEL, 0),
     ],
+    "refusals_10_by_both": [
+        ([card(0, inflow=1, bod=600000, ammonia=(0, 400000, 0))], LEVEL, 0),
+        ([card(0, inflow=1, bod=600000, ammonia=(0, 400001, 0))], LEVEL, 0),
+        ([card(0, inflow=1, bod=600000, ammonia=(0, 399000, 1))], LEVEL, 0),
+        ([card(0, inflow=1, bod=600001, ammonia=(0, 399000, 1))], LEVEL, 0),
+        ([card(0, inflow=100000000, bod=500000, load=4294967295, ammonia=(0, 414100, 4294967295))], LEVEL, 0),
+        ([card(0, inflow=100000000, bod=999999, ammonia=(0, 0, 100000))], LEVEL, 0),
+        ([card(0, inflow=100000000, bod=999999, ammonia=(0, 0, 100001))], LEVEL, 0),
+    ],
+    "refusals_10_from_above": [
+        ([card(2, inflow=1, bod=0, ammonia=(0, 1000000, 0)), card(0, inflow=0)], LEVEL, 0),
+        ([card(2, inflow=1, bod=0, ammonia=(0, 1000000, 0)), card(0, inflow=0, load=1)], LEVEL, 0),
+        ([card(2, inflow=1, bod=1000000), card(0, inflow=0, ammonia=(0, 1000000, 1))], LEVEL, 0),
+        ([card(0, inflow=1, volume=1000000000, take=1, ammonia=(20000, 1000000, 4294967295))], LEVEL, 0),
+    ],
+    "refusals_11_by_ammonia": [
+        ([card(0, inflow=10000, volume=3456000, ammonia=(1000, 0, 0))], LEVEL, 0),
+        ([card(0, inflow=10000, volume=3456001, ammonia=(1000, 0, 0))], LEVEL, 0),
+        ([card(0, inflow=10000, volume=3456000, ammonia=(1001, 0, 0))], LEVEL, 0),
+        ([card(0, inflow=10000, volume=3456000, take=1, ammonia=(1000, 0, 0))], LEVEL, 0),
+        ([card(0, inflow=10000, k1=1000, k2=1000, volume=3456000, ammonia=(1000, 0, 0))], LEVEL, 0),
+        ([card(0, inflow=10000, k1=1001, volume=3456000, ammonia=(1000, 0, 0))], LEVEL, 0),
+        ([card(2, ammonia=(1, 1, 1)), card(0, volume=1000000000, ammonia=(20000, 0, 0))], LEVEL, 0),
+    ],
+    "refusals_with_ammonia": [
+        ([card(0, inflow=10000, volume=4320001, sludge=1000, ammonia=(1000, 0, 0))], LEVEL, 0),
+        ([card(0, inflow=10000, volume=4320001, sludge=1000, ammonia=(1, 0, 0))], LEVEL, 0),
+        ([card(0, inflow=10000, volume=4320000, sludge=1000, ammonia=(800, 0, 0))], LEVEL, 0),
+        (two(take=4000, volume=1000000000, ammonia=(20000, 0, 0)), LEVEL, 0),
+        (two((500, 3001), ammonia=(0, 1000000, 4294967295)), LEVEL, 0),
+    ],
 }
 MADE = [(made(False), 2155483648, 1000), (made(True), 2147000000, 12345)]
 
 
 def lines(cards, first, step):
-    """What the program prints: a foot has seven eighths of the head's BOD, rounded up, and the oxygen given."""
+    """What the program prints: a foot has seven eighths of each demand at the head, rounded up, and the oxygen given."""
     reaches = reference.answer(reference.flows, River(cards))
     if isinstance(reaches, Refused):
         return [reaches.line()]
     feet, result = {}, []
     for reach in reaches:
-        above = [(feeder.Q, *feet[feeder.number]) for feeder in reach.feeders]
-        bod, oxygen = reference.head(reach, sum(Q * foot for Q, foot, _ in above), sum(Q * foot for Q, _, foot in above), math.floor)
-        result.append(f"{reach.number} {reach.depth} {reach.Q} {reach.M} {bod} {oxygen}")
-        feet[reach.number] = bod - bod // 8, (first + step * (reach.number - 1)) % 2 ** 32 - OFFSET
+        sums = [sum(feeder.Q * feet[feeder.number][figure] for feeder in reach.feeders) for figure in range(3)]
+        bod, oxygen, nitrogenous = reference.head_figures(reach, *sums, math.floor)
+        result.append(f"{reach.number} {reach.depth} {reach.Q} {reach.M} {bod} {nitrogenous} {oxygen}")
+        feet[reach.number] = bod - bod // 8, (first + step * (reach.number - 1)) % 2 ** 32 - OFFSET, nitrogenous - nitrogenous // 8
     return result
 
 

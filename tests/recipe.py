@@ -14,6 +14,7 @@ import reference
 from reference import INSTANTS, Record, Refused
 
 ONE = 2 ** 44           # a share of 1
+UNIT_PARTS = 2 ** 14    # nitrogenous BOD is stepped in parts of a unit
 MOST_TERMS = 4          # of a step's series
 DAY_STEPS = 86_400 * INSTANTS
 
@@ -24,7 +25,7 @@ def product(a, b):
 
 
 def exponent(rate, reach):
-    """x1 or x2 of one instant."""
+    """x1, xn or x2 of one instant."""
     return rate * reach.card.volume * ONE // (DAY_STEPS * reach.Q)
 
 
@@ -37,11 +38,12 @@ def series(y, z):
     return total
 
 
-def shares(reach):
-    """For each instant the shares of BOD left, of BOD turned to deficit and of the deficit kept."""
-    y, z = exponent(reach.card.k1, reach), exponent(reach.card.k2, reach)
+def shares(reach, rate, start=ONE):
+    """For each instant what is left of a demand with this rate that starts with so many parts, what of it has turned to deficit, and the share of
+    the deficit kept."""
+    y, z = exponent(rate, reach), exponent(reach.card.k2, reach)
     lost, used, filled = series(y, 0), series(y, z), series(z, 0)
-    left, turned, kept = ONE, 0, ONE
+    left, turned, kept = start, 0, ONE
     yield left, turned, kept
     for _ in range(INSTANTS):
         left, turned, kept = left - product(left, lost), turned - product(turned, filled) + product(left, used), kept - product(kept, filled)
@@ -56,34 +58,33 @@ def bed_numbers(reach):
 
 
 def oxygen_with(reach, turned, kept, L, C):
-    """Oxygen by these shares, without the bed."""
+    """Oxygen by these shares of BOD and deficit alone."""
     Cs = math.floor(reach.saturation)
     if C <= Cs:
         return Cs - product(turned, L) - product(kept, Cs - C)
     return C - product(turned, L) - product(ONE - kept, C - Cs)
 
 
-def oxygen_values(reach, steps, L, C):
-    """Oxygen at each instant."""
+def oxygen_values(reach, steps, steps_n, L, C):
+    """Oxygen at each instant, by the shares of BOD and the parts of nitrogenous BOD."""
     in_the_end, fall = bed_numbers(reach)
-    return [oxygen_with(reach, turned, kept, L, C) - product(ONE - kept, in_the_end) - fall * m // INSTANTS
-            for m, (_, turned, kept) in enumerate(steps)]
+    return [oxygen_with(reach, turned, kept, L, C) - turned_n // UNIT_PARTS - product(ONE - kept, in_the_end) - fall * m // INSTANTS
+            for m, ((_, turned, kept), (_, turned_n, _)) in enumerate(zip(steps, steps_n))]
 
 
-def record_of(reach, L, C):
-    """The record of a reach with this BOD and oxygen at its head."""
-    steps = list(shares(reach))
-    values = oxygen_values(reach, steps, L, C)
-    return Record(reach.depth, reach.Q, L, product(steps[-1][0], L), C, values.index(min(values)), min(values), values[-1])
+def record_of(reach, L, C, Ln):
+    """The record of a reach with this BOD, oxygen and nitrogenous BOD at its head."""
+    bod, nitrogenous = reach.demands
+    steps, steps_n = list(shares(reach, bod.rate)), list(shares(reach, nitrogenous.rate, UNIT_PARTS * Ln))
+    values = oxygen_values(reach, steps, steps_n, L, C)
+    return Record(reach.depth, reach.Q, L, product(steps[-1][0], L), C, values.index(min(values)), min(values), values[-1], Ln, steps_n[-1][0] // UNIT_PARTS)
 
 
 def records_of(reaches):
     """The records of an accepted river."""
     records = []
     for reach in reaches:
-        above = [(feeder.Q, records[feeder.number - 1]) for feeder in reach.feeders]
-        sums = sum(Q * record.foot_bod for Q, record in above), sum(Q * record.foot_oxygen for Q, record in above)
-        records.append(record_of(reach, *reference.head(reach, *sums, math.floor)))
+        records.append(record_of(reach, *reference.head_over(reach, records)))
     return records
 
 
@@ -92,7 +93,7 @@ def report(file):
     reaches = reference.answer(reference.accept, file)
     if isinstance(reaches, Refused):
         return reaches.line() + "\n"
-    return "".join(" ".join(map(str, (reach, *record))) + "\n" for reach, record in enumerate(records_of(reaches), 1))
+    return reference.report_text(reaches, records_of(reaches))
 
 
 def main():

@@ -21,9 +21,10 @@ from collections import namedtuple
 from fractions import Fraction
 
 INSTANTS = 1_024
-SERIES = (40, 41)       # the sums S(x) of all longer series lie between those of these two
-UNITS_A_STEP = 100      # the allowance for each step of depth, in units
-UNITS_WITH_BEDS = 150   # the same in a river whose file has a sludge bed
+SERIES = (40, 41)           # the sums S(x) of all longer series lie between those of these two
+UNITS_A_STEP = 100          # the allowance for each step of depth, in units
+UNITS_WITH_BEDS = 150       # the same in a river whose file has a sludge bed, of demand 0 too
+UNITS_WITH_AMMONIA = 200    # the same in a river whose file has ammonia, of zeros too, beds or none
 STANDARD_PRESSURE = 760     # mm of mercury, that of a reach without the record
 
 
@@ -38,12 +39,12 @@ def most(width):
 
 
 class Kind:
-    """A kind of record: its mark, its name and its fields."""
+    """A kind of record: its mark, its name, its fields, and how many bytes of zero end it."""
 
-    def __init__(self, mark, name, *fields):
-        self.mark, self.name = mark.encode(), name
+    def __init__(self, mark, name, *fields, zeros=0):
+        self.mark, self.name, self.zeros = mark.encode(), name, zeros
         self.fields = [Field(*field) for field in fields]
-        self.size = 2 + sum(field.width for field in self.fields)
+        self.size = 2 + sum(field.width for field in self.fields) + zeros
         self.values = namedtuple(name, [field.name for field in self.fields])
 
     def decode(self, data):
@@ -56,7 +57,7 @@ class Kind:
 
     def encode(self, values):
         """The bytes of a record. A number that its field cannot hold is an OverflowError."""
-        return self.mark + b"".join(number.to_bytes(field.width, "big") for field, number in zip(self.fields, values))
+        return self.mark + b"".join(number.to_bytes(field.width, "big") for field, number in zip(self.fields, values)) + bytes(self.zeros)
 
     def outside(self, values):
         """The fields whose number is out of range, with that number."""
@@ -84,13 +85,17 @@ PRESSURE = Kind("BP", "pressure",
                 ("pressure", 2, 500, 800, "air pressure as it is at the reach, not reduced to sea level, for its saturation, mm of mercury; 760 without it"))
 SLUDGE = Kind("SD", "sludge",
               ("sludge", 2, 0, most(2), "oxygen demand of the sludge bed, thousandths of mg/L a day; 0 without it"))
-AFTER_REACH = (DAM, TAKE, PRESSURE, SLUDGE)     # the records that may follow a reach, in this order, at most one of a kind
+AMMONIA = Kind("NT", "ammonia",
+               ("kn", 2, 0, 20_000, "nitrification rate, thousandths per day; 0 without it"),
+               ("inflow_nitrogenous_bod", 4, 0, 1_000_000, "nitrogenous BOD of the inflow, thousandths of mg/L; 0 without it"),
+               ("nitrogenous_load", 4, 0, most(4), "nitrogenous BOD that joins without water, milligrams a second; 0 without it"), zeros=4)
+AFTER_REACH = (DAM, TAKE, PRESSURE, SLUDGE, AMMONIA)    # the records that may follow a reach, in this order, at most one of a kind
 
 LONGEST = HEADER.size + 128 * (REACH.size + sum(kind.size for kind in AFTER_REACH))
 
 # A card has the numbers of its reach, and for each kind of record after it the values or None.
 Card = namedtuple("Card", [field.name for field in REACH.fields] + [kind.name for kind in AFTER_REACH], defaults=[None] * len(AFTER_REACH))
-Dam, Take, Pressure, Sludge = DAM.values, TAKE.values, PRESSURE.values, SLUDGE.values
+Dam, Take, Pressure, Sludge, Ammonia = (kind.values for kind in AFTER_REACH)
 River = namedtuple("River", "cards")
 
 
@@ -171,18 +176,21 @@ class Reader:
         return self.file[self.at:self.at + 2] == kind.mark
 
     def record(self, kind, reach):
-        """The values of the next record, which is to be of this kind: checks 1 and 2."""
+        """The values of the next record, which is to be of this kind: checks 1 and 2, and check 4 of its bytes of zero, which no value holds."""
         mark = kind.mark.decode()
         if self.remaining() < kind.size:
             raise Refused(1, reach, f"byte {self.at}: {mark} needs {kind.size} bytes, and there are {self.remaining()}")
         if not self.follows(kind):
             raise Refused(2, reach, f"byte {self.at}: {self.file[self.at:self.at + 2]} stands where the mark {mark} is due")
+        data = self.file[self.at:self.at + kind.size]
+        if any(data[kind.size - kind.zeros:]):
+            raise Refused(4, reach, f"byte {self.at}: the last {counted(kind.zeros, 'byte')} of {mark} are not zero")
         self.at += kind.size
-        return kind.decode(self.file[self.at - kind.size:self.at])
+        return kind.decode(data)
 
 
 def read(file, ranges=True):
-    """The river of a file. Without `ranges` only the structure is checked: 1, 2 and 6."""
+    """The river of a file. Without `ranges` only the structure is checked: 1, 2, 6 and bytes of zero."""
     reader = Reader(file)
     count = reader.record(HEADER, 0).count
     if ranges:
@@ -205,6 +213,11 @@ def read(file, ranges=True):
     return River(cards)
 
 
+def has_record(river, kind):
+    """Whether the file of a river has a record of this kind, of zeros too."""
+    return any(getattr(card, kind.name) is not None for card in river.cards)
+
+
 def write(river, room):
     """The file of a river, for a buffer of `room` bytes."""
     count = len(river.cards)
@@ -222,6 +235,10 @@ def write(river, room):
 
 # ---- Flows and depth
 
+# A demand of a reach, BOD or nitrogenous BOD: its rate, and what its inflow and its load bring.
+Demand = namedtuple("Demand", "rate inflow load")
+
+
 class Reach:
     """A reach with its feeders and what flows in it: Qm and Mm at its head, mixed, and Q and M from there on, after its take."""
 
@@ -229,9 +246,12 @@ class Reach:
         self.number, self.card, self.feeders = number, card, feeders
         self.take = 0 if card.take is None else card.take.take
         self.sludge = 0 if card.sludge is None else card.sludge.sludge
+        self.bod = Demand(card.k1, card.inflow_bod, card.load)
+        self.nitrogenous = Demand(0, 0, 0) if card.ammonia is None else Demand(*card.ammonia)
+        self.demands = self.bod, self.nitrogenous
         self.Qu = sum(feeder.Q for feeder in feeders)
         self.Qm = self.Qu + card.inflow
-        self.Mm = sum(feeder.M for feeder in feeders) + card.inflow * card.inflow_bod + 1_000 * card.load
+        self.Mm = sum(feeder.M for feeder in feeders) + sum(card.inflow * demand.inflow + 1_000 * demand.load for demand in self.demands)
         self.Q = self.Qm - self.take
         self.depth = 1 + max((feeder.depth for feeder in feeders), default=0)
         self.allowance = units * self.depth
@@ -242,11 +262,15 @@ class Reach:
         """Of a reach that passes the flow check, since it divides by Qm."""
         return min(self.Mm - self.take * (self.Mm // self.Qm), 1_000_000 * self.Q)
 
-    def keeps_bod(self):
-        return self.card.k1 == 0 or self.card.volume == 0
+    def keeps(self, demand):
+        return demand.rate == 0 or self.card.volume == 0
+
+    def rates(self):
+        """k1, kn and k2."""
+        return *(demand.rate for demand in self.demands), self.card.k2
 
     def keeps_oxygen(self):
-        return self.card.k1 == self.card.k2 == self.sludge == 0 or self.card.volume == 0
+        return not any(self.rates()) and self.sludge == 0 or self.card.volume == 0
 
 
 def flow_check(reach):
@@ -258,15 +282,15 @@ def flow_check(reach):
             (9, dam is not None and (not reach.feeders or dam.generating > reach.Qu), f"the dam has {reach.Qu} from above"),
             (10, reach.Mm > 1_000_000 * reach.Qm, f"M is {reach.Mm} at a flow of {reach.Qm}"),
             (13, reach.take >= reach.Qm, f"the take is {reach.take} of a flow of {reach.Qm}"),
-            (11, max(card.k1, card.k2) * card.volume > 345_600 * reach.Q, f"the reach is too long for a flow of {reach.Q}"),
+            (11, max(reach.rates()) * card.volume > 345_600 * reach.Q, f"the reach is too long for a flow of {reach.Q}"),
             (14, reach.sludge * card.volume > 432_000 * reach.Q, f"the sludge bed is too large for a flow of {reach.Q}")):
         if broken:
             raise Refused(number, reach.number, why)
 
 
 def step_units(river):
-    """The allowance for each step of depth in a river: a bed that uses no oxygen counts too."""
-    return UNITS_A_STEP if all(card.sludge is None for card in river.cards) else UNITS_WITH_BEDS
+    """The allowance for each step of depth in a river."""
+    return UNITS_WITH_AMMONIA if has_record(river, AMMONIA) else UNITS_WITH_BEDS if has_record(river, SLUDGE) else UNITS_A_STEP
 
 
 def flows(river):
@@ -296,31 +320,46 @@ def exactly(figure):
     return figure
 
 
-def upstream(reach, bod_sum, oxygen_sum, rounded):
-    """Steps 1 and 2: BOD and oxygen of the water from above, below the dam. The sums are those of Q × foot value over the feeders;
-    `rounded` is math.floor or `exactly`."""
-    Qu, dam = reach.Qu, reach.card.dam
-    if not reach.feeders:
-        return 0, 0
-    bod, C = rounded(bod_sum * Fraction(1, Qu)), rounded(oxygen_sum * Fraction(1, Qu))
-    if dam is not None:
-        C = rounded(C + (rounded(reach.saturation) - C) * Fraction(dam.share * (Qu - dam.generating), 1_000 * Qu))
-    return bod, C
+def upstream(reach, foot_sum, rounded):
+    """Step 1: the mean of a figure over the feeders' feet. The sum is that of Q × foot value over them; `rounded` is math.floor or `exactly`."""
+    return rounded(foot_sum * Fraction(1, reach.Qu)) if reach.feeders else 0
+
+
+def below_dam(reach, oxygen_sum, rounded):
+    """Steps 1 and 2: oxygen of the water from above, below the dam."""
+    Qu, dam, C = reach.Qu, reach.card.dam, upstream(reach, oxygen_sum, rounded)
+    if dam is None or not reach.feeders:
+        return C
+    return rounded(C + (rounded(reach.saturation) - C) * Fraction(dam.share * (Qu - dam.generating), 1_000 * Qu))
+
+
+def head_demand(reach, demand, foot_sum, rounded):
+    """Step 3: BOD or nitrogenous BOD at the head, mixed. The take leaves it as it is."""
+    above = reach.Qu * upstream(reach, foot_sum, rounded)
+    return rounded((above + 1_000 * reach.card.inflow * demand.inflow + 1_000_000 * demand.load) * Fraction(1, reach.Qm))
 
 
 def head(reach, bod_sum, oxygen_sum, rounded):
-    """Step 3: BOD and oxygen at the head, mixed. The take leaves both as they are."""
-    card, Qu, part = reach.card, reach.Qu, Fraction(1, reach.Qm)
-    bod, oxygen = upstream(reach, bod_sum, oxygen_sum, rounded)
-    return (rounded((Qu * bod + 1_000 * card.inflow * card.inflow_bod + 1_000_000 * card.load) * part),
-            rounded((Qu * oxygen + 1_000 * card.inflow * card.inflow_oxygen) * part))
+    """BOD and oxygen at the head."""
+    oxygen = reach.Qu * below_dam(reach, oxygen_sum, rounded) + 1_000 * reach.card.inflow * reach.card.inflow_oxygen
+    return head_demand(reach, reach.bod, bod_sum, rounded), rounded(oxygen * Fraction(1, reach.Qm))
+
+
+def head_nitrogenous(reach, nitrogenous_sum, rounded):
+    """Nitrogenous BOD at the head."""
+    return head_demand(reach, reach.nitrogenous, nitrogenous_sum, rounded)
+
+
+def head_figures(reach, bod_sum, oxygen_sum, nitrogenous_sum, rounded):
+    """The three figures at the head."""
+    return *head(reach, bod_sum, oxygen_sum, rounded), head_nitrogenous(reach, nitrogenous_sum, rounded)
 
 
 # ---- Along a reach
 
-def exponents(reach):
-    """x1 and x2 at the foot."""
-    return [Fraction(rate * reach.card.volume, 86_400 * reach.Q) for rate in (reach.card.k1, reach.card.k2)]
+def exponent(reach, rate):
+    """x1, xn or x2 at the foot."""
+    return Fraction(rate * reach.card.volume, 86_400 * reach.Q)
 
 
 def S(x, N):
@@ -330,12 +369,17 @@ def S(x, N):
     return Fraction(sum((-n) ** j * d ** (last - j) * (parts // math.factorial(j)) for j in range(N)), d ** last * parts)
 
 
+def demand_factors(reach, rate, m, N):
+    """S of a demand with this rate, its F, and S(x2), at instant m."""
+    k2 = reach.card.k2
+    x1, x2 = (exponent(reach, k) * Fraction(m, INSTANTS) for k in (rate, k2))
+    S1, S2 = S(x1, N), S(x2, N)
+    return S1, (x1 * S1 if rate == k2 else Fraction(rate, k2 - rate) * (S1 - S2)), S2
+
+
 def factors(reach, m, N):
     """S(x1), F and S(x2) at instant m."""
-    k1, k2 = reach.card.k1, reach.card.k2
-    x1, x2 = (x * Fraction(m, INSTANTS) for x in exponents(reach))
-    S1, S2 = S(x1, N), S(x2, N)
-    return S1, (x1 * S1 if k1 == k2 else Fraction(k1, k2 - k1) * (S1 - S2)), S2
+    return demand_factors(reach, reach.card.k1, m, N)
 
 
 def bed_in_the_end(reach):
@@ -354,14 +398,14 @@ def bed_loss(reach, m, S2):
 
 
 def along(reach, m, N):
-    """The formula that takes BOD and oxygen at the head to those at instant m."""
-    S1, F, S2 = factors(reach, m, N)
+    """The formula that takes BOD, oxygen and nitrogenous BOD at the head to those at instant m."""
+    (S1, F1, S2), (Sn, Fn, _) = (demand_factors(reach, demand.rate, m, N) for demand in reach.demands)
     Cs, loss = reach.saturation, bed_loss(reach, m, S2)
-    return lambda L, C: (L * S1, Cs - F * L - S2 * (Cs - C) - loss)
+    return lambda L, C, Ln: (L * S1, Cs - F1 * L - Fn * Ln - S2 * (Cs - C) - loss, Ln * Sn)
 
 
 # The exact figures of a place have one common denominator, which grows by some thousand bits with each reach on the way
-# down. It is never reduced: that would take nearly all of the time.
+# down. It is never reduced: that would take nearly all of the time. The figures are BOD, oxygen and nitrogenous BOD.
 Point = namedtuple("Point", "over figures")
 
 
@@ -381,7 +425,7 @@ def through(formula, point):
 
 def foot_sums(reach, feet):
     """The sums of Q × foot value over the feeders."""
-    over, sums = 1, [0, 0]
+    over, sums = 1, [0, 0, 0]
     for feeder in reach.feeders:
         foot = feet[feeder.number]
         sums = [total * foot.over + feeder.Q * figure * over for total, figure in zip(sums, foot.figures)]
@@ -393,7 +437,7 @@ def recurrence(reaches, N):
     """The exact recurrence: the points at the heads and at the feet, by reach number."""
     heads, feet = {}, {}
     for reach in reaches:
-        heads[reach.number] = through(lambda *sums: head(reach, *sums, exactly), foot_sums(reach, feet))
+        heads[reach.number] = through(lambda *sums: head_figures(reach, *sums, exactly), foot_sums(reach, feet))
         feet[reach.number] = through(along(reach, INSTANTS, N), heads[reach.number])
     return heads, feet
 
@@ -418,25 +462,28 @@ def bed_terms(reach, S2):
     return [0] + [-bed_in_the_end(reach) * term for term in S2[1:]]
 
 
+def demand_terms(reach, rate, S2):
+    """The coefficients of F of a demand with this rate as a polynomial in u, where S2 are the terms of S(x2) and a zero."""
+    k2, x = reach.card.k2, exponent(reach, rate)
+    if rate == k2:
+        return [Fraction(0)] + [x * term for term in S2[:-1]]
+    return [Fraction(rate, k2 - rate) * (one - two) for one, two in zip(terms(x, len(S2) - 1), S2)] + [Fraction(0)]
+
+
 def oxygen_bounds(reach, start, N):
     """For each instant a whole number that is within `off` of 2^BITS × the exact oxygen, and `off`. `start` is the point at the head.
 
     With u = m/1024 the oxygen is a polynomial in u, since the terms of S(x × u) are those of S(x) times powers of u. Its coefficients
-    are taken in parts of 2^-BITS. Cutting the head's BOD and oxygen to whole parts moves the sum by less than the sizes of all
+    are taken in parts of 2^-BITS. Cutting the figures of the head to whole parts moves the sum by less than the sizes of all
     factors; cutting the coefficients, and each step of the evaluation, by less than one part each.
     """
-    k1, k2 = reach.card.k1, reach.card.k2
-    x1, x2 = exponents(reach)
-    S1, S2 = terms(x1, N), terms(x2, N) + [Fraction(0)]
-    if k1 == k2:
-        F = [Fraction(0)] + [x1 * term for term in S1]
-    else:
-        F = [Fraction(k1, k2 - k1) * (one - two) for one, two in zip(S1, S2)] + [Fraction(0)]
-    L, C = ((figure << BITS) // start.over for figure in start.figures)
+    S2 = terms(exponent(reach, reach.card.k2), N) + [Fraction(0)]
+    F1, Fn = (demand_terms(reach, demand.rate, S2) for demand in reach.demands)
+    L, C, Ln = ((figure << BITS) // start.over for figure in start.figures)
     Cs = reach.saturation * 2 ** BITS
-    coefficients = [math.floor(-f * L - s * (Cs - C) - b * 2 ** BITS) for f, s, b in zip(F, S2, bed_terms(reach, S2))]
+    coefficients = [math.floor(-f1 * L - fn * Ln - s * (Cs - C) - b * 2 ** BITS) for f1, fn, s, b in zip(F1, Fn, S2, bed_terms(reach, S2))]
     coefficients[0] += math.floor(Cs)
-    off = math.ceil(sum(map(abs, F + S2))) + 2 * len(coefficients) + 1
+    off = math.ceil(sum(map(abs, F1 + Fn + S2))) + 2 * len(coefficients) + 1
     return [evaluated(coefficients, m) for m in range(INSTANTS + 1)], off
 
 
@@ -450,9 +497,26 @@ def evaluated(coefficients, m):
 
 # ---- The printing program: a printed report
 
-Record = namedtuple("Record", "depth Q head_bod foot_bod head_oxygen instant critical foot_oxygen")
+# The nitrogenous figures are printed in files with ammonia alone, and are 0 in all others.
+Record = namedtuple("Record", "depth Q head_bod foot_bod head_oxygen instant critical foot_oxygen head_nitrogenous foot_nitrogenous", defaults=[0, 0])
 SIGNED = ("head_oxygen", "critical", "foot_oxygen")
-LINE = re.compile(" ".join(["(0|[1-9][0-9]*)"] + ["(0|-?[1-9][0-9]*)" if name in SIGNED else "(0|[1-9][0-9]*)" for name in Record._fields]))
+
+
+def printed_names(reaches):
+    """The figures of a record that a line has after the number of its reach, in the report on these reaches."""
+    return Record._fields if any(reach.card.ammonia is not None for reach in reaches) else Record._fields[:-2]
+
+
+def report_text(reaches, records):
+    """The printed report that has these records."""
+    count = len(printed_names(reaches))
+    return "".join(" ".join(map(str, (reach, *record[:count]))) + "\n" for reach, record in enumerate(records, 1))
+
+
+def line_form(reaches):
+    """The regular expression of a line."""
+    signs = ["-?" if name in SIGNED else "" for name in printed_names(reaches)]
+    return re.compile(" ".join(f"(0|{sign}[1-9][0-9]*)" for sign in [""] + signs))
 
 
 class Malformed(Exception):
@@ -470,13 +534,13 @@ def printed_lines(printed):
     return text[:-1].split("\n")
 
 
-def printed_records(lines, count):
-    """The records of a printed report on so many reaches."""
-    if len(lines) != count:
-        raise Malformed(f"{len(lines)} lines are printed for {count} reaches")
-    records = []
+def printed_records(lines, reaches):
+    """The records of a printed report on these reaches."""
+    if len(lines) != len(reaches):
+        raise Malformed(f"{len(lines)} lines are printed for {len(reaches)} reaches")
+    records, form = [], line_form(reaches)
     for reach, line in enumerate(lines, 1):
-        found = LINE.fullmatch(line)
+        found = form.fullmatch(line)
         if not found or len(line) > 200:
             raise Malformed(f"line {reach} is no line of a report: {line[:100]}")
         number, *figures = map(int, found.groups())
@@ -509,7 +573,7 @@ def check(file, printed, series=SERIES, full=False):
             if lines != [verdict.due]:
                 raise Malformed(f"'{lines[0][:100]}' is printed, due is '{verdict.due}'")
         else:
-            records = printed_records(lines, len(reaches))
+            records = printed_records(lines, reaches)
             for reach in reaches:
                 verdict.wrong += [f"reach {reach.number}: {text}" for text in determined(reach, records) + tied(reach, records[reach.number - 1])]
             for N in series:
@@ -519,21 +583,28 @@ def check(file, printed, series=SERIES, full=False):
     return verdict
 
 
+def head_over(reach, records):
+    """The three figures at the head, from the records of the reaches above."""
+    above = [(feeder.Q, records[feeder.number - 1]) for feeder in reach.feeders]
+    sums = (sum(Q * getattr(record, name) for Q, record in above) for name in ("foot_bod", "foot_oxygen", "foot_nitrogenous"))
+    return head_figures(reach, *sums, math.floor)
+
+
 def determined(reach, records):
     """What is wrong with the figures that follow exactly: depth, Q, and the head from the reported feet of the feeders."""
-    above = [(feeder.Q, records[feeder.number - 1]) for feeder in reach.feeders]
-    bod, oxygen = head(reach, sum(Q * record.foot_bod for Q, record in above), sum(Q * record.foot_oxygen for Q, record in above), math.floor)
-    due = {"depth": reach.depth, "Q": reach.Q, "head_bod": bod, "head_oxygen": oxygen}
-    record = records[reach.number - 1]
-    return [f"{name} is {getattr(record, name)}, due is {number}" for name, number in due.items() if getattr(record, name) != number]
+    due = (reach.depth, reach.Q, *head_over(reach, records))
+    record, names = records[reach.number - 1], ("depth", "Q", "head_bod", "head_oxygen", "head_nitrogenous")
+    return [f"{name} is {getattr(record, name)}, due is {number}" for name, number in zip(names, due) if getattr(record, name) != number]
 
 
 def tied(reach, record):
     """Which ties of a record are broken."""
     kept = (record.critical, record.foot_oxygen, record.instant) == (record.head_oxygen, record.head_oxygen, 0)
-    rules = (
-        (record.foot_bod <= record.head_bod, "foot BOD is above head BOD"),
-        (record.foot_bod == record.head_bod or not reach.keeps_bod(), "foot BOD is not head BOD, though nothing decays"),
+    demands = (("BOD", reach.bod, record.head_bod, record.foot_bod), ("nitrogenous BOD", reach.nitrogenous, record.head_nitrogenous, record.foot_nitrogenous))
+    rules = [rule for name, demand, at_head, at_foot in demands for rule in (
+        (at_foot <= at_head, f"foot {name} is above head {name}"),
+        (at_foot == at_head or not reach.keeps(demand), f"foot {name} is not head {name}, though nothing decays"))]
+    rules += (
         (kept or not reach.keeps_oxygen(), "oxygen is not that of the head throughout, though nothing moves it"),
         (record.instant <= INSTANTS, "critical instant is above 1024"),
         (record.critical <= record.head_oxygen, "critical oxygen is above head oxygen"),
@@ -557,7 +628,8 @@ def distances(reaches, records, N, full, verdict):
             return error <= reach.allowance * over
 
         start, end = heads[reach.number], feet[reach.number]
-        for place, point, reported in (("head", start, (record.head_bod, record.head_oxygen)), ("foot", end, (record.foot_bod, record.foot_oxygen))):
+        for place, point, reported in (("head", start, (record.head_bod, record.head_oxygen, record.head_nitrogenous)),
+                                       ("foot", end, (record.foot_bod, record.foot_oxygen, record.foot_nitrogenous))):
             judge(f"the {place}", sum(abs(figure * point.over - exact) for figure, exact in zip(reported, point.figures)), point.over)
         if record.instant > INSTANTS:
             continue
@@ -584,15 +656,16 @@ def expectation(file, N=40):
     if isinstance(reaches, Refused):
         return [f"{reaches.line()}  ({reaches.why})"]
     heads, feet = recurrence(reaches, N)
-    lines = ["# reach depth Q M saturation allowance head-BOD foot-BOD head-oxygen critical-instant critical-oxygen foot-oxygen"]
+    lines = ["# reach depth Q M saturation allowance head-BOD foot-BOD head-oxygen critical-instant critical-oxygen foot-oxygen"
+             " head-nitrogenous-BOD foot-nitrogenous-BOD"]
     for reach in reaches:
         start, end = heads[reach.number], feet[reach.number]
         oxygen, _ = oxygen_bounds(reach, start, N)
         lowest = oxygen.index(min(oxygen))
         points = start, end, through(along(reach, lowest, N), start)
-        (head_bod, head_oxygen), (foot_bod, foot_oxygen), (_, critical) = ([figure // point.over for figure in point.figures] for point in points)
-        lines.append(" ".join(map(str, (reach.number, reach.depth, reach.Q, reach.M, math.floor(reach.saturation), reach.allowance, head_bod, foot_bod,
-                                        head_oxygen, lowest, critical, foot_oxygen))))
+        at_head, at_foot, at_lowest = ([figure // point.over for figure in point.figures] for point in points)
+        lines.append(" ".join(map(str, (reach.number, reach.depth, reach.Q, reach.M, math.floor(reach.saturation), reach.allowance, at_head[0], at_foot[0],
+                                        at_head[1], lowest, at_lowest[1], at_foot[1], at_head[2], at_foot[2]))))
     return lines
 
 

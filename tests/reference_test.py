@@ -16,7 +16,7 @@ from fractions import Fraction
 import generate
 import recipe
 import reference
-from reference import BITS, INSTANTS, SERIES, STANDARD_PRESSURE, Card, Dam, Point, Pressure, Reach, Record, Refused, River, Sludge, Take
+from reference import BITS, INSTANTS, SERIES, STANDARD_PRESSURE, Ammonia, Card, Dam, Point, Pressure, Reach, Record, Refused, River, Sludge, Take
 from testing import expect, run_tests
 
 ROOT = os.path.dirname(os.path.dirname(os.path.abspath(__file__)))
@@ -30,8 +30,8 @@ def answer_line(file):
     return due.line() if isinstance(due, Refused) else "accepted"
 
 
-def is_right(file, printed):
-    return not reference.check(file, printed).wrong
+def is_right(file, printed, series=SERIES):
+    return not reference.check(file, printed, series).wrong
 
 
 # ---- The paper
@@ -49,7 +49,7 @@ def paper_fields(rows):
         mark, width = given or mark, int(width)
         lowest, _, highest = numbers.replace(",", "").partition(" to ")
         name = name.lower().replace(" ", "_").removesuffix("_flow").removesuffix("_demand")
-        yield (mark, int(at), width, name, *((int(lowest), int(highest)) if highest else (0, reference.most(width))))
+        yield (mark, int(at), width, name, *((int(lowest), int(highest or lowest)) if lowest.isdigit() else (0, reference.most(width))))
 
 
 def our_fields(kinds):
@@ -59,6 +59,8 @@ def our_fields(kinds):
         for field in kind.fields:
             yield kind.mark.decode(), at, field.width, field.name, field.lowest, field.highest
             at += field.width
+        if kind.zeros:
+            yield kind.mark.decode(), at, kind.zeros, "zeros", 0, 0
 
 
 def paper_agrees():
@@ -80,7 +82,7 @@ def bench_values():
     expect("the worked example", is_right(reference.encode(River(WORKED)), WORKED_LINES), True)
     dammed = reference.flows(River([WORKED[0], WORKED[1]._replace(dam=Dam(500, 1_000))]))
     sums = 3_000 * 2_000_000, 3_000 * 8_000_000
-    expect("below the dam", reference.upstream(dammed[1], *sums, math.floor)[1], 8_340_602)
+    expect("below the dam", reference.below_dam(dammed[1], sums[1], math.floor), 8_340_602)
     expect("at the head", reference.head(dammed[1], *sums, math.floor)[1], 6_755_451)
 
     def one(**fields):
@@ -153,16 +155,16 @@ def pressures():
     dam, sums = Dam(500, 1_000), (3_000 * 2_000_000, 3_000 * 8_000_000)
     for pressure, below, head in ((700, 8_103_186, 6_577_389), (500, 7_311_800, 5_983_850), (760, 8_340_602, 6_755_451), (800, 8_498_880, 6_874_160)):
         reach = reference.flows(worked(None, pressure, dam=dam))[1]
-        expect(f"below the dam at {pressure} mm", reference.upstream(reach, *sums, math.floor)[1], below)
+        expect(f"below the dam at {pressure} mm", reference.below_dam(reach, sums[1], math.floor), below)
         expect(f"at the head at {pressure} mm", reference.head(reach, *sums, math.floor)[1], head)
     reach = reference.flows(worked(700, None, dam=dam))[1]
-    expect("the pressure of the reach above plays no part", reference.upstream(reach, *sums, math.floor)[1], 8_340_602)
+    expect("the pressure of the reach above plays no part", reference.below_dam(reach, sums[1], math.floor), 8_340_602)
     expect("no dam, rates of 0", is_right(reference.encode(worked(500, 800)), WORKED_LINES), True)
 
     equal = Card(0, 0, 1_000, 1_000, 864_000, 10_000, 10_000, 14_652, 0, pressure=Pressure(700))
     foot = reference.recurrence(reference.flows(River([equal])), 40)[1][1]
-    expect("the foot at equal rates and 700 mm", [figure // foot.over for figure in foot.figures], [3_678_794, 10_242_008])
-    printed = text(right_report(reference.flows(River([equal._replace(pressure=None)]))))
+    expect("the foot at equal rates and 700 mm", [figure // foot.over for figure in foot.figures], [3_678_794, 10_242_008, 0])
+    printed = right_text(reference.flows(River([equal._replace(pressure=None)])))
     expect("a report by the standard pressure is found", is_right(reference.encode(River([equal])), printed), False)
     standard = River([equal._replace(pressure=Pressure(STANDARD_PRESSURE))])
     expect("a pressure of 760 gives the same figures", is_right(reference.encode(standard), printed), True)
@@ -210,7 +212,7 @@ def beds():
     for what, card, due in (("k2 = 1,000", aerated, 8_381_664), ("k2 = 0", aerated._replace(k2=0), 8_000_000)):
         foot = reference.recurrence(reference.flows(River([card])), 40)[1][1]
         expect(f"the foot at {what}", foot.figures[1] // foot.over, due)
-        printed = text(right_report(reference.flows(River([card._replace(sludge=None)]))))
+        printed = right_text(reference.flows(River([card._replace(sludge=None)])))
         expect(f"a report without the bed at {what} is found", is_right(reference.encode(River([card])), printed), False)
     return "beds"
 
@@ -229,11 +231,81 @@ def bed_records():
     return "records of a bed"
 
 
+def ammonia():
+    """The bench values of the paper that have ammonia."""
+    def worked(first, second):
+        cards = [card._replace(ammonia=numbers and Ammonia(*numbers)) for card, numbers in zip(WORKED, (first, second))]
+        return reference.encode(River(cards))
+
+    def one(**fields):
+        return reference.encode(River([Card(0, 20, 0, 0, 3_456_000, 10_000, 600_000, 8_000, 0, ammonia=Ammonia(1_000, 400_000, 0))._replace(**fields)]))
+
+    def lines(*ends):
+        return b"".join(line[:-1] + end + b"\n" for line, end in zip(WORKED_LINES.splitlines(keepends=True), ends))
+
+    for what, file, due in (
+            ("4,000 in reach 1", worked((0, 4_000, 0), None), lines(b" 4000000 4000000", b" 3000000 3000000")),
+            ("a load of 8,000 on reach 2", worked(None, (0, 0, 8_000)), lines(b" 0 0", b" 2000000 2000000")),
+            ("zeros on reach 2", worked(None, (0, 0, 0)), lines(b" 0 0", b" 0 0")),
+            ("none", worked(None, None), WORKED_LINES)):
+        expect(what, (is_right(file, due), recipe.report(file).encode()), (True, due))
+    expect("none and zeros", worked(None, None) != worked((0, 0, 0), None) != worked((0, 0, 0), (0, 0, 0)), True)
+    for what, file, due in (
+            ("volume 3,456,000 and 1,000 mg/L", one(), "accepted"), ("volume 3,456,001", one(volume=3_456_001), "refused 11 reach 1"),
+            ("a rate of 1,001", one(ammonia=Ammonia(1_001, 0, 0)), "refused 11 reach 1"), ("a take of 1", one(take=Take(1)), "refused 11 reach 1"),
+            ("400,001 of nitrogenous BOD", one(ammonia=Ammonia(0, 400_001, 0)), "refused 10 reach 1"), ("a load of 1", one(load=1), "refused 10 reach 1"),
+            ("a nitrogenous load of 1", one(ammonia=Ammonia(0, 400_000, 1)), "refused 10 reach 1"), ("no volume", one(ammonia=Ammonia(20_000, 0, 0), volume=0), "accepted")):
+        expect(what, answer_line(file), due)
+    return "ammonia"
+
+
+def nitrification():
+    """The bench values of the paper in which ammonia decays."""
+    bod = Card(0, 0, 1_000, 1_000, 864_000, 10_000, 10_000, 14_652, 0)
+    nitrogenous = bod._replace(k1=0, inflow_bod=0, ammonia=Ammonia(1_000, 10_000, 0))
+    both = bod._replace(inflow_bod=4_000, ammonia=Ammonia(1_000, 6_000, 0))
+    feet = [reference.recurrence(reference.flows(River([card])), 40)[1][1] for card in (bod, nitrogenous, both)]
+    exact = [[Fraction(figure, foot.over) for figure in foot.figures] for foot in feet]
+    expect("nitrogenous BOD decays and uses oxygen as BOD does", exact[1], [exact[0][2], exact[0][1], exact[0][0]])
+    expect("both at one rate use what they would together", exact[2][1], exact[0][1])
+    off = sum(abs(figure - due) for figure, due in zip(exact[1], (0, 10_973_206, 3_678_794)))
+    expect("the foot at equal rates is off by at most 2 units", off <= 2, True)
+    for what, card in (("another rate", nitrogenous._replace(ammonia=Ammonia(999, 10_000, 0))), ("ammonia that does not decay", nitrogenous._replace(ammonia=Ammonia(0, 10_000, 0)))):
+        expect(f"a report by {what} is found", is_right(reference.encode(River([nitrogenous])), right_text(reference.flows(River([card])))), False)
+    still = WORKED[0]._replace(outlet=0, ammonia=Ammonia(1, 10_000, 0))
+    expect("rates of 0 keep oxygen only without nitrification", Reach(1, still, []).keeps_oxygen(), False)
+    expect("they do with ammonia that does not decay", Reach(1, still._replace(ammonia=Ammonia(0, 10_000, 0)), []).keeps_oxygen(), True)
+    return "nitrification"
+
+
+def ammonia_records():
+    """Files with ammonia: where it may stand, its ranges and its bytes of zero."""
+    plain, record = reference.encode(River(WORKED)), reference.AMMONIA.encode
+    dam, bed, ammonia = reference.DAM.encode(Dam(500, 1_000)), reference.SLUDGE.encode([7]), record([300, 4_000, 5])
+    expect("ammonia of zeros is in the file", reference.encode(River([WORKED[0], WORKED[1]._replace(ammonia=Ammonia(0, 0, 0))])), plain + b"NT" + bytes(14))
+    for what, file, due in (
+            ("ammonia", plain + ammonia, "accepted"), ("the largest rate", plain + record([20_000, 0, 0]), "accepted"), ("a rate of 20,001", plain + record([20_001, 0, 0]), "refused 4 reach 2"),
+            ("nitrogenous BOD of 1,000,001", plain + record([0, 1_000_001, 0]), "refused 4 reach 2"), ("the largest load", plain + record([0, 0, 2 ** 32 - 1]), "refused 10 reach 2"),
+            ("a rate of 20,001 at reach 1", plain[:30] + record([20_001, 0, 0]) + plain[30:], "refused 4 reach 1"),
+            ("cut ammonia", plain + ammonia[:15], "refused 1 reach 2"), ("the mark alone", plain + ammonia[:2], "refused 1 reach 2"), ("two of them", plain + 2 * ammonia, "refused 6 reach 0"),
+            ("two at reach 1", plain[:30] + 2 * ammonia + plain[30:], "refused 2 reach 2"), ("ammonia before a bed", plain + ammonia + bed, "refused 6 reach 0"),
+            ("dam, bed and ammonia", plain + dam + bed + ammonia, "accepted"), ("dam, ammonia and bed", plain + dam + ammonia + bed, "refused 6 reach 0")):
+        expect(what, answer_line(file), due)
+    for k in range(4):
+        zeros = bytearray(ammonia)
+        zeros[12 + k] = 1
+        expect(f"byte {k} of the zeros is not", answer_line(plain + bytes(zeros)), "refused 4 reach 2")
+    return "records of ammonia"
+
+
 def allowances():
-    """150 units for each step of depth in a river with a bed, be it of 0, and 100 in any other."""
-    for sludges, due in (((None, None), [100, 200]), ((0, None), [150, 300]), ((None, 0), [150, 300]), ((3, 4), [150, 300])):
-        cards = [card._replace(sludge=None if sludge is None else Sludge(sludge)) for card, sludge in zip(WORKED, sludges)]
-        expect(f"allowances with beds {sludges}", [reach.allowance for reach in reference.flows(River(cards))], due)
+    """200 units for each step of depth in a river with ammonia, be it of zeros; else 150 in one with a bed, be it of 0; and 100 in any other."""
+    zeros, some = Ammonia(0, 0, 0), Ammonia(1, 2, 3)
+    for sludges, ammonias, due in (
+            ((None, None), (None, None), [100, 200]), ((0, None), (None, None), [150, 300]), ((None, 0), (None, None), [150, 300]), ((3, 4), (None, None), [150, 300]),
+            ((None, None), (zeros, None), [200, 400]), ((None, None), (None, zeros), [200, 400]), ((0, None), (None, zeros), [200, 400]), ((3, 4), (some, some), [200, 400])):
+        cards = [card._replace(sludge=None if sludge is None else Sludge(sludge), ammonia=one) for card, sludge, one in zip(WORKED, sludges, ammonias)]
+        expect(f"allowances with beds {sludges} and ammonia {ammonias}", [reach.allowance for reach in reference.flows(River(cards))], due)
     return "allowances"
 
 
@@ -267,18 +339,22 @@ def exact_values():
     x = Fraction(355, 113)
     expect("S", reference.S(x, 40), sum((-x) ** j / math.factorial(j) for j in range(40)))
     expect("S and its terms", reference.S(x, 41), sum(reference.terms(x, 41)))
-    card = Card(0, 21, 301, 700, 90_000, 1_234, 5_678, 4_321, 99)
-    reach = Reach(1, card, [])
-    point = reference.through(reference.along(reach, 300, 40), Point(7, [11, -13]))
+    card = Card(0, 21, 301, 700, 90_000, 1_234, 5_678, 4_321, 99, ammonia=Ammonia(450, 0, 0))
+    reach, start = Reach(1, card, []), Point(7, [11, -13, 17])
     S1, F, S2 = reference.factors(reach, 300, 40)
-    L, C, Cs = Fraction(11, 7), Fraction(-13, 7), reach.saturation
-    expect("a point", [Fraction(figure, point.over) for figure in point.figures], [L * S1, Cs - F * L - S2 * (Cs - C)])
+    Sn, Fn, _ = reference.demand_factors(reach, 450, 300, 40)
+    L, C, Ln, Cs = Fraction(11, 7), Fraction(-13, 7), Fraction(17, 7), reach.saturation
+
+    def figures(card):
+        point = reference.through(reference.along(Reach(1, card, []), 300, 40), start)
+        return [Fraction(figure, point.over) for figure in point.figures]
+
+    expect("a point", figures(card), [L * S1, Cs - F * L - Fn * Ln - S2 * (Cs - C), Ln * Sn])
+    expect("a point without ammonia", figures(card._replace(ammonia=None)), [L * S1, Cs - F * L - S2 * (Cs - C), Ln])
     day = Fraction(card.volume, 86_400 * card.inflow)     # travel time, for rates in thousandths
     for k2, loss in ((700, Fraction(50, 700) * (1 - S2)), (0, 50 * day * Fraction(300, 1_024))):
-        bare = Reach(1, card._replace(k2=k2), [])
-        bed = Reach(1, bare.card._replace(sludge=Sludge(50)), [])
-        oxygen, less = ((Fraction(found.figures[1], found.over)) for found in (reference.through(reference.along(one, 300, 40), Point(7, [11, -13])) for one in (bare, bed)))
-        expect(f"the loss at k2 = {k2}", oxygen - less, 1_000_000 * loss)
+        bare = card._replace(k2=k2)
+        expect(f"the loss at k2 = {k2}", figures(bare)[1] - figures(bare._replace(sludge=Sludge(50)))[1], 1_000_000 * loss)
     return "series and points"
 
 
@@ -288,17 +364,36 @@ def right_report(reaches):
     """A report without any error but rounding, for these reaches."""
     records = []
     for reach in reaches:
-        above = [(feeder.Q, records[feeder.number - 1]) for feeder in reach.feeders]
-        bod, oxygen = reference.head(reach, sum(Q * foot.foot_bod for Q, foot in above), sum(Q * foot.foot_oxygen for Q, foot in above), math.floor)
-        S1, _, _ = reference.factors(reach, INSTANTS, 60)
-        values, _ = reference.oxygen_bounds(reach, Point(1, [bod, oxygen]), 60)
+        bod, oxygen, nitrogenous = start = reference.head_over(reach, records)
+        (S1, _, _), (Sn, _, _) = (reference.demand_factors(reach, demand.rate, INSTANTS, 60) for demand in reach.demands)
+        values, _ = reference.oxygen_bounds(reach, Point(1, start), 60)
         values = [oxygen] + [oxygen if reach.keeps_oxygen() else value >> BITS for value in values[1:]]
-        records.append(Record(reach.depth, reach.Q, bod, math.floor(bod * S1), oxygen, values.index(min(values)), min(values), values[-1]))
+        records.append(Record(reach.depth, reach.Q, bod, math.floor(bod * S1), oxygen, values.index(min(values)), min(values), values[-1],
+                              nitrogenous, math.floor(nitrogenous * Sn)))
     return records
 
 
-def text(records):
-    return "".join(" ".join(map(str, (reach, *record))) + "\n" for reach, record in enumerate(records, 1)).encode()
+def text(reaches, records):
+    return reference.report_text(reaches, records).encode()
+
+
+def right_text(reaches):
+    return text(reaches, right_report(reaches))
+
+
+def nitrogenous_changes(reach, record, far):
+    """What can be wrong with the nitrogenous figures."""
+    changes = [("head nitrogenous BOD", {"head_nitrogenous": record.head_nitrogenous + 1}),
+               ("foot nitrogenous BOD above the head's", {"foot_nitrogenous": record.head_nitrogenous + 1})]
+    if record.foot_nitrogenous >= far:
+        changes.append(("foot nitrogenous BOD far off", {"foot_nitrogenous": record.foot_nitrogenous - far}))
+    if record.foot_nitrogenous and reach.keeps(reach.nitrogenous):
+        changes.append(("nitrogenous BOD that moves", {"foot_nitrogenous": record.foot_nitrogenous - 1}))
+    return changes
+
+
+def has_ammonia(reaches):
+    return any(reach.card.ammonia for reach in reaches)
 
 
 def wrong_records(rng, reaches, records):
@@ -322,14 +417,17 @@ def wrong_records(rng, reaches, records):
         changes.append(("Q before the take", {"Q": reach.Qm}))
     if reach.keeps_oxygen():
         changes.append(("oxygen that moves", {"critical": record.critical - 1, "foot_oxygen": record.foot_oxygen - 1, "instant": INSTANTS}))
+    if has_ammonia(reaches):
+        changes += nitrogenous_changes(reach, record, far)
     for what, fields in changes:
         yield what, records[:reach.number - 1] + [record._replace(**fields)] + records[reach.number:]
 
 
-def malformed(printed):
-    """Texts that are no report."""
+def malformed(printed, ammonia):
+    """Texts that are no report, among them one that has nitrogenous BOD where the file has no ammonia, or lacks it where it has."""
     lines = printed.splitlines(keepends=True)
-    return [b"", b"\n", printed[:-1], printed + b"\n", lines[0] + printed, b"".join(lines[:-1]), b" " + printed, b"0" + printed, printed.replace(b" ", b"  ", 1),
+    other = b"".join((line.rsplit(b" ", 2)[0] if ammonia else line[:-1] + b" 0 0") + b"\n" for line in lines)
+    return [other, b"", b"\n", printed[:-1], printed + b"\n", lines[0] + printed, b"".join(lines[:-1]), b" " + printed, b"0" + printed, printed.replace(b" ", b"  ", 1),
             printed.replace(b"\n", b" \n", 1), printed.replace(b"\n", b" 0\n", 1), printed.replace(b"\n", b"\r\n"), b"refused 7 reach 1\n", b"accepted\n",
             printed.replace(b"1", b"\xc2\xb9", 1)]
 
@@ -340,12 +438,12 @@ def verdicts():
     for style, reaches in drawn_reaches(rng, len(generate.STYLES)):
         file = reference.encode(River([reach.card for reach in reaches]))
         records = right_report(reaches)
-        verdict = reference.check(file, text(records))
+        verdict = reference.check(file, text(reaches, records))
         expect(f"{style}: a right report", verdict.wrong, [])
         for what, wrong in wrong_records(rng, reaches, records):
-            expect(f"{style}: {what} is found", is_right(file, text(wrong)), False)
+            expect(f"{style}: {what} is found", is_right(file, text(reaches, wrong), SERIES[:1]), False)
             found += 1
-        for wrong in malformed(text(records)):
+        for wrong in malformed(text(reaches, records), has_ammonia(reaches)):
             expect(f"{style}: {wrong[:60]} is found", is_right(file, wrong), False)
             found += 1
     file = reference.encode(River([WORKED[0]._replace(outlet=1), WORKED[1]]))
@@ -370,6 +468,15 @@ def exact_limits():
         judged = reference.Verdict("accepted")
         reference.distances(reaches, changed, 40, False, judged)
         expect(f"a critical oxygen {error} units too high at depth 2", bool(judged.wrong), bool(verdict))
+    reaches = reference.flows(River([WORKED[0]._replace(ammonia=Ammonia(0, 4_000, 0)), WORKED[1]]))
+    records = right_report(reaches)
+    for bod, oxygen, nitrogenous in ((400, 0, 0), (0, 400, 0), (0, 0, 400), (100, 200, 100)):
+        for more, verdict in ((0, 0), (1, 1)):
+            last = records[1]
+            changed = last._replace(foot_bod=last.foot_bod - bod, foot_oxygen=last.foot_oxygen + oxygen, foot_nitrogenous=last.foot_nitrogenous - nitrogenous - more)
+            judged = reference.Verdict("accepted")
+            reference.distances(reaches, records[:1] + [changed], 40, False, judged)
+            expect(f"errors of {bod}, {oxygen} and {nitrogenous + more} units at depth 2 in a river with ammonia", len(judged.wrong), verdict)
     return "errors on the allowance"
 
 
@@ -379,7 +486,7 @@ def same_at_both_speeds():
     for style, reaches in drawn_reaches(rng, 4):
         reaches = reaches[:1]
         file = reference.encode(River([reaches[0].card._replace(outlet=0)]))
-        printed = text(right_report(reference.accept(file)))
+        printed = right_text(reference.accept(file))
         expect(f"{style}: both speeds", reference.check(file, printed, full=True).wrong, [])
     return "both speeds"
 
@@ -399,7 +506,7 @@ def recipe_of_styles():
     """The recipe's reports are found right, for rivers of every style."""
     rng, worst = random.Random(6), 0
     for style, reaches in drawn_reaches(rng, len(generate.STYLES)):
-        verdict = reference.check(reference.encode(River([reach.card for reach in reaches])), text(recipe.records_of(reaches)))
+        verdict = reference.check(reference.encode(River([reach.card for reach in reaches])), text(reaches, recipe.records_of(reaches)))
         expect(f"{style}: the recipe", verdict.wrong, [])
         worst = max(worst, verdict.worst)
     return f"recipe within {worst // 1_000}.{worst % 1_000:03d} of its allowance"
@@ -420,7 +527,8 @@ def every_kind():
     return f"{len(names)} kinds of generated files"
 
 
-TESTS = (paper_agrees, bench_values, takes, saturations, pressures, pressure_records, beds, bed_records, allowances, exact_values, bounds_hold, exact_limits,
+TESTS = (paper_agrees, bench_values, takes, saturations, pressures, pressure_records, beds, bed_records, ammonia, nitrification,
+         ammonia_records, allowances, exact_values, bounds_hold, exact_limits,
          verdicts, same_at_both_speeds, recipe_of_examples, recipe_of_styles, every_kind)
 
 

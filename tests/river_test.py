@@ -110,6 +110,26 @@ def beds():
     return "texts with beds"
 
 
+def ammonia():
+    """Texts with ammonia."""
+    record = b"NT\1\x2c\0\0\x0f\xa0\0\0\0\5\0\0\0\0"
+    all_five = make(NINE + " dam 5 6 take 7 pressure 634 sludge 8 ammonia 300 4_000 5")
+    expect("every record", (all_five[0], all_five[1][-38:], all_five[2]), (0, b"DM\0\5\0\0\0\6WD\0\0\0\7BP\2\x7aSD\0\x08" + record, ""))
+    expect("every record, in another order", make(NINE + " ammonia 300 4_000 5 sludge 8 dam 5 6 pressure 634 take 7"), all_five)
+    expect("ammonia of zeros", make(NINE + " ammonia 0 0 0"), (0, make(NINE)[1] + b"NT" + bytes(14), ""))
+    expect("the largest load", make(NINE + " ammonia 0 0 4_294_967_295"), (0, make(NINE)[1] + b"NT" + bytes(6) + b"\xff" * 4 + bytes(4), ""))
+    shown = river("show", "-", given=all_five[1])[1].decode()
+    expect("a text with ammonia", ("[ammonia kn inflow_nitrogenous_bod nitrogenous_load]" in shown, "  sludge 8  ammonia 300 4000 5  # 1\n" in shown), (True, True))
+    for text, parts in (
+            (NINE + " ammonia 300 4000", ("line 1", "2 numbers where ammonia has 3")),
+            (NINE + " ammonia 300 4000 5 0", ("line 1", "4 numbers where ammonia has 3")),
+            (NINE + " ammonia 1 2 3 take 5 ammonia 1 2 3", ("line 1", "'ammonia' stands twice")),
+            (NINE + " ammonia 65_536 0 0", ("line 1", "kn", "0 to 65535")),
+            (NINE + " ammonia 0 0 4294967296", ("line 1", "nitrogenous_load", "0 to 4294967295"))):
+        one_line(f"'{text[:60]}'", make(text), 1, *parts)
+    return "texts with ammonia"
+
+
 def texts():
     """Texts that are taken, and texts that are not."""
     plain = make(NINE)[1]
@@ -130,7 +150,7 @@ def texts():
             (NINE + " 1", ("line 1", "10 numbers")),
             (NINE + " dam 5", ("line 1", "1 number where dam", "share generating")),
             (NINE + " dam 5 6 dam 5 6", ("line 1", "'dam' stands twice")),
-            (NINE + " weir 5 6", ("line 1", "'weir'", "dam, take, pressure, sludge")),
+            (NINE + " weir 5 6", ("line 1", "'weir'", "dam, take, pressure, sludge, ammonia")),
             (NINE + " dam 5 65536000000", ("line 1", "generating", "0 to 4294967295"))):
         one_line(f"'{text[:60]}'", make(text), 1, *parts)
     for text, parts in (
@@ -141,6 +161,8 @@ def texts():
             (NINE + " take 100_000_001", ("line 1", "take", "100000001", "0 to 100000000")),
             (NINE + " pressure 499", ("line 1", "pressure", "499", "500 to 800")),
             (NINE + " pressure 801", ("line 1", "pressure", "801", "500 to 800")),
+            (NINE + " ammonia 20_001 0 0", ("line 1", "kn", "20001", "0 to 20000")),
+            (NINE + " ammonia 0 1_000_001 0", ("line 1", "inflow_nitrogenous_bod", "1000001", "0 to 1000000")),
             ("", ("count", "0", "1 to 128"))):
         status, file, said = make(text)
         if status or not file or "warning" not in said or not all(part in said for part in parts):
@@ -154,6 +176,7 @@ def broken_files():
     taken = river("make", "-", "-", given=f"{NINE} take 5".encode())[1]
     with_pressure = river("make", "-", "-", given=f"{NINE} pressure 700".encode())[1]
     with_bed = river("make", "-", "-", given=f"{NINE} sludge 700".encode())[1]
+    with_ammonia = river("make", "-", "-", given=f"{NINE} ammonia 1 2 3".encode())[1]
     for broken, parts in (
             (b"", ("byte 0", "4 bytes")), (file[:3], ("byte 0", "4 bytes", "are 3")), (file[:40], ("reach 2", "byte 30", "26 bytes", "are 10", "counts 2")),
             (file[:-1], ("reach 2", "byte 56", "8 bytes", "are 7")), (file + b"\n", ("byte 64", "1 byte too many")), (b"XV" + file[2:], ("byte 0", "XV", "RV")),
@@ -161,7 +184,9 @@ def broken_files():
             (file[:2] + b"\xff\xff" + file[4:], ("reach 3", "byte 64", "counts 65535")), (taken[:-1], ("reach 1", "byte 30", "WD", "6 bytes", "are 5")),
             (taken + taken[30:], ("byte 36", "6 bytes too many")), (taken + file[56:], ("byte 36", "8 bytes too many")),
             (with_pressure[:-1], ("reach 1", "byte 30", "BP", "4 bytes", "are 3")), (with_pressure + taken[30:], ("byte 34", "6 bytes too many")),
-            (with_bed[:-1], ("reach 1", "byte 30", "SD", "4 bytes", "are 3")), (with_bed + with_pressure[30:], ("byte 34", "4 bytes too many"))):
+            (with_bed[:-1], ("reach 1", "byte 30", "SD", "4 bytes", "are 3")), (with_bed + with_pressure[30:], ("byte 34", "4 bytes too many")),
+            (with_ammonia[:-1], ("reach 1", "byte 30", "NT", "16 bytes", "are 15")), (with_ammonia + with_bed[30:], ("byte 46", "4 bytes too many")),
+            (with_ammonia[:-1] + b"\1", ("reach 1", "byte 30", "last 4 bytes of NT", "not zero"))):
         one_line(f"{broken[:40]}", river("show", "-", given=broken), 1, *parts)
     return "broken files"
 
@@ -203,7 +228,7 @@ def wrong_uses():
     return "wrong uses"
 
 
-TESTS = (examples_come_back, generated_come_back, texts, takes, pressures, beds, broken_files, wrong_uses)
+TESTS = (examples_come_back, generated_come_back, texts, takes, pressures, beds, ammonia, broken_files, wrong_uses)
 
 
 if __name__ == "__main__":

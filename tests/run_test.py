@@ -95,6 +95,9 @@ def reports():
     """The reports of the examples, and of a river that comes through a pipe."""
     for path in ACCEPTED:
         expect(path, run(path), (0, contents(path[:-5] + "report"), ""))
+    with tempfile.TemporaryDirectory() as folder:
+        path = stored(os.path.join(folder, "zeros.river"), contents(TOWN) + b"NT" + bytes(14))
+        expect("ammonia of zeros", run(path), (0, contents(TOWN[:-5] + "report").replace(b"\n", b" 0 0\n"), ""))
     due = contents(TOWN[:-5] + "report")
     expect("a pipe", run("/dev/stdin", given=contents(TOWN)), (0, due, ""))
     expect("another folder", run("town.river", folder=EXAMPLES), (0, due, ""))
@@ -149,7 +152,12 @@ def pictures():
             path = os.path.join(EXAMPLES, f"{name}.river")
             text = "".join(drawn(f"{name} and its beds", path, name=path).itertext())
             expect(f"sludge beds in {name}", (text.count("sludge bed of reach"), "sludge beds" in text), (beds, beds > 0))
-    return f"{2 * len(ACCEPTED) + 7} pictures"
+        for name, feet, nitrifying in (("old-weir", 0, 0), ("two-ammonia", 2, 0), ("upper-stretch", 4, 3)):
+            path = os.path.join(EXAMPLES, f"{name}.river")
+            text = "".join(drawn(f"{name} and its ammonia", path, name=path).itertext())
+            found = "nitrogenous BOD, mg/L" in text, text.count("foot: nitrogenous BOD "), text.count("nitrification of reach")
+            expect(f"nitrogenous BOD in {name}", found, (feet > 0, feet, nitrifying))
+    return f"{2 * len(ACCEPTED) + 10} pictures"
 
 
 TESTS = (wrong_uses, refusals, reports, tables, pictures)

@@ -1,8 +1,10 @@
 // The bench values of the river file paper that are not proved as rows, and a few more rivers: the result of reporting on each file and,
-// for accepted ones, foot BOD, foot oxygen, critical instant and critical oxygen of each reach.
+// for accepted ones, foot BOD, foot oxygen, critical instant and critical oxygen of each reach, and with nitrification head and foot
+// nitrogenous BOD too.
 ghost use Prim.Native.Nat.{_≤_};
 use report::record;
 use report::record::Line;
+use report::record::RN_SIZE;
 use report::record::RP_SIZE;
 use river::card::HEADER_BYTES;
 use river::card::REACH_BYTES;
@@ -23,8 +25,8 @@ fn print_oxygen(stored: u32) {
     }
 }
 
-// Prints the figures of a reach below its head.
-fn print_reach(line: Line) {
+// Prints the figures of a reach below its head, and nitrogenous BOD at its head.
+fn print_reach(line: Line, nitrified: bool) {
     io::print_decimal(1, line.foot_bod as u64);
     io::write_all(1, b" ");
     print_oxygen(line.foot_oxygen);
@@ -32,7 +34,18 @@ fn print_reach(line: Line) {
     io::print_decimal(1, line.critical_instant as u64);
     io::write_all(1, b" ");
     print_oxygen(line.critical_oxygen);
+    if nitrified {
+        print_nitrogenous(line);
+    }
     io::write_all(1, b"\n");
+}
+
+// Prints the nitrogenous BOD of a reach.
+fn print_nitrogenous(line: Line) {
+    io::write_all(1, b" ");
+    io::print_decimal(1, line.head_nitrogenous as u64);
+    io::write_all(1, b" ");
+    io::print_decimal(1, line.foot_nitrogenous as u64);
 }
 
 // Prints the result of a call.
@@ -45,22 +58,31 @@ fn print_result(name: &[u8], result: u32) {
     io::write_all(1, b"\n");
 }
 
-// Reports on a file into a buffer that three reaches fill, and prints the first reaches.
+// How many bytes a reach has in the report of a river with nitrification.
+const NITRIFIED_SIZE: usize = RP_SIZE + RN_SIZE;
+
+// Whether a file's river has nitrification.
+fn is_nitrified(file: &[u8]) -> bool {
+    report::xylandreo_record_size(file) as usize == NITRIFIED_SIZE
+}
+
+// Reports on a file into a buffer that three reaches with nitrification fill, and prints the first reaches.
 fn show(name: &[u8], file: &[u8], reaches: u8) {
-    let mut report = [0u8; 3 * RP_SIZE];
+    let mut report = [0u8; 3 * NITRIFIED_SIZE];
     print_result(name, report::xylandreo_report(file, &mut report));
-    print_first(&report, reaches);
+    print_first(&report, is_nitrified(file), reaches);
 }
 
 // Prints the first reaches of a report.
-fn print_first(report: &[u8], reaches: u8) {
+fn print_first(report: &[u8], nitrified: bool, reaches: u8) {
+    let size = record::record_bytes(nitrified);
     let mut i: u8 = 0;
     while i < reaches {
         let place = i as usize;
-        if report.len() < RP_SIZE * place + RP_SIZE {
+        if report.len() < size * place + size {
             return;
         }
-        print_reach(record::read_record(report, RP_SIZE, place));
+        print_reach(record::read_record(report, nitrified, place), nitrified);
         i = i + 1;
     }
 }
@@ -76,22 +98,38 @@ fn distance(a: u32, b: u32) -> u64
     }
 }
 
-// The bench value of the river file paper: both rates 1,000; foot BOD 3,678,794 and foot oxygen 10,973,206, errors together at most 100.
-fn equal_rates() {
-    let mut report = [0u8; RP_SIZE];
-    let file =
-        b"RV\x00\x01RE\x00\x00\x03\xe8\x03\xe8\x00\x0d\x2f\x00\x00\x00\x27\x10\x00\x00\x27\x109\x3c\x00\x00\x00\x00";
-    print_result(b"equal rates", report::xylandreo_report(file, &mut report));
-    let line = record::read_record(&report, RP_SIZE, 0);
-    print_reach(line);
-    if errors(line) <= 100 {
-        io::write_all(1, b"within 100\n");
+// A reach with one demand, whose rate is that of surface aeration: foot demand 3,678,794 and foot oxygen 10,973,206, errors together at most
+// so many units.
+fn show_equal(name: &[u8], file: &[u8], most: u64) {
+    let mut report = [0u8; NITRIFIED_SIZE];
+    print_result(name, report::xylandreo_report(file, &mut report));
+    let nitrified = is_nitrified(file);
+    let line = record::read_record(&report, nitrified, 0);
+    print_reach(line, nitrified);
+    let foot = if nitrified {
+        line.foot_nitrogenous
+    } else {
+        line.foot_bod
+    };
+    if errors(foot, line.foot_oxygen) <= most {
+        io::write_all(1, b"within ");
+        io::print_decimal(1, most);
+        io::write_all(1, b"\n");
     }
 }
 
-// The errors of foot BOD and foot oxygen together.
-fn errors(line: Line) -> u64 {
-    distance(line.foot_bod, 3_678_794) + distance(line.foot_oxygen, STORED_ZERO + 10_973_206)
+// The errors of a foot demand and foot oxygen together.
+fn errors(foot: u32, oxygen: u32) -> u64 {
+    distance(foot, 3_678_794) + distance(oxygen, STORED_ZERO + 10_973_206)
+}
+
+// The bench value of the river file paper for BOD: both rates 1,000.
+fn equal_rates() {
+    show_equal(
+        b"equal rates",
+        b"RV\x00\x01RE\x00\x00\x03\xe8\x03\xe8\x00\x0d\x2f\x00\x00\x00\x27\x10\x00\x00\x27\x109\x3c\x00\x00\x00\x00",
+        100,
+    );
 }
 
 // Puts the card of reach i + 1 where the file has room for it: 20 degrees, inflow 1 and zeros.
@@ -284,6 +322,129 @@ fn beds() {
     );
 }
 
+// Rivers with ammonia: the worked example with ammonia that does not decay on reach 1, and with zeros on reach 2; and its bytes of zero.
+fn ammonia() {
+    show(
+        b"ammonia without decay",
+        b"RV\x00\x02RE\x02\x14\x00\x00\x00\x00\x00\x00\x03\xe8\x00\x00\x0b\xb8\x00\x00\x07\xd0\x1f\x40\x00\x00\x00\x00NT\x00\x00\x00\x00\x0f\xa0\x00\x00\x00\x00\x00\x00\x00\x00RE\x00\x14\x00\x00\x00\x00\x00\x00\x03\xe8\x00\x00\x03\xe8\x00\x00u0\x07\xd0\x00\x00\x00\x00",
+        2,
+    );
+    show(
+        b"ammonia of zeros",
+        b"RV\x00\x02RE\x02\x14\x00\x00\x00\x00\x00\x00\x03\xe8\x00\x00\x0b\xb8\x00\x00\x07\xd0\x1f\x40\x00\x00\x00\x00RE\x00\x14\x00\x00\x00\x00\x00\x00\x03\xe8\x00\x00\x03\xe8\x00\x00u0\x07\xd0\x00\x00\x00\x00NT\x00\x00\x00\x00\x00\x00\x00\x00\x00\x00\x00\x00\x00\x00",
+        2,
+    );
+    show(
+        b"ammonia in range",
+        b"RV\x00\x02RE\x02\x14\x00\x00\x00\x00\x00\x00\x03\xe8\x00\x00\x0b\xb8\x00\x00\x07\xd0\x1f\x40\x00\x00\x00\x00RE\x00\x14\x00\x00\x00\x00\x00\x00\x03\xe8\x00\x00\x03\xe8\x00\x00u0\x07\xd0\x00\x00\x00\x00NT\x03\xe8\x00\x00\x0f\xa0\x00\x00\x00\x05\x00\x00\x00\x00",
+        2,
+    );
+    show(
+        b"a byte that is not zero",
+        b"RV\x00\x02RE\x02\x14\x00\x00\x00\x00\x00\x00\x03\xe8\x00\x00\x0b\xb8\x00\x00\x07\xd0\x1f\x40\x00\x00\x00\x00RE\x00\x14\x00\x00\x00\x00\x00\x00\x03\xe8\x00\x00\x03\xe8\x00\x00u0\x07\xd0\x00\x00\x00\x00NT\x03\xe8\x00\x00\x0f\xa0\x00\x00\x00\x05\x00\x00\x00\x01",
+        0,
+    );
+    show(
+        b"cut ammonia",
+        b"RV\x00\x02RE\x02\x14\x00\x00\x00\x00\x00\x00\x03\xe8\x00\x00\x0b\xb8\x00\x00\x07\xd0\x1f\x40\x00\x00\x00\x00RE\x00\x14\x00\x00\x00\x00\x00\x00\x03\xe8\x00\x00\x03\xe8\x00\x00u0\x07\xd0\x00\x00\x00\x00NT\x03\xe8\x00\x00\x0f\xa0\x00\x00\x00\x05\x00\x00\x00",
+        0,
+    );
+}
+
+// Rivers in which ammonia decays: alone at the rate of surface aeration, with BOD at that rate too, and without surface aeration; and a river
+// whose second reach has none and carries what comes down.
+fn nitrification() {
+    show_equal(
+        b"equal rates of ammonia",
+        b"RV\x00\x01RE\x00\x00\x00\x00\x03\xe8\x00\x0d\x2f\x00\x00\x00\x27\x10\x00\x00\x00\x009\x3c\x00\x00\x00\x00NT\x03\xe8\x00\x00\x27\x10\x00\x00\x00\x00\x00\x00\x00\x00",
+        200,
+    );
+    show(
+        b"both demands at equal rates",
+        b"RV\x00\x01RE\x00\x00\x03\xe8\x03\xe8\x00\x0d\x2f\x00\x00\x00\x27\x10\x00\x00\x0f\xa09\x3c\x00\x00\x00\x00NT\x03\xe8\x00\x00\x17p\x00\x00\x00\x00\x00\x00\x00\x00",
+        1,
+    );
+    show(
+        b"ammonia without aeration",
+        b"RV\x00\x01RE\x00\x14\x00\x00\x00\x00\x00\x0d\x2f\x00\x00\x00\x27\x10\x00\x00\x13\x88\x23\x28\x00\x00\x00\x00NT\x03\xe8\x00\x00\x27\x10\x00\x00\x00\x00\x00\x00\x00\x00",
+        1,
+    );
+    show(
+        b"ammonia carried",
+        b"RV\x00\x03RE\x02\x19\x01\x2c\x0b\xb8\x00\x16\xe3\x60\x00\x00N\x20\x00\x00\x17p\x1f\x40\x00\x00\x00\x00NT\x07\xd0\x00\x00\x23\x28\x00\x03\xd0\x90\x00\x00\x00\x00RE\x03\x0a\x01\x90\x00\xc8\x00\x0d\xbb\xa0\x00\x00u0\x00\x00\x0b\xb8\x27\x10\x00\x00\x00\x00RE\x00\x12\x00\xfa\x03\x84\x00\x26\x25\xa0\x00\x00\x13\x88\x00\x00\x03\xe8\x23\x28\x00\x01\x86\xa0DM\x01\x90\x00\x00\x27\x10SD\x03\x20NT\x04\xb0\x00\x00\x07\xd0\x00\x00\x00\x00\x00\x00\x00\x00",
+        3,
+    );
+}
+
+// Checks 10 and 11 of rivers with ammonia.
+fn ammonia_checks() {
+    show(
+        b"check 10 by both demands passes",
+        b"RV\x00\x01RE\x00\x14\x00\x00\x00\x00\x00\x00\x00\x00\x00\x00\x27\x10\x00\x09\x27\xc0\x23\x28\x00\x00\x00\x00NT\x00\x00\x00\x06\x1a\x80\x00\x00\x00\x00\x00\x00\x00\x00",
+        1,
+    );
+    show(
+        b"check 10 by both demands refuses",
+        b"RV\x00\x01RE\x00\x14\x00\x00\x00\x00\x00\x00\x00\x00\x00\x00\x27\x10\x00\x09\x27\xc0\x23\x28\x00\x00\x00\x00NT\x00\x00\x00\x06\x1a\x81\x00\x00\x00\x00\x00\x00\x00\x00",
+        0,
+    );
+    show(
+        b"check 10 by a load",
+        b"RV\x00\x01RE\x00\x14\x00\x00\x00\x00\x00\x00\x00\x00\x00\x00\x27\x10\x00\x09\x27\xc0\x23\x28\x00\x00\x00\x01NT\x00\x00\x00\x06\x1a\x80\x00\x00\x00\x00\x00\x00\x00\x00",
+        0,
+    );
+    show(
+        b"check 10 by a nitrogenous load",
+        b"RV\x00\x01RE\x00\x14\x00\x00\x00\x00\x00\x00\x00\x00\x00\x00\x27\x10\x00\x09\x27\xc0\x23\x28\x00\x00\x00\x00NT\x00\x00\x00\x06\x1a\x80\x00\x00\x00\x01\x00\x00\x00\x00",
+        0,
+    );
+    show(
+        b"check 11 by ammonia passes",
+        b"RV\x00\x01RE\x00\x14\x00\x00\x00\x00\x004\xbc\x00\x00\x00\x27\x10\x00\x00\x00\x00\x23\x28\x00\x00\x00\x00NT\x03\xe8\x00\x00\x27\x10\x00\x00\x00\x00\x00\x00\x00\x00",
+        1,
+    );
+    show(
+        b"check 11 by ammonia refuses",
+        b"RV\x00\x01RE\x00\x14\x00\x00\x00\x00\x004\xbc\x01\x00\x00\x27\x10\x00\x00\x00\x00\x23\x28\x00\x00\x00\x00NT\x03\xe8\x00\x00\x27\x10\x00\x00\x00\x00\x00\x00\x00\x00",
+        0,
+    );
+    show(
+        b"check 11 by ammonia after a take",
+        b"RV\x00\x01RE\x00\x14\x00\x00\x00\x00\x004\xbc\x00\x00\x00\x27\x10\x00\x00\x00\x00\x23\x28\x00\x00\x00\x00WD\x00\x00\x00\x01NT\x03\xe8\x00\x00\x27\x10\x00\x00\x00\x00\x00\x00\x00\x00",
+        0,
+    );
+}
+
+// Prints how many bytes a reach has in the report of a file.
+fn print_size(name: &[u8], file: &[u8]) {
+    io::write_all(1, name);
+    io::write_all(1, b": ");
+    io::print_decimal(1, report::xylandreo_record_size(file) as u64);
+    io::write_all(1, b" bytes\n");
+}
+
+// A river of two reaches, the second with ammonia of zeros, has its report in a buffer of 78 bytes and no fewer; and sizes of a reach.
+fn sizes() {
+    let mut report = [0u8; 2 * NITRIFIED_SIZE];
+    let mut short = [0u8; 2 * NITRIFIED_SIZE - 1];
+    let file =
+        b"RV\x00\x02RE\x02\x14\x00\x00\x00\x00\x00\x00\x03\xe8\x00\x00\x0b\xb8\x00\x00\x07\xd0\x1f\x40\x00\x00\x00\x00RE\x00\x14\x00\x00\x00\x00\x00\x00\x03\xe8\x00\x00\x03\xe8\x00\x00u0\x07\xd0\x00\x00\x00\x00NT\x00\x00\x00\x00\x00\x00\x00\x00\x00\x00\x00\x00\x00\x00";
+    print_result(
+        b"ammonia in 78 bytes",
+        report::xylandreo_report(file, &mut report),
+    );
+    print_result(
+        b"ammonia in 77 bytes",
+        report::xylandreo_report(file, &mut short),
+    );
+    print_size(b"reach with ammonia in its file", file);
+    print_size(
+        b"reach without",
+        b"RV\x00\x02RE\x02\x14\x00\x00\x00\x00\x00\x00\x03\xe8\x00\x00\x0b\xb8\x00\x00\x07\xd0\x1f\x40\x00\x00\x00\x00RE\x00\x14\x00\x00\x00\x00\x00\x00\x03\xe8\x00\x00\x03\xe8\x00\x00u0\x07\xd0\x00\x00\x00\x00",
+    );
+    print_size(b"reach of an empty file", b"");
+}
+
 fn main() {
     equal_rates();
     rows();
@@ -292,4 +453,8 @@ fn main() {
     takes();
     pressures();
     beds();
+    ammonia();
+    nitrification();
+    ammonia_checks();
+    sizes();
 }

@@ -1,26 +1,30 @@
 -- The promise of the arithmetic layer. At instant m, BOD left and turned together are within 11 × m units of 2^-44 of the exact ones, and the
 -- deficit left is within 5 × m. So at every instant up to 1,024 the former are within 2^-28 and the latter is within 2^-31.
+-- A demand that starts with fewer parts than one is within 2^-30.
 pub mod Units
 pub mod Series
 pub mod Step
 pub mod Advance
 pub mod Whole
 pub mod Reach
+use mathlib.Core.Path.{ap}
 use mathlib.Core.List.{[], _∷_}
 use Prim.Native.Nat.{ℕ, zero, suc, _*_, _^_, _≤_}
 use native.Mathlib.Omega.{arith}
-use native.Mathlib.Nat.{le-of-lt}
+use native.Mathlib.Nat.{le-refl, le-of-lt}
 use lib.Dec.{lit≤}
 use lib.Signed.{leZ-yes}
 use Rattle.decay.specs.Fraction.{Fraction, ofℕ, ofℤ, over, _+ᶠ_, _*ᶠ_, _÷_, _≈_, _≼_, distance}
 use Rattle.decay.specs.Exact.{exponent, S, F}
 use Rattle.decay.specs.Step.{RatesPass, stepOf}
-use Rattle.decay.specs.Factors.{headFactors, factorsAt}
-use Rattle.decay.specs.Promise.{share, factorsOf, bodDistance, deficitDistance, Accurate}
-use Rattle.decay.proofs.Algebra.{≈-sym, ≈-trans, ring, quote, replaced, ≼-trans, ≼-of-≈, slack, number, _⊞_, _⊠_, multiple, certify, ofℕ-mono, ofℕ-suc, Within, within-of-≈, within-weaken, within→distance}
+use Rattle.decay.specs.Factors.{demandFrom, headFactors, factorsAt}
+use Rattle.decay.specs.Promise.{share, factorsOf, bodDistance, deficitDistance, Accurate, demandDistance, DemandAccurate}
+use Rattle.decay.specs.Fixed.{one}
+use Rattle.decay.specs.declared.factors.DemandFactors.{DemandFactors}
+use Rattle.decay.proofs.Algebra.{≈-refl, ≈-sym, ≈-trans, ring, ring-by, _⋅_, _&_, none as no-equations, quote, replaced, ≼-trans, ≼-of-≈, Nonneg, slack, number, _⊞_, _⊠_, multiple, certify, ofℕ-mono, ofℕ-suc, Within, small, bound-nonneg, within-of-≈, within-weaken, within-scale, within-by, within→distance}
 use Rattle.decay.proofs.step.Shares.{step-sound}
-use Rattle.decay.proofs.factors.Instants.{range}
-use Units.{eps, eps-nonneg, one-eps, share-is, share-nonneg, share-mono, share-sum, share-one}
+use Rattle.decay.proofs.factors.Instants.{range, starts-with-one, demand-range}
+use Units.{eps, eps-nonneg, one-eps, share-is, share-nonneg, share-mono, share-sum, share-equal, share-one}
 use Advance.{BodNear, bod-advance, deficit-advance}
 use Whole.{left-moves, turned-moves, kept-moves}
 use Reach.{step-near}
@@ -40,6 +44,10 @@ shorter = record { across = leZ-yes tt }
 bod-figure : ofℕ 11264 *ᶠ eps ≼ bodDistance
 unfolding _÷_ _*ᶠ_ over ofℤ eps
 bod-figure = record { across = leZ-yes tt }
+
+demand-figure : ofℕ 11264 *ᶠ eps ≼ demandDistance
+unfolding _÷_ _*ᶠ_ over ofℤ eps
+demand-figure = record { across = leZ-yes tt }
 
 deficit-figure : ofℕ 5120 *ᶠ eps ≼ deficitDistance
 unfolding _÷_ _*ᶠ_ over ofℤ eps
@@ -68,51 +76,92 @@ bod-weaken h b =
 
 -- ---- every instant
 
-module _ {N k1 k2 v Q : ℕ} (long : 40 ≤ N) (p : RatesPass k1 k2 v Q) where
-  bod-range : (m : ℕ) → share ((factorsOf k1 k2 v Q m) .left) +ᶠ share ((factorsOf k1 k2 v Q m) .turned) ≼ ofℕ 1
-  bod-range m =
-      let f = factorsOf k1 k2 v Q m in
-      ≼-trans (≼-of-≈ (≈-sym (share-sum (f .left) (f .turned))))
-      (≼-trans (share-mono (range (step-sound k1 k2 v Q p) m .bod)) (≼-of-≈ share-one))
+-- a part of two fractions is as near as they are
+part-within : {x y c e : Fraction} → Nonneg c → c ≼ ofℕ 1 → Within x y e → Within (c *ᶠ x) (c *ᶠ y) e
+part-within {x} {y} {c} {e} h k w =
+    within-weaken (within-scale h w) (certify (c ∷ e ∷ []) (slack k ⊠ bound-nonneg (small w)) (search quote depth 40 fits 9999) tt)
 
-  deficit-range : (m : ℕ) → share ((factorsOf k1 k2 v Q m) .kept) ≼ ofℕ 1
-  deficit-range m = ≼-trans (share-mono (range (step-sound k1 k2 v Q p) m .deficit)) (≼-of-≈ share-one)
+-- a demand that starts with at most one
+module _ {N k1 k2 v Q : ℕ} (long : 40 ≤ N) (p : RatesPass k1 k2 v Q) (start : ℕ) (few-parts : start ≤ one) where
+  abbrev at : ℕ → DemandFactors
+  at m = demandFrom start (stepOf k1 k2 v Q) m
 
-  -- BOD left and turned: 11 units an instant
-  pub bod-at :
+  start-of-one : share start ≼ ofℕ 1
+  start-of-one = ≼-trans (share-mono few-parts) (≼-of-≈ share-one)
+
+  at-range : (m : ℕ) → share (at m .left) +ᶠ share (at m .turned) ≼ ofℕ 1
+  at-range m =
+      ≼-trans (≼-of-≈ (≈-sym (share-sum (at m .left) (at m .turned))))
+      (≼-trans (share-mono (demand-range (step-sound k1 k2 v Q p) start m)) start-of-one)
+
+  -- what is left and what has turned of it: 11 units an instant
+  pub demand-at :
       (m : ℕ) →
       m ≤ 1024 →
-      BodNear (share ((factorsOf k1 k2 v Q m) .left)) (share ((factorsOf k1 k2 v Q m) .turned)) (S N (exponent k1 v Q m)) (F N k1 k2 v Q m) (ofℕ (11 * m) *ᶠ eps)
-  unfolding factorsAt headFactors
-  bod-at zero h =
+      BodNear (share (at m .left)) (share (at m .turned)) (share start *ᶠ S N (exponent k1 v Q m)) (share start *ᶠ F N k1 k2 v Q m) (ofℕ (11 * m) *ᶠ eps)
+  unfolding demandFrom
+  demand-at zero h =
       record {
         u = ofℕ 0;
         v = ofℕ 0;
-        left-near = within-of-≈ (≈-trans share-one (≈-sym (S-start k1 v Q positive)));
-        turned-near = within-of-≈ (≈-trans nothing (≈-sym (F-start N k1 k2 v Q)));
+        left-near = within-of-≈ (all (S N (exponent k1 v Q 0)) (S-start k1 v Q positive));
+        turned-near = within-of-≈ (nothing (F N k1 k2 v Q 0) (F-start N k1 k2 v Q));
         sum = certify (eps ∷ []) (number 0) (search quote depth 40 fits 9999) tt;
       }
     where
       positive : 1 ≤ N
       positive = omega arith
 
-      nothing : share 0 ≈ ofℕ 0
-      nothing = ring (eps ∷ []) (search (quote, replaced (share-is 0)) depth 40 fits 9999) tt
-  bod-at (suc m) h =
+      all : (x : Fraction) → x ≈ ofℕ 1 → share start ≈ share start *ᶠ x
+      all x e = ring-by (share start ∷ x ∷ []) (share start ⋅ e & no-equations) (search quote depth 40 fits 9999) tt
+
+      nothing : (x : Fraction) → x ≈ ofℕ 0 → share 0 ≈ share start *ᶠ x
+      nothing x e = ring-by (share start ∷ x ∷ eps ∷ []) (share start ⋅ e & no-equations) (search (quote, replaced (share-is 0)) depth 40 fits 9999) tt
+  demand-at (suc m) h =
       let s = stepOf k1 k2 v Q in
-      let f = factorsOf k1 k2 v Q m in
+      let c = share start in
       let sound = step-sound k1 k2 v Q p in
+      let S₁ = S N (exponent k1 v Q 1) in
+      let F₁ = F N k1 k2 v Q 1 in
+      let S₂ = S N (exponent k2 v Q 1) in
+      let Sm = S N (exponent k1 v Q m) in
+      let Fm = F N k1 k2 v Q m in
       bod-weaken (one-more 11 m)
-      (bod-advance (share (s .lost)) (share (s .used)) (share (s .filled)) (S N (exponent k1 v Q 1)) (F N k1 k2 v Q 1) (S N (exponent k2 v Q 1)) (ofℕ 1 ÷ ofℕ (2 ^ 60)) (step-near long p) rest
-      (share-nonneg (f .left))
-      (share-nonneg (f .turned))
-      (bod-range m)
+      (bod-advance (share (s .lost)) (share (s .used)) (share (s .filled)) S₁ F₁ S₂ (ofℕ 1 ÷ ofℕ (2 ^ 60)) (step-near long p) rest
+      (share-nonneg (at m .left))
+      (share-nonneg (at m .turned))
+      (at-range m)
       (few (lit≤ tt) (le-of-lt h))
-      (bod-at m (le-of-lt h))
-      (left-moves s f sound)
-      (turned-moves s f sound)
-      (within-weaken (S-compose long k1 v Q m (p .k1-short) h) shorter)
-      (F-compose long k1 k2 v Q m (p .k1-range) (p .k1-short) (p .k2-short) h))
+      (demand-at m (le-of-lt h))
+      (left-moves s (at m) sound)
+      (turned-moves s (at m) sound)
+      (within-by (≈-refl _) (ring (c ∷ Sm ∷ S₁ ∷ []) (search quote depth 40 fits 9999) tt) (part-within (share-nonneg start) start-of-one (within-weaken (S-compose long k1 v Q m (p .k1-short) h) shorter)))
+      (within-by (≈-refl _) (ring (c ∷ Sm ∷ Fm ∷ F₁ ∷ S₂ ∷ []) (search quote depth 40 fits 9999) tt) (part-within (share-nonneg start) start-of-one (F-compose long k1 k2 v Q m (p .k1-range) (p .k1-short) (p .k2-short) h))))
+
+-- ---- the factors
+
+module _ {N k1 k2 v Q : ℕ} (long : 40 ≤ N) (p : RatesPass k1 k2 v Q) where
+  deficit-range : (m : ℕ) → share ((factorsOf k1 k2 v Q m) .kept) ≼ ofℕ 1
+  deficit-range m = ≼-trans (share-mono (range (step-sound k1 k2 v Q p) m .deficit)) (≼-of-≈ share-one)
+
+  -- BOD is the demand that starts with one
+  pub bod-at :
+      (m : ℕ) →
+      m ≤ 1024 →
+      BodNear (share ((factorsOf k1 k2 v Q m) .left)) (share ((factorsOf k1 k2 v Q m) .turned)) (S N (exponent k1 v Q m)) (F N k1 k2 v Q m) (ofℕ (11 * m) *ᶠ eps)
+  bod-at m h =
+      let d = demand-at long p one (le-refl one) m h in
+      let e = starts-with-one (stepOf k1 k2 v Q) m in
+      record {
+        u = d .u;
+        v = d .v;
+        left-near = within-by (share-equal (ap (λ (x : DemandFactors). x .left) e)) (once (S N (exponent k1 v Q m))) (d .left-near);
+        turned-near = within-by (share-equal (ap (λ (x : DemandFactors). x .turned) e)) (once (F N k1 k2 v Q m)) (d .turned-near);
+        sum = d .sum;
+      }
+    where
+      once : (x : Fraction) → x ≈ share one *ᶠ x
+      once x = ring-by (x ∷ share one ∷ []) (x ⋅ share-one & no-equations) (search quote depth 40 fits 9999) tt
 
   -- the deficit left: 5 units an instant
   pub deficit-at :
@@ -145,6 +194,11 @@ both-near {p} {g} {s} {f} {e} {c} b h =
     (slack (within→distance (b .left-near)) ⊞ slack (within→distance (b .turned-near)) ⊞ slack (b .sum) ⊞ slack h)
     (search quote depth 40 fits 9999)
     tt
+
+-- THEOREM: a demand of any rate that starts with any number of parts up to one is near the exact one, for every series length from 40 up, every
+-- instant and every reach that check 11 lets through
+pub demand-accuracy : {N k k2 volume Q m : ℕ} (start : ℕ) → start ≤ one → 40 ≤ N → m ≤ 1024 → RatesPass k k2 volume Q → DemandAccurate N start k k2 volume Q m
+demand-accuracy {m = m} start few-parts long h p = record { near = both-near (demand-at long p start few-parts m h) (≼-trans (at-last 11 h) demand-figure) }
 
 -- THEOREM: the factors are accurate for every series length from 40 up, every instant and every reach that check 11 lets through
 pub accuracy : {N k1 k2 volume Q m : ℕ} → 40 ≤ N → m ≤ 1024 → RatesPass k1 k2 volume Q → Accurate N k1 k2 volume Q m

@@ -1,10 +1,10 @@
 -- The promise of the arithmetic layer: how far the factors of instant m lie from the river file paper's S and F.
 use Prim.Native.Nat.{ℕ}
-use Rattle.decay.specs.Fraction.{Fraction, ofℕ, _+ᶠ_, _÷_, _≼_, distance}
+use Rattle.decay.specs.Fraction.{Fraction, ofℕ, _+ᶠ_, _*ᶠ_, _÷_, _≼_, distance}
 use Rattle.decay.specs.Exact.{exponent, S, F}
 use Rattle.decay.specs.Fixed.{one}
 use Rattle.decay.specs.Step.{stepOf}
-use Rattle.decay.specs.Factors.{factorsAt}
+use Rattle.decay.specs.Factors.{demandFrom, factorsAt}
 use Rattle.decay.specs.declared.factors.Factors.{Factors}
 
 -- a fixed-point number as a share of one
@@ -21,6 +21,18 @@ bodDistance = ofℕ 1 ÷ ofℕ 268_435_456
 
 abbrev pub deficitDistance : Fraction
 deficitDistance = ofℕ 1 ÷ ofℕ 2_147_483_648
+
+-- how near a demand is that starts with at most one: 2^-30
+abbrev pub demandDistance : Fraction
+demandDistance = ofℕ 1 ÷ ofℕ 1_073_741_824
+
+-- A demand of rate k that starts with so many parts, at instant m against the exact one at the series length N: as shares of one, what is left
+-- lies near S(x) of them and what has turned to deficit near F of them, their errors added.
+pub record DemandAccurate (N start k k2 volume Q m : ℕ) : Type 0 where
+  pub near :
+      distance (share (demandFrom start (stepOf k k2 volume Q) m .left)) (share start *ᶠ S N (exponent k volume Q m)) +ᶠ
+      distance (share (demandFrom start (stepOf k k2 volume Q) m .turned)) (share start *ᶠ F N k k2 volume Q m) ≼
+      demandDistance
 
 -- The factors of instant m, as shares of one, against the exact ones at the series length N: BOD left lies near S(x1), head BOD turned
 -- to deficit near F, their errors added, and head deficit left near S(x2).

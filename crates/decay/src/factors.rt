@@ -2,10 +2,18 @@
 use crate::fixed;
 use crate::step::Step;
 ghost use mathlib.Core.Path.{_≡_};
-ghost use Rattle.decay.specs.Factors.{SoundStep, AreShares, headFactors, nextFactors};
+ghost use Prim.Native.Nat.{_+_, _≤_};
+ghost use Rattle.decay.specs.Fixed.{one};
+ghost use Rattle.decay.specs.Factors.{SoundStep, AreShares, nextDemand, headFactors, nextFactors};
 
 // The instant of the foot: a reach is 1,024 steps.
 pub const FOOT: u64 = 1_024;
+
+// A demand, such as BOD, in parts of 2^-44: what is left of it, and what of it has turned to deficit. It starts with at most one.
+pub struct DemandFactors {
+    pub left: u64,
+    pub turned: u64,
+}
 
 // BOD left, head BOD turned to deficit and head deficit left, as shares of one.
 pub struct Factors {
@@ -25,17 +33,35 @@ pub fn start() -> Factors
     }
 }
 
+// A demand one step further down.
+pub fn next_demand(s: Step, d: DemandFactors) -> DemandFactors
+    requires { ⌜ SoundStep s × (d .left + d .turned ≤ one) ⌝ }
+    ensures { λ r. ⌜ r ≡ nextDemand s d ⌝ }
+{
+    let left = d.left;
+    let turned = d.turned;
+    DemandFactors {
+        left: left - fixed::product(left, s.lost),
+        turned: turned - fixed::product(turned, s.filled) + fixed::product(left, s.used),
+    }
+}
+
 // The factors one step further down.
 pub fn next(s: Step, f: Factors) -> Factors
     requires { ⌜ SoundStep s × AreShares f ⌝ }
     ensures { λ r. ⌜ r ≡ nextFactors s f ⌝ }
 {
-    let left = f.left;
-    let turned = f.turned;
+    let bod = next_demand(
+        s,
+        DemandFactors {
+            left: f.left,
+            turned: f.turned,
+        },
+    );
     let kept = f.kept;
     Factors {
-        left: left - fixed::product(left, s.lost),
-        turned: turned - fixed::product(turned, s.filled) + fixed::product(left, s.used),
+        left: bod.left,
+        turned: bod.turned,
         kept: kept - fixed::product(kept, s.filled),
     }
 }

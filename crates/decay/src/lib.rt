@@ -1,4 +1,4 @@
-// Decay factors of a reach: the shares of BOD and oxygen deficit at each of its 1,025 instants.
+// Decay factors of a reach: what is left of a demand and of the oxygen deficit, and what of the demand has turned to deficit, at each of its 1,025 instants.
 pub mod factors;
 pub mod fixed;
 pub mod step;

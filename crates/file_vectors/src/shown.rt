@@ -4,6 +4,7 @@ use river::card::Card;
 use river::card::Cards;
 use river::card::Dam;
 use river::card::LONGEST_FILE;
+use river::card::Nitrification;
 use river::card::REACHES;
 use river::card::blank;
 use river::card::longest_file;
@@ -59,6 +60,22 @@ fn amount(name: &[u8], a: Amount) {
     }
 }
 
+fn nitrification(n: Nitrification) {
+    match n {
+        Nitrification::Idle => {}
+        Nitrification::Nitrifying {
+            rate,
+            concentration,
+            load,
+        } => {
+            io::write_all(1, b" ammonia ");
+            number(rate as u64);
+            number(concentration as u64);
+            io::print_decimal(1, load as u64);
+        }
+    }
+}
+
 // The fields of a card up to its volume.
 fn start(c: Card) {
     number(c.outlet as u64);
@@ -83,6 +100,8 @@ fn card(c: Card) {
     amount(b" pressure ", p);
     let s = c.sludge;
     amount(b" sludge ", s);
+    let n = c.nitrification;
+    nitrification(n);
     end();
 }
 

@@ -6,6 +6,7 @@ use river::card::Card;
 use river::card::Cards;
 use river::card::Dam;
 use river::card::HEADER_BYTES;
+use river::card::Nitrification;
 use river::card::REACH_BYTES;
 use river::card::REACHES;
 use river::card::blank;
@@ -45,6 +46,7 @@ fn card(i: usize, star: bool) -> Card
         take: Amount::Without,
         pressure: Amount::Without,
         sludge: Amount::Without,
+        nitrification: Nitrification::Idle,
     }
 }
 

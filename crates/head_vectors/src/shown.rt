@@ -1,20 +1,23 @@
-// Flows and heads of an accepted river, printed. A foot has seven eighths of the head's BOD, and an oxygen that the test gives.
-ghost use Prim.Native.Nat.{suc, _<_};
+// Flows and heads of an accepted river, printed. A foot has seven eighths of each demand at the head, and an oxygen that the test gives.
+ghost use Prim.Native.Nat.{_<_, _≤_};
 ghost use lib.ListN.{length};
 ghost use Rattle.river.specs.Card.{Lawful, river};
 ghost use Rattle.river.specs.Flow.{Flows};
 ghost use Rattle.river.specs.FlowTable.{Tabled};
-ghost use Rattle.river.specs.HeadTable.{Carried, HeadInput};
+ghost use Rattle.river.specs.HeadTable.{FootWithin, HeadTabled};
 use river::accept::accept;
 use river::card::Cards;
 use river::flow::FlowTable;
 use river::flow::reach_count;
+use river::head::Brought;
 use river::head::FootTable;
 use river::head::Head;
 use river::head::STORED_ZERO;
+use river::head::brought_to;
+use river::head::foot_of;
 use river::head::head_of;
 use river::head::no_feet;
-use river::head::put_foot;
+use river::head::upstream_flow;
 use river::refusal::Outcome;
 use river::refusal::Refusal;
 
@@ -43,26 +46,36 @@ fn refusal(r: Refusal) {
     io::write_all(1, b"\n");
 }
 
-// A reach: its number, depth, flow, undecayed BOD, head BOD and head oxygen.
+// A reach: its number, depth, flow, undecayed BOD, head BOD, head nitrogenous BOD and head oxygen.
 fn line(reach: usize, depth: u8, flow: u64, mass: u64, head: Head) {
     number(reach as u64);
     number(depth as u64);
     number(flow);
     number(mass);
     number(head.bod as u64);
+    number(head.nitrogenous as u64);
     oxygen(head.oxygen);
 }
 
-// Prints reach i + 1, and puts its foot with this stored oxygen.
-fn reach(cards: Cards, flows: FlowTable, feet: FootTable, i: usize, foot: u32) -> FootTable
-    requires { ⌜ HeadInput (river cards) flows feet i ⌝ }
-    ensures { λ r. ⌜ Carried (river cards) r (suc i) ⌝ }
+// Seven eighths.
+fn less(demand: u32) -> u32
+    ensures { λ r. ⌜ r ≤ demand ⌝ }
+{
+    demand - demand / 8
+}
+
+// Prints reach i + 1, and tells what its foot brings, which has this stored oxygen.
+fn reach(cards: Cards, flows: FlowTable, feet: FootTable, i: usize, oxygen: u32) -> Brought
+    requires { ⌜ HeadTabled (river cards) flows feet i ⌝ }
+    ensures { λ r. ⌜ FootWithin (river cards) i r ⌝ }
 {
     let card = cards.at[i];
-    let head = head_of(card, flows, feet, i);
     let flow = flows.flow[i];
-    line(i + 1, flows.depth[i], flow, flows.mass[i], head);
-    put_foot(feet, i, flow, head.bod - head.bod / 8, foot)
+    let depth = flows.depth[i];
+    let sums = brought_to(&flows.outlet, &feet.bod, &feet.nitrogenous, &feet.oxygen, i);
+    let head = head_of(card, 1 < depth, upstream_flow(card, flow), sums);
+    line(i + 1, depth, flow, flows.mass[i], head);
+    foot_of(flow, less(head.bod), less(head.nitrogenous), oxygen)
 }
 
 // Stored foot oxygen of reach i + 1.
@@ -80,7 +93,10 @@ fn reaches(cards: Cards, flows: FlowTable, first: u32, step: u32)
     let mut feet = no_feet();
     let mut i: usize = 0;
     while i < count {
-        feet = reach(cards, flows, feet, i, foot_oxygen(first, step, i));
+        let foot = reach(cards, flows, feet, i, foot_oxygen(first, step, i));
+        feet.bod[i] = foot.bod;
+        feet.nitrogenous[i] = foot.nitrogenous;
+        feet.oxygen[i] = foot.oxygen;
         i = i + 1;
     }
 }

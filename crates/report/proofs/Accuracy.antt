@@ -1,41 +1,48 @@
 -- The reported figures of an accepted reach lie near the exact recurrence. Flow × error is carried down the river: at a head the errors of
--- BOD and oxygen, added together, are at most the mean of the feeders' allowances, weighed by flow, and what a head adds; along the reach
+-- the demands and oxygen, added together, are at most the mean of the feeders' allowances, weighed by flow, and what a head adds; along the reach
 -- they stay within the allowance by water, for any number of units a step that covers what a reach adds.
 pub mod Allowance
 pub mod Errors
 use mathlib.Core.Path.{refl}
 use mathlib.Core.List.{[], _∷_}
-use Prim.Native.Nat.{ℕ, _+_, _*_, _≤_}
-use native.Mathlib.Nat.{le-refl, mul-le-mul}
+use Prim.Native.Nat.{ℕ, _+_, _*_, _/_, _≤_}
+use native.Mathlib.Nat.{le-refl, le-add-left, le-add-right, mul-le-mul}
 use native.Mathlib.Omega.{arith}
 use lib.Dec.{lit<}
 use lib.IntN.{pos, _*ℤ_}
 use Rattle.decay.specs.Fraction.{Fraction, _≈_, _≼_, ofℕ, ofℤ, over, _+ᶠ_, -ᶠ_, _-ᶠ_, _*ᶠ_, _÷_, distance}
 use Rattle.decay.specs.Exact.{exponent, S, F}
-use Rattle.decay.specs.Fixed.{product}
-use Rattle.decay.specs.Promise.{share, bodDistance, deficitDistance}
-use Rattle.decay.proofs.Accuracy.{accuracy}
-use Rattle.decay.proofs.Algebra.{quote, certify, slack, number, Nonneg, _⊞_, _⊠_, multiple, ≈-refl, ≈-sym, ≈-trans, ≼-trans, +ᶠ-cong, *ᶠ-comm, ofℤ-+, ofℤ-*, ofℕ-mono, ofℕ-+, ofℕ-*, positive-whole, ÷-cancel-pos, ÷-nonneg, Small, Within, within-of-≈, within-by, within-sum, within-scale, within-distance, distance→within}
+use Rattle.decay.specs.Promise.{share, factorsOf, bodDistance, deficitDistance, demandDistance}
+use Rattle.decay.specs.Fixed.{one}
+use Rattle.decay.specs.Step.{stepOf}
+use Rattle.decay.specs.Factors.{demandFrom}
+use Rattle.decay.specs.declared.factors.DemandFactors.{DemandFactors}
+use Rattle.decay.proofs.fixed.Digits.{one-pos}
+use Rattle.decay.proofs.factors.Instants.{range}
+use Rattle.decay.proofs.Accuracy.{accuracy, demand-accuracy}
+use Rattle.decay.proofs.Algebra.{quote, certify, ring-by, _⋅_, _&_, none as no-equations, near, small, sized, _⊠ˢ_, floor-low, floor-high, ofℕ-reflect, slack, number, Nonneg, _⊞_, _⊠_, multiple, ≈-refl, ≈-sym, ≈-trans, ≼-trans, ≼-of-≈, +ᶠ-cong, *ᶠ-comm, ofℤ-+, ofℤ-*, ofℕ-mono, ofℕ-+, ofℕ-*, positive-whole, positive-nonzero, ÷-unique, ÷-cancel-pos, ÷-nonneg, Small, Within, within-of-≈, within-by, within-sum, within-scale, within-distance, distance→within}
 use Rattle.river.specs.declared.card.Card.{Card}
 use Rattle.river.specs.Flow.{Feeders, more, fed, flowOf, reachFlow, deepest, reachDepth}
 use Rattle.river.specs.Saturation.{saturationOf}
-use Rattle.river.specs.Source.{bodSource}
+use Rattle.river.specs.declared.source.Demand.{Demand}
+use Rattle.river.specs.declared.source.Demand.the-variants.{Bod, Nitrogenous}
+use Rattle.river.specs.Source.{sourceOf, rateOf}
 use Rattle.river.specs.Head.{upstreamDemand, upstreamOxygen, belowDam, headDemand, headOxygen}
 use Rattle.river.proofs.head.Bounds.{saturation-of-small}
 use Rattle.report.specs.Bed.{bedOf}
-use Rattle.report.specs.Program.{bodSum, oxygenSum, bodAtHead, oxygenAtHead, bodAt, oxygenAt, bodAlong, lossAlong, oxygenAlong, bodWith, factorsAlong, foot}
-use Rattle.report.specs.Recurrence.{exactSaturation, exactMean, exactBelowDam, exactHeadDemand, exactHeadOxygen, exactBodSum, exactOxygenSum, exactBodAtHead, exactOxygenAtHead, exactBodAlong, exactLoss, exactOxygenAlong, exactBodAt, exactOxygenAt}
+use Rattle.report.specs.Program.{demandSum, oxygenSum, demandAtHead, oxygenAtHead, demandAt, oxygenAt, demandAlong, turnedAlong, lossAlong, oxygenAlong, unitParts, factorsAlong, partsAlong, foot}
+use Rattle.report.specs.Recurrence.{exactSaturation, exactMean, exactBelowDam, exactHeadDemand, exactHeadOxygen, exactDemandSum, exactOxygenSum, exactDemandAtHead, exactOxygenAtHead, exactDemandAlong, exactTurnedAlong, exactLoss, exactOxygenAlong, exactDemandAt, exactOxygenAt}
 use Rattle.report.specs.Distance.{meanAllowance, allowanceSum, broughtAllowance, waterAllowance, lossDistance}
 use Rattle.report.proofs.Forest.{AcceptedReach, AllAccepted, no-more, one-more, rates-pass}
-use Rattle.report.proofs.Ties.{factors-range}
-use Rattle.report.proofs.Facts.Head.{damPart, bod-mean, oxygen-mean, below-dam, demand-mixed, oxygen-mixed}
-use Rattle.report.proofs.Facts.Instant.{product-floored, shares-in-range, keptDeficit, kept-floored, oxygen-parts}
-use Rattle.report.proofs.Facts.Exact.{saturation-low, saturation-high, exact-bod-mean, exact-oxygen-mean, exact-below-dam, exact-demand-mixed, exact-oxygen-mixed}
-use Rattle.report.proofs.Facts.Bed.{loss-is-near}
+use Rattle.report.proofs.Ties.{reach-step-sound, factors-range}
+use Rattle.report.proofs.Facts.Head.{source-flow, damPart, demand-mean, oxygen-mean, below-dam, demand-mixed, oxygen-mixed}
+use Rattle.report.proofs.Facts.Instant.{Floored, product-floored, shares-in-range, keptDeficit, kept-floored, turned-parts}
+use Rattle.report.proofs.Facts.Exact.{saturation-low, saturation-high, exact-demand-mean, exact-oxygen-mean, exact-below-dam, exact-demand-mixed, exact-oxygen-mixed}
+use Rattle.report.proofs.Facts.Bed.{kept-accurate, loss-is-near}
 use Rattle.report.proofs.bed.Loss.{eventual-small}
-use Rattle.report.proofs.Bounds.{levels, mostBelow, head-ranged}
+use Rattle.report.proofs.Bounds.{levels, mostBelow, demandsAtHead, head-ranged}
 use Rattle.report.proofs.Accuracy.Allowance.{brought-by-depth}
-use Rattle.report.proofs.Accuracy.Errors.{Near, HeadSteps, head-near, InstantSteps, instant-near, headUnits, addedUnits, reach-adds}
+use Rattle.report.proofs.Accuracy.Errors.{Near, HeadWater, DemandHead, OxygenHead, head-near, DemandInstant, OxygenInstant, instant-near, headUnits, addedUnits, reach-adds}
 
 -- the distances promised of the factors
 δ-equation : ofℕ 2_147_483_648 *ᶠ deficitDistance ≈ ofℕ 1
@@ -52,23 +59,86 @@ sharper : deficitDistance ≼ bodDistance
 sharper = certify (bodDistance ∷ deficitDistance ∷ []) (number 7 ⊠ δ-nonneg ⊞ multiple (ofℕ 1) (≈-sym eight-times)) (search quote depth 40 fits 9999) tt
 
 -- more room, and equal oxygen
-near-weaken : {b bx o ox e f : Fraction} → e ≼ f → Near b bx o ox e → Near b bx o ox f
-near-weaken h n =
-    record { bod-error = n .bod-error; oxygen-error = n .oxygen-error; bod-near = n .bod-near; oxygen-near = n .oxygen-near; together = ≼-trans (n .together) h }
-
-near-at : {b bx o o′ ox e : Fraction} → o′ ≈ o → Near b bx o ox e → Near b bx o′ ox e
-near-at {ox = ox} h n =
-    record { bod-error = n .bod-error; oxygen-error = n .oxygen-error; bod-near = n .bod-near; oxygen-near = within-by h (≈-refl ox) (n .oxygen-near); together = n .together }
-
--- a foot times its flow, with the other feet
-near-join : {b bx o ox a s sx t tx e c u : Fraction} (Q : Fraction) → Nonneg Q → c ≈ Q *ᶠ b +ᶠ s → u ≈ Q *ᶠ o +ᶠ t → Near b bx o ox a → Near s sx t tx e → Near c (Q *ᶠ bx +ᶠ sx) u (Q *ᶠ ox +ᶠ tx) (Q *ᶠ a +ᶠ e)
-near-join {bx = bx} {ox = ox} {a = a} {sx = sx} {tx = tx} {e = e} Q p ec eu m n =
+near-weaken : {b bx n nx o ox e f : Fraction} → e ≼ f → Near b bx n nx o ox e → Near b bx n nx o ox f
+near-weaken h k =
     record {
-      bod-error = Q *ᶠ m .bod-error +ᶠ n .bod-error;
-      oxygen-error = Q *ᶠ m .oxygen-error +ᶠ n .oxygen-error;
-      bod-near = within-by ec (≈-refl (Q *ᶠ bx +ᶠ sx)) (within-sum (within-scale p (m .bod-near)) (n .bod-near));
-      oxygen-near = within-by eu (≈-refl (Q *ᶠ ox +ᶠ tx)) (within-sum (within-scale p (m .oxygen-near)) (n .oxygen-near));
-      together = certify (Q ∷ a ∷ e ∷ m .bod-error ∷ m .oxygen-error ∷ n .bod-error ∷ n .oxygen-error ∷ []) (p ⊠ slack (m .together) ⊞ slack (n .together)) (search quote depth 40 fits 9999) tt;
+      bod-error = k .bod-error;
+      nitrogenous-error = k .nitrogenous-error;
+      oxygen-error = k .oxygen-error;
+      bod-near = k .bod-near;
+      nitrogenous-near = k .nitrogenous-near;
+      oxygen-near = k .oxygen-near;
+      together = ≼-trans (k .together) h;
+    }
+
+near-at : {b bx n nx o o′ ox e : Fraction} → o′ ≈ o → Near b bx n nx o ox e → Near b bx n nx o′ ox e
+near-at {ox = ox} h k =
+    record {
+      bod-error = k .bod-error;
+      nitrogenous-error = k .nitrogenous-error;
+      oxygen-error = k .oxygen-error;
+      bod-near = k .bod-near;
+      nitrogenous-near = k .nitrogenous-near;
+      oxygen-near = within-by h (≈-refl ox) (k .oxygen-near);
+      together = k .together;
+    }
+
+-- a figure at a foot times its flow, with the other feet
+joined : {b bx d s sx e c : Fraction} (Q : Fraction) → Nonneg Q → c ≈ Q *ᶠ b +ᶠ s → Within b bx d → Within s sx e → Within c (Q *ᶠ bx +ᶠ sx) (Q *ᶠ d +ᶠ e)
+joined {bx = bx} {sx = sx} Q p ec m n = within-by ec (≈-refl (Q *ᶠ bx +ᶠ sx)) (within-sum (within-scale p m) n)
+
+near-join : {b bx n nx o ox a s sx r rx t tx e c v u : Fraction} (Q : Fraction) → Nonneg Q → c ≈ Q *ᶠ b +ᶠ s → v ≈ Q *ᶠ n +ᶠ r → u ≈ Q *ᶠ o +ᶠ t → Near b bx n nx o ox a → Near s sx r rx t tx e → Near c (Q *ᶠ bx +ᶠ sx) v (Q *ᶠ nx +ᶠ rx) u (Q *ᶠ ox +ᶠ tx) (Q *ᶠ a +ᶠ e)
+near-join {a = a} {e = e} Q p ec ev eu j k =
+    record {
+      bod-error = Q *ᶠ j .bod-error +ᶠ k .bod-error;
+      nitrogenous-error = Q *ᶠ j .nitrogenous-error +ᶠ k .nitrogenous-error;
+      oxygen-error = Q *ᶠ j .oxygen-error +ᶠ k .oxygen-error;
+      bod-near = joined Q p ec (j .bod-near) (k .bod-near);
+      nitrogenous-near = joined Q p ev (j .nitrogenous-near) (k .nitrogenous-near);
+      oxygen-near = joined Q p eu (j .oxygen-near) (k .oxygen-near);
+      together = certify (Q ∷ a ∷ e ∷ j .bod-error ∷ j .nitrogenous-error ∷ j .oxygen-error ∷ k .bod-error ∷ k .nitrogenous-error ∷ k .oxygen-error ∷ []) (p ⊠ slack (j .together) ⊞ slack (k .together)) (search quote depth 40 fits 9999) tt;
+    }
+
+-- digits of a demand in shares of its head value, and in parts of a unit: one has 2^30 units
+times-within : {p S e L : Fraction} → Nonneg L → Within p S e → Within (p *ᶠ L) (S *ᶠ L) (e *ᶠ L)
+times-within {p} {S} {e} {L} h w =
+    near (p ∷ S ∷ e ∷ L ∷ []) no-equations (small w ⊠ˢ sized h) (number 0) (search quote depth 40 fits 9999) tt (search quote depth 40 fits 9999) tt
+
+times-most : (a b c L : Fraction) → Nonneg L → a +ᶠ b ≼ c → a *ᶠ L +ᶠ b *ᶠ L ≼ c *ᶠ L
+times-most a b c L h k = certify (a ∷ b ∷ c ∷ L ∷ []) (slack k ⊠ h) (search quote depth 40 fits 9999) tt
+
+abbrev shareUnits : Fraction
+shareUnits = ofℕ 1_073_741_824
+
+abbrev inUnits : ℕ → Fraction
+inUnits n = shareUnits *ᶠ share n
+
+parts-in-units : (n : ℕ) → inUnits n *ᶠ ofℕ unitParts ≈ ofℕ n
+unfolding share
+parts-in-units n = ring-by (ofℕ n ∷ (ofℕ n ÷ ofℕ one) ∷ []) (ofℕ 1 ⋅ ÷-cancel-pos (ofℕ n) (positive-whole one-pos) & no-equations) (search quote depth 40 fits 9999) tt
+
+in-units : (n : ℕ) → ofℕ n ÷ ofℕ unitParts ≈ inUnits n
+in-units n = ÷-unique (positive-nonzero (positive-whole (lit< tt))) (parts-in-units n)
+
+-- parts of L units are L units, and the units of parts are rounded down
+units-of : (L : ℕ) → inUnits (unitParts * L) ≈ ofℕ L
+units-of L =
+    ≈-trans (≈-sym (in-units (unitParts * L)))
+    (÷-unique (positive-nonzero (positive-whole (lit< tt))) (≈-trans (*ᶠ-comm (ofℕ L) (ofℕ unitParts)) (≈-sym (ofℕ-* unitParts L))))
+
+units-within : {x e : Fraction} (L : ℕ) (S : Fraction) → Within x (share (unitParts * L) *ᶠ S) e → Within (shareUnits *ᶠ x) (S *ᶠ ofℕ L) (shareUnits *ᶠ e)
+units-within {x} {e} L S w =
+    within-by (≈-refl (shareUnits *ᶠ x)) (ring-by (share (unitParts * L) ∷ S ∷ ofℕ L ∷ []) (S ⋅ units-of L & no-equations) (search quote depth 40 fits 9999) tt) (within-scale (number 1_073_741_824) w)
+
+units-most : (a b : Fraction) → a +ᶠ b ≼ demandDistance → shareUnits *ᶠ a +ᶠ shareUnits *ᶠ b ≼ ofℕ 1
+units-most a b k =
+    certify (a ∷ b ∷ demandDistance ∷ []) (number 1_073_741_824 ⊠ slack k ⊞ multiple (ofℕ 1) (÷-cancel-pos (ofℕ 1) (positive-whole {n = 1_073_741_824} (lit< tt)))) (search quote depth 40 fits 9999) tt
+
+parts-floored : (n : ℕ) → Floored (ofℕ (n / unitParts)) (inUnits n)
+parts-floored n =
+    record {
+      low = ≼-trans (floor-low n (lit< tt)) (≼-of-≈ (in-units n));
+      high = ≼-trans (≼-of-≈ (≈-sym (in-units n))) (floor-high n (lit< tt));
     }
 
 -- the deficit at a head
@@ -106,99 +176,175 @@ carried-small {units} {card} {up} covers own above shallow =
 module _ (N : ℕ) (long : 40 ≤ N) {units : ℕ} (covers : Covers units) where
   -- what is to be shown of feet, heads and instants
   abbrev pub FeetNear : Feeders → Type 0
-  FeetNear up = Near (ofℕ (bodSum up)) (exactBodSum N up) (ofℤ (oxygenSum up)) (exactOxygenSum N up) (allowanceSum units up)
+  FeetNear up =
+      Near (ofℕ (demandSum Bod up)) (exactDemandSum N Bod up) (ofℕ (demandSum Nitrogenous up)) (exactDemandSum N Nitrogenous up) (ofℤ (oxygenSum up)) (exactOxygenSum N up) (allowanceSum units up)
 
   abbrev pub HeadNear : Card → Feeders → Type 0
-  HeadNear card up = Near (ofℕ (bodAtHead card up)) (exactBodAtHead N card up) (ofℤ (oxygenAtHead card up)) (exactOxygenAtHead N card up) (broughtAllowance units card up +ᶠ ofℕ headUnits)
+  HeadNear card up =
+      Near (ofℕ (demandAtHead Bod card up)) (exactDemandAtHead N Bod card up) (ofℕ (demandAtHead Nitrogenous card up)) (exactDemandAtHead N Nitrogenous card up) (ofℤ (oxygenAtHead card up)) (exactOxygenAtHead N card up) (broughtAllowance units card up +ᶠ ofℕ headUnits)
 
   abbrev pub InstantNear : Card → Feeders → ℕ → Type 0
-  InstantNear card up m = Near (ofℕ (bodAt card up m)) (exactBodAt N card up m) (ofℤ (oxygenAt card up m)) (exactOxygenAt N card up m) (waterAllowance units card up)
+  InstantNear card up m =
+      Near (ofℕ (demandAt Bod card up m)) (exactDemandAt N Bod card up m) (ofℕ (demandAt Nitrogenous card up m)) (exactDemandAt N Nitrogenous card up m) (ofℤ (oxygenAt card up m)) (exactOxygenAt N card up m) (waterAllowance units card up)
+
+  -- the steps of a demand to a head, for any demand
+  demand-head : (d : Demand) {card : Card} {up : Feeders} → AcceptedReach card up → AllAccepted up → DemandHead (ofℕ (flowOf up)) (ofℕ (flowOf up + card .inflow)) (ofℕ (demandSum d up)) (ofℕ (upstreamDemand (fed up) (flowOf up) (demandSum d up))) (ofℕ (demandAtHead d card up)) (exactDemandSum N d up) (exactMean (fed up) (flowOf up) (exactDemandSum N d up)) (exactDemandAtHead N d card up) (ofℕ (1000 * sourceOf d card .inflow * sourceOf d card .concentration)) (ofℕ (1000000 * sourceOf d card .load))
+  unfolding demandAtHead headDemand exactDemandAtHead exactHeadDemand
+  demand-head d {card} {up} own above =
+      let Qu = flowOf up in
+      record {
+        mean = demand-mean d above;
+        mixed = demand-mixed (sourceOf d card) Qu (upstreamDemand (fed up) Qu (demandSum d up)) (source-flow d card Qu) (own .flows .flowing);
+        exact-mean = exact-demand-mean N d above;
+        exact-mixed = exact-demand-mixed (sourceOf d card) Qu (exactMean (fed up) Qu (exactDemandSum N d up)) (source-flow d card Qu) (own .flows .flowing);
+      }
 
   pub head-is-near : {card : Card} {up : Feeders} → AcceptedReach card up → AllAccepted up → FeetNear up → HeadNear card up
-  unfolding bodAtHead oxygenAtHead headDemand headOxygen exactBodAtHead exactOxygenAtHead exactHeadDemand exactHeadOxygen broughtAllowance meanAllowance
+  unfolding oxygenAtHead headOxygen exactOxygenAtHead exactHeadOxygen broughtAllowance meanAllowance
   head-is-near {card} {up} own above n =
       let Qu = flowOf up in
-      let u = upstreamDemand (fed up) Qu (bodSum up) in
       let v = upstreamOxygen (fed up) Qu (oxygenSum up) in
       let w = belowDam card (fed up) Qu v in
-      let ux = exactMean (fed up) Qu (exactBodSum N up) in
       let vx = exactMean (fed up) Qu (exactOxygenSum N up) in
       let wx = exactBelowDam card (fed up) Qu vx in
       let flowing = own .flows .flowing in
-      let steps : HeadSteps (ofℕ Qu) (ofℕ (Qu + card .inflow)) (ofℕ (card .inflow)) (ofℕ (bodSum up)) (ofℤ (oxygenSum up)) (ofℕ u) (ofℤ v) (ofℤ w) (ofℕ (bodAtHead card up)) (ofℤ (oxygenAtHead card up)) (exactBodSum N up) (exactOxygenSum N up) ux vx wx (exactBodAtHead N card up) (exactOxygenAtHead N card up) (ofℕ (1000 * card .inflow * card .«inflow_bod»)) (ofℕ (1000000 * card .load)) (ofℕ (1000 * card .inflow * card .«inflow_oxygen»)) (ofℕ (saturationOf card)) (exactSaturation card) (damPart (fed up) (card .dam) Qu) =
+      let water : HeadWater (ofℕ Qu) (ofℕ (Qu + card .inflow)) (ofℕ (card .inflow)) =
+      record { flowing = positive-whole flowing; inflowing = number (card .inflow); upstream = number Qu; flows = ofℕ-+ Qu (card .inflow) }
+      in
+      let oxygen : OxygenHead (ofℕ Qu) (ofℕ (Qu + card .inflow)) (ofℤ (oxygenSum up)) (ofℤ v) (ofℤ w) (ofℤ (oxygenAtHead card up)) (exactOxygenSum N up) vx wx (exactOxygenAtHead N card up) (ofℕ (1000 * card .inflow * card .«inflow_oxygen»)) (ofℕ (saturationOf card)) (exactSaturation card) (damPart (fed up) (card .dam) Qu) =
       record {
-        flowing = positive-whole flowing;
-        inflowing = number (card .inflow);
-        upstream = number Qu;
-        flows = ofℕ-+ Qu (card .inflow);
         saturation-low = saturation-low card;
         saturation-high = saturation-high card;
-        bod-mean = bod-mean above;
-        oxygen-mean = oxygen-mean above;
+        mean = oxygen-mean above;
         dam = below-dam card above (own .dam) v;
-        bod-mixed = demand-mixed (bodSource card) Qu u flowing;
-        oxygen-mixed = oxygen-mixed card Qu w flowing;
-        exact-bod-mean = exact-bod-mean N above;
-        exact-oxygen-mean = exact-oxygen-mean N above;
+        mixed = oxygen-mixed card Qu w flowing;
+        exact-mean = exact-oxygen-mean N above;
         exact-dam = exact-below-dam card (fed up) Qu vx;
-        exact-bod-mixed = exact-demand-mixed (bodSource card) Qu ux flowing;
-        exact-oxygen-mixed = exact-oxygen-mixed card Qu wx flowing;
+        exact-mixed = exact-oxygen-mixed card Qu wx flowing;
       }
-      in head-near steps n
+      in
+      head-near water (demand-head Bod own above) (demand-head Nitrogenous own above) oxygen n
+
+  -- the shares of a demand at an instant, and how far they are off, for any demand
+  module _ (d : Demand) (card : Card) (Q m : ℕ) where
+    abbrev exactLeft : Fraction
+    exactLeft = S N (exponent (rateOf d card) (card .volume) Q m)
+
+    abbrev exactTurned : Fraction
+    exactTurned = F N (rateOf d card) (card .k2) (card .volume) Q m
+
+    abbrev leftShare : Fraction
+    leftShare = share (factorsOf (rateOf d card) (card .k2) (card .volume) Q m .left)
+
+    abbrev turnedShare : Fraction
+    turnedShare = share (factorsOf (rateOf d card) (card .k2) (card .volume) Q m .turned)
+
+  -- a demand at an instant, by its digits x and y, for any demand
+  demand-instant : (d : Demand) {card : Card} {up : Feeders} {x y h₁ h₂ η B G L : Fraction} → AcceptedReach card up → (m : ℕ) → m ≤ foot → Within x (exactLeft d card (reachFlow card up) m *ᶠ L) h₁ → Within y (exactTurned d card (reachFlow card up) m *ᶠ L) h₂ → h₁ +ᶠ h₂ ≼ η → Floored B x → Floored G y → DemandInstant (leftShare d card (reachFlow card up) m) (turnedShare d card (reachFlow card up) m) (exactLeft d card (reachFlow card up) m) (exactTurned d card (reachFlow card up) m) (distance (leftShare d card (reachFlow card up) m) (exactLeft d card (reachFlow card up) m)) (distance (turnedShare d card (reachFlow card up) m) (exactTurned d card (reachFlow card up) m)) bodDistance L x y h₁ h₂ η B G
+  demand-instant d {card} {up} own m l vx vy hη fB fG =
+      let Q = reachFlow card up in
+      let shares = shares-in-range (factorsOf (rateOf d card) (card .k2) (card .volume) Q m) (range (reach-step-sound own d) m) in
+      record {
+        left-part = shares .left-part;
+        turned-part = shares .turned-part;
+        part-of-one = shares .bod-of-one;
+        left-near = within-distance (leftShare d card Q m) (exactLeft d card Q m);
+        turned-near = within-distance (turnedShare d card Q m) (exactTurned d card Q m);
+        factors-near = accuracy long l (rates-pass own d) .bod-near;
+        left-value = vx;
+        turned-value = vy;
+        values-near = hη;
+        left-floored = fB;
+        turned-floored = fG;
+      }
+
+  -- BOD in shares of its head value
+  bod-instant : {card : Card} {up : Feeders} → AcceptedReach card up → (m : ℕ) → m ≤ foot → let Q = reachFlow card up in let L = demandAtHead Bod card up in DemandInstant (leftShare Bod card Q m) (turnedShare Bod card Q m) (exactLeft Bod card Q m) (exactTurned Bod card Q m) (distance (leftShare Bod card Q m) (exactLeft Bod card Q m)) (distance (turnedShare Bod card Q m) (exactTurned Bod card Q m)) bodDistance (ofℕ L) (leftShare Bod card Q m *ᶠ ofℕ L) (turnedShare Bod card Q m *ᶠ ofℕ L) (distance (leftShare Bod card Q m) (exactLeft Bod card Q m) *ᶠ ofℕ L) (distance (turnedShare Bod card Q m) (exactTurned Bod card Q m) *ᶠ ofℕ L) (bodDistance *ᶠ ofℕ L) (ofℕ (demandAt Bod card up m)) (ofℕ (turnedAlong Bod card Q L m))
+  unfolding demandAt demandAlong turnedAlong factorsAlong
+  bod-instant {card} {up} own m l =
+      let Q = reachFlow card up in
+      let L = demandAtHead Bod card up in
+      let f = factorsOf (card .k1) (card .k2) (card .volume) Q m in
+      demand-instant Bod own m l (times-within (number L) (within-distance (leftShare Bod card Q m) (exactLeft Bod card Q m))) (times-within (number L) (within-distance (turnedShare Bod card Q m) (exactTurned Bod card Q m)))
+      (times-most _ _ bodDistance (ofℕ L) (number L) (accuracy long l (rates-pass own Bod) .bod-near)) (product-floored (f .left) L) (product-floored (f .turned) L)
+
+  -- nitrogenous BOD in parts of a unit
+  module _ {card : Card} {up : Feeders} (own : AcceptedReach card up) (few : demandAtHead Nitrogenous card up ≤ 1_000_000_000) (m : ℕ) (l : m ≤ foot) where
+    abbrev Q : ℕ
+    Q = reachFlow card up
+
+    abbrev L : ℕ
+    L = demandAtHead Nitrogenous card up
+
+    abbrev parts : DemandFactors
+    parts = demandFrom (unitParts * L) (stepOf (rateOf Nitrogenous card) (card .k2) (card .volume) Q) m
+
+    abbrev leftOff : Fraction
+    leftOff = distance (share (parts .left)) (share (unitParts * L) *ᶠ exactLeft Nitrogenous card Q m)
+
+    abbrev turnedOff : Fraction
+    turnedOff = distance (share (parts .turned)) (share (unitParts * L) *ᶠ exactTurned Nitrogenous card Q m)
+
+    nitrogenous-instant : DemandInstant (leftShare Nitrogenous card Q m) (turnedShare Nitrogenous card Q m) (exactLeft Nitrogenous card Q m) (exactTurned Nitrogenous card Q m) (distance (leftShare Nitrogenous card Q m) (exactLeft Nitrogenous card Q m)) (distance (turnedShare Nitrogenous card Q m) (exactTurned Nitrogenous card Q m)) bodDistance (ofℕ L) (inUnits (parts .left)) (inUnits (parts .turned)) (shareUnits *ᶠ leftOff) (shareUnits *ᶠ turnedOff) (ofℕ 1) (ofℕ (demandAt Nitrogenous card up m)) (ofℕ (turnedAlong Nitrogenous card Q L m))
+    unfolding demandAt demandAlong turnedAlong partsAlong
+    nitrogenous-instant =
+        demand-instant Nitrogenous own m l (units-within L (exactLeft Nitrogenous card Q m) (within-distance _ _)) (units-within L (exactTurned Nitrogenous card Q m) (within-distance _ _))
+        (units-most leftOff turnedOff (demand-accuracy (unitParts * L) (omega arith) long l (rates-pass own Nitrogenous) .near)) (parts-floored (parts .left)) (parts-floored (parts .turned))
 
   pub instant-is-near : {card : Card} {up : Feeders} → AcceptedReach card up → AllAccepted up → reachDepth up ≤ 128 → HeadNear card up → (m : ℕ) → m ≤ foot → InstantNear card up m
-  unfolding bodAt oxygenAt bodAlong oxygenAlong bodWith factorsAlong exactBodAt exactOxygenAt exactBodAlong exactOxygenAlong
+  unfolding oxygenAt oxygenAlong exactDemandAt exactOxygenAt exactDemandAlong exactTurnedAlong exactOxygenAlong
   instant-is-near {card} {up} own above shallow n m l =
       let Q = reachFlow card up in
       let f = factorsAlong card Q m in
-      let L = bodAtHead card up in
+      let L = demandAtHead Bod card up in
+      let Ln = demandAtHead Nitrogenous card up in
       let C = oxygenAtHead card up in
       let Cs = saturationOf card in
-      let Csx = exactSaturation card in
-      let S₁ = S N (exponent (card .k1) (card .volume) Q m) in
-      let F₁ = F N (card .k1) (card .k2) (card .volume) Q m in
       let S₂ = S N (exponent (card .k2) (card .volume) Q m) in
       let T = lossAlong card Q m in
-      let accurate = accuracy long l (rates-pass own) in
       let range = head-ranged own above shallow in
-      let steps : InstantSteps (share (f .left)) (share (f .turned)) (share (f .kept)) S₁ F₁ S₂ (distance (share (f .left)) S₁) (distance (share (f .turned)) F₁) bodDistance deficitDistance (ofℕ L) (ofℤ C) (ofℕ Cs) Csx (ofℕ (product (f .left) L)) (ofℕ (product (f .turned) L)) (ofℤ (keptDeficit f Cs C)) (ofℕ 1_660_000_000) (ofℕ T) (exactLoss N card Q m) (lossDistance card Q) =
+      let shares = shares-in-range f (factors-range own m) in
+      let oxygen : OxygenInstant (share (f .kept)) S₂ deficitDistance bodDistance (ofℤ C) (ofℕ Cs) (exactSaturation card) (ofℤ (keptDeficit f Cs C)) (ofℕ 1_660_000_000) (ofℕ T) (exactLoss N card Q m) (lossDistance card Q) =
       record {
-        shares = shares-in-range f (factors-range own m);
-        left-near = within-distance (share (f .left)) S₁;
-        turned-near = within-distance (share (f .turned)) F₁;
-        kept-near = distance→within (accurate .deficit-near);
+        kept-part = shares .kept-part;
+        kept-of-one = shares .kept-of-one;
+        kept-near = distance→within (kept-accurate long own m l);
         sharper = sharper;
-        factors-near = accurate .bod-near;
-        bod-floored = product-floored (f .left) L;
-        turned-floored = product-floored (f .turned) L;
         kept-floored = kept-floored f Cs C;
-        head-bod = number L;
-        head-deficit = deficit-small (ofℕ Cs) (ofℕ L) (ofℤ C) (ofℕ (20000000 + levels up)) (number Cs) (ofℕ-mono (saturation-of-small card (own .saturation))) (number L) (range .bod-below) (range .oxygen-high) (ofℕ-mono (omega arith));
+        head-deficit = deficit-small (ofℕ Cs) (ofℕ (demandsAtHead card up)) (ofℤ C) (ofℕ (20000000 + levels up)) (number Cs) (ofℕ-mono (saturation-of-small card (own .saturation))) (number (demandsAtHead card up)) (range .demands-below) (range .oxygen-high) (ofℕ-mono (omega arith));
         saturation-near = rounded-saturation card;
         loss-near = loss-is-near long own m l;
       }
       in
       near-weaken
-      (reach-adds bodDistance deficitDistance (ofℕ L) (lossDistance card Q) (broughtAllowance units card up) (ofℕ units) δ-nonneg δ-equation eight-times (range .bod-range) (loss-distance-small own) (carried-small covers own above shallow) (ofℕ-mono (covers .added)))
-      (near-at (oxygen-parts f Cs L C T) (instant-near (exactBodAtHead N card up) (exactOxygenAtHead N card up) (broughtAllowance units card up +ᶠ ofℕ headUnits) steps n))
+      (reach-adds bodDistance deficitDistance (ofℕ L) (lossDistance card Q) (broughtAllowance units card up) (ofℕ units) δ-nonneg δ-equation eight-times (≼-trans (ofℕ-mono (le-add-right L Ln)) (range .demands-range)) (loss-distance-small own) (carried-small covers own above shallow) (ofℕ-mono (covers .added)))
+      (near-at (turned-parts card Q L C (turnedAlong Nitrogenous card Q Ln m) T m)
+      (instant-near (exactDemandAtHead N Bod card up) (exactDemandAtHead N Nitrogenous card up) (exactOxygenAtHead N card up) (broughtAllowance units card up +ᶠ ofℕ headUnits) (bod-instant own m l) (nitrogenous-instant own (ofℕ-reflect Ln 1_000_000_000 (≼-trans (ofℕ-mono (le-add-left Ln L)) (range .demands-range))) m l) oxygen n))
 
   -- the foot of a feeder, times its flow, with the other feet
+  demand-joins : (d : Demand) (card : Card) (up rest : Feeders) → ofℕ (demandSum d (more card up rest)) ≈ ofℕ (reachFlow card up) *ᶠ ofℕ (demandAt d card up foot) +ᶠ ofℕ (demandSum d rest)
+  unfolding demandSum demandAt demandAtHead
+  demand-joins d card up rest =
+      let Q = reachFlow card up in
+      ≈-trans (ofℕ-+ (Q * demandAt d card up foot) (demandSum d rest)) (+ᶠ-cong (ofℕ-* Q (demandAt d card up foot)) (≈-refl (ofℕ (demandSum d rest))))
+
   feet-join : (card : Card) (up rest : Feeders) → InstantNear card up foot → FeetNear rest → FeetNear (more card up rest)
-  unfolding bodSum oxygenSum bodAt oxygenAt bodAtHead oxygenAtHead exactBodSum exactOxygenSum exactBodAt exactOxygenAt exactBodAtHead exactOxygenAtHead allowanceSum broughtAllowance
+  unfolding oxygenSum oxygenAt oxygenAtHead exactDemandSum exactOxygenSum exactDemandAt exactOxygenAt exactDemandAtHead exactOxygenAtHead allowanceSum broughtAllowance
   feet-join card up rest x y =
       let Q = reachFlow card up in
-      near-join (ofℕ Q) (number Q)
-      (≈-trans (ofℕ-+ (Q * bodAt card up foot) (bodSum rest)) (+ᶠ-cong (ofℕ-* Q (bodAt card up foot)) (≈-refl (ofℕ (bodSum rest)))))
+      near-join (ofℕ Q) (number Q) (demand-joins Bod card up rest) (demand-joins Nitrogenous card up rest)
       (≈-trans (ofℤ-+ (pos Q *ℤ oxygenAt card up foot) (oxygenSum rest)) (+ᶠ-cong (ofℤ-* (pos Q) (oxygenAt card up foot)) (≈-refl (ofℤ (oxygenSum rest)))))
       x y
 
   pub feet-are-near : {up : Feeders} → AllAccepted up → deepest up ≤ 127 → FeetNear up
-  unfolding deepest bodSum oxygenSum exactBodSum exactOxygenSum allowanceSum
+  unfolding deepest demandSum oxygenSum exactDemandSum exactOxygenSum allowanceSum
   feet-are-near no-more h =
       record {
         bod-error = ofℕ 0;
+        nitrogenous-error = ofℕ 0;
         oxygen-error = ofℕ 0;
         bod-near = within-of-≈ (≈-refl (ofℕ 0));
+        nitrogenous-near = within-of-≈ (≈-refl (ofℕ 0));
         oxygen-near = within-of-≈ (≈-refl (ofℕ 0));
         together = certify [] (number 0) (search quote depth 40 fits 9999) tt;
       }

@@ -1,42 +1,94 @@
 -- The bench values of the river file paper that are to be proved, gathered as rows of one theorem: those of flows and heads, the two lines of
--- the printing program's example, the second of them below a dam, also at 700 mm, and both with takes.
-use mathlib.Core.Path.{_≡_, refl, _∙_, ap}
-use mathlib.Core.Bool.{true}
+-- the printing program's example, the second of them below a dam, also at 700 mm, both with takes, and both with nitrogenous BOD.
+use mathlib.Core.Path.{_≡_, refl, sym, _∙_, ap}
+use mathlib.Core.Bool.{true, false}
+use mathlib.Core.List.{List, [], _∷_}
 use Prim.Native.Nat.{ℕ, _+_, _-_, _*_, _<_, _≤_}
 use native.Mathlib.Omega.{arith}
 use lib.IntN.{ℤ, pos, _+ℤ_, _*ℤ_}
+use lib.ListN.{take}
 use Rattle.river.specs.declared.card.Dam.{Dam}
 use Rattle.river.specs.declared.card.Dam.the-variants.{Absent, Aerating}
 use Rattle.river.specs.declared.card.Amount.{Amount}
 use Rattle.river.specs.declared.card.Amount.the-variants.{Without, Given}
+use Rattle.river.specs.declared.card.Nitrification.{Nitrification}
+use Rattle.river.specs.declared.card.Nitrification.the-variants.{Idle, Nitrifying}
 use Rattle.river.specs.declared.card.Card.{Card}
+use Rattle.river.specs.declared.source.Demand.{Demand}
+use Rattle.river.specs.declared.source.Demand.the-variants.{Bod, Nitrogenous}
 use Rattle.river.specs.Card.{LawfulDam, amountOr}
-use Rattle.river.specs.Flow.{Feeders, none, more, joinedIf, feedersAmong, above, fed, flowOf, massOf, deepest, DamRule}
+use Rattle.river.specs.Source.{nitrogenousSource, nitrogenousRate, sourceOf, rateOf, sourceMass}
+use Rattle.river.specs.Flow.{Feeders, none, more, joinedIf, feedersAmong, above, fed, flowOf, massOf, deepest, sludgeOf, reachFlow, reachDepth, DamRule}
 use Rattle.river.specs.Saturation.{saturation, saturationThousandths, saturationOf, SaturationInRange}
-use Rattle.river.specs.Head.{floor, upstreamDemand, upstreamOxygen, aerated, belowDam, headDemand, headBod, headOxygen}
-use Rattle.river.proofs.Bench.{first, second, two, drawn, hilly, Rows as FlowRows, bench as flow-bench}
-use Rattle.report.specs.Program.{figuresOf, figuresAt, bodSum, oxygenSum, bodAtHead, oxygenAtHead, bodAt, oxygenAt, foot}
+use Rattle.river.specs.Head.{floor, upstreamDemand, upstreamOxygen, aerated, belowDam, mixedDemand, headDemand, headOxygen}
+use Rattle.river.proofs.flow.Take.{mass-within}
+use Rattle.river.proofs.Bench.{reach, second, two, drawn, hilly, Rows as FlowRows, bench as flow-bench}
+use Rattle.report.specs.Program.{figuresOf, figuresAt, demandSum, oxygenSum, demandAtHead, oxygenAtHead, demandAt, oxygenAt, foot}
+use Rattle.report.specs.Record.{nitrifies, isNitrified, hasNitrification, plainBytes, encodePlain, encodeRecord, recordSize, Figures}
+use Rattle.report.specs.Report.{recordOf}
 use Rattle.report.proofs.Forest.{AcceptedReach}
-use Rattle.report.proofs.Ties.{reach-bod-stays, reach-oxygen-stays, still-figures}
-use Rattle.report.specs.Record.{Figures}
+use Rattle.report.proofs.Ties.{reach-demand-stays, reach-oxygen-stays, still-figures}
+use Rattle.report.proofs.record.Encoding.{plain-first}
 
 -- the dam of the example, share 500 and generating flow 1,000
 abbrev weir : Dam
 weir = Aerating 500 1000
 
--- what flows into reach 2, by the take of reach 1
-abbrev feeders : Amount → Feeders
-feeders take = more (first take) none none
+-- reach 1 by its take and its nitrification, and what flows into reach 2
+abbrev upper : Amount → Nitrification → Card
+upper take nitrification = reach 2 0 1000 3000 2000 8000 0 Absent take Without Without nitrification
 
-accepted-first : (take : Amount) → amountOr 0 take < 3000 → AcceptedReach (first take) none
+abbrev feeders : Amount → Nitrification → Feeders
+feeders take nitrification = more (upper take nitrification) none none
+
+-- a nitrification of rate 0 that brings little
+record Still (nitrification : Nitrification) : Type 0 where
+  rate : nitrogenousRate nitrification ≡ 0
+  few : sourceMass (nitrogenousSource 3000 nitrification) ≤ 1000000000
+
+idle : Still Idle
+idle = record { rate = refl; few = omega arith }
+
+zeros : Still (Nitrifying 0 0 0)
+zeros = record { rate = refl; few = omega arith }
+
+laden-still : Still (Nitrifying 0 4000 0)
+laden-still = record { rate = refl; few = omega arith }
+
+-- nothing decays in these reaches
+upper-keeps : (take : Amount) (nitrification : Nitrification) → Still nitrification → (d : Demand) → rateOf d (upper take nitrification) * 1000 ≡ 0
+upper-keeps take nitrification still Bod = refl
+upper-keeps take nitrification still Nitrogenous = rw (still .rate)
+
+second-keeps : (dam : Dam) (take pressure : Amount) (d : Demand) → rateOf d (second dam take pressure) * 1000 ≡ 0
+second-keeps dam take pressure Bod = refl
+second-keeps dam take pressure Nitrogenous = refl
+
+-- and so their rates are in range
+slow : (card : Card) → ((d : Demand) → rateOf d card * 1000 ≡ 0) → (d : Demand) → rateOf d card ≤ 20_000
+slow card h d = omega (arith, h d)
+
+accepted-first : (take : Amount) (nitrification : Nitrification) → Still nitrification → amountOr 0 take < 3000 → AcceptedReach (upper take nitrification) none
 unfolding flowOf massOf DamRule
-accepted-first take h =
+accepted-first take nitrification still h =
     record {
       fields = omega arith;
       saturation = omega arith;
       dam = tt;
+      rates = slow (upper take nitrification) (upper-keeps take nitrification still);
       sludge = omega arith;
-      flows = record { flowing = omega arith; bounded = omega arith; dam-rule = tt; mass-rule = omega arith; take-rule = h; decay-rule = omega arith; aeration-rule = omega arith; bed-rule = omega arith };
+      flows =
+          record {
+            flowing = omega arith;
+            bounded = omega arith;
+            dam-rule = tt;
+            mass-rule = omega (arith, still .few);
+            take-rule = h;
+            decay-rule = omega arith;
+            aeration-rule = omega arith;
+            nitrification-rule = omega (arith, upper-keeps take nitrification still Nitrogenous);
+            bed-rule = omega arith;
+          };
     }
 
 accepted-second : (dam : Dam) (take pressure : Amount) {up : Feeders} → SaturationInRange (second dam take pressure) → LawfulDam dam → DamRule dam up → flowOf up ≤ 3000 → massOf up ≤ 1000000 * flowOf up → amountOr 0 take ≤ 1000 → 0 < flowOf up → AcceptedReach (second dam take pressure) up
@@ -45,30 +97,39 @@ accepted-second dam take pressure conditions h k few within drawn-few some =
       fields = omega arith;
       saturation = conditions;
       dam = h;
+      rates = slow (second dam take pressure) (second-keeps dam take pressure);
       sludge = omega arith;
-      flows = record { flowing = omega arith; bounded = omega arith; dam-rule = k; mass-rule = omega arith; take-rule = omega arith; decay-rule = omega arith; aeration-rule = omega arith; bed-rule = omega arith };
+      flows =
+          record {
+            flowing = omega arith;
+            bounded = omega arith;
+            dam-rule = k;
+            mass-rule = omega arith;
+            take-rule = omega arith;
+            decay-rule = omega arith;
+            aeration-rule = omega arith;
+            nitrification-rule = omega arith;
+            bed-rule = omega arith;
+          };
     }
 
--- reach 2: plain, below a take, with a take, and with a dam at any pressure
-accepted-open : AcceptedReach (second Absent Without Without) (feeders Without)
+-- reach 2: plain below any reach 1, with a take, and with a dam at any pressure
+accepted-open : (take : Amount) (nitrification : Nitrification) → Still nitrification → amountOr 0 take < 3000 → AcceptedReach (second Absent Without Without) (feeders take nitrification)
 unfolding DamRule flowOf massOf
-accepted-open = accepted-second Absent Without Without (omega arith) tt tt (omega arith) (omega arith) (omega arith) (omega arith)
+accepted-open take nitrification still h =
+    accepted-second Absent Without Without (omega arith) tt tt (omega arith) (omega (arith, mass-within (accepted-first take nitrification still h .flows))) (omega arith) (omega arith)
 
-accepted-below : AcceptedReach (second Absent Without Without) (feeders (Given 1000))
-unfolding DamRule flowOf massOf
-accepted-below = accepted-second Absent Without Without (omega arith) tt tt (omega arith) (omega arith) (omega arith) (omega arith)
-
-accepted-drawn : AcceptedReach (second Absent (Given 1000) Without) (feeders Without)
+accepted-drawn : AcceptedReach (second Absent (Given 1000) Without) (feeders Without Idle)
 unfolding DamRule flowOf massOf
 accepted-drawn = accepted-second Absent (Given 1000) Without (omega arith) tt tt (omega arith) (omega arith) (omega arith) (omega arith)
 
-accepted-weir : (pressure : Amount) → SaturationInRange (second weir Without pressure) → AcceptedReach (second weir Without pressure) (feeders Without)
+accepted-weir : (pressure : Amount) → SaturationInRange (second weir Without pressure) → AcceptedReach (second weir Without pressure) (feeders Without Idle)
 unfolding DamRule fed flowOf massOf
 accepted-weir pressure conditions = accepted-second weir Without pressure conditions (omega arith) (refl, omega arith) (omega arith) (omega arith) (omega arith) (omega arith)
 
 -- the figures of a line where nothing changes along the reach
-abbrev line : (depth flow bod oxygen : ℕ) → Figures
-line depth flow bod oxygen =
+abbrev line : (depth flow bod oxygen nitrogenous : ℕ) → Figures
+line depth flow bod oxygen nitrogenous =
     record {
       depth = depth;
       flow = flow;
@@ -78,94 +139,155 @@ line depth flow bod oxygen =
       critical-instant = 0;
       critical-oxygen = pos oxygen;
       foot-oxygen = pos oxygen;
+      head-nitrogenous = nitrogenous;
+      foot-nitrogenous = nitrogenous;
     }
 
-head-1 : (take : Amount) → (bodAtHead (first take) none ≡ 2000000) × (oxygenAtHead (first take) none ≡ pos 8000000)
-unfolding bodAtHead oxygenAtHead bodSum oxygenSum fed flowOf headDemand headOxygen upstreamDemand upstreamOxygen belowDam floor
-head-1 take = (refl, refl)
+-- nitrogenous BOD that a nitrification brings to the water of reach 1
+abbrev brought : Nitrification → ℕ
+brought nitrification = mixedDemand (nitrogenousSource 3000 nitrification) 0 0
+
+record HeadIs (card : Card) (up : Feeders) (bod oxygen nitrogenous : ℕ) : Type 0 where
+  bod-is : demandAtHead Bod card up ≡ bod
+  nitrogenous-is : demandAtHead Nitrogenous card up ≡ nitrogenous
+  oxygen-is : oxygenAtHead card up ≡ pos oxygen
+
+head-1 : (take : Amount) (nitrification : Nitrification) → HeadIs (upper take nitrification) none 2000000 8000000 (brought nitrification)
+unfolding demandAtHead oxygenAtHead demandSum oxygenSum fed flowOf headDemand headOxygen upstreamDemand upstreamOxygen belowDam aerated floor
+head-1 take nitrification = record { bod-is = refl; nitrogenous-is = refl; oxygen-is = refl }
 
 -- what reach 1 hands down, by the flow after its take
-foot-1 : (take : Amount) → amountOr 0 take < 3000 → (bodSum (feeders take) ≡ (3000 - amountOr 0 take) * 2000000 + 0) × (oxygenSum (feeders take) ≡ pos (3000 - amountOr 0 take) *ℤ pos 8000000 +ℤ pos 0)
-unfolding bodSum oxygenSum flowOf bodAt oxygenAt bodAtHead oxygenAtHead
-foot-1 take h =
+record FootIs (take : Amount) (nitrification : Nitrification) : Type 0 where
+  bod-is : demandSum Bod (feeders take nitrification) ≡ (3000 - amountOr 0 take) * 2000000 + 0
+  nitrogenous-is : demandSum Nitrogenous (feeders take nitrification) ≡ (3000 - amountOr 0 take) * brought nitrification + 0
+  oxygen-is : oxygenSum (feeders take nitrification) ≡ pos (3000 - amountOr 0 take) *ℤ pos 8000000 +ℤ pos 0
+
+foot-1 : (take : Amount) (nitrification : Nitrification) → Still nitrification → amountOr 0 take < 3000 → FootIs take nitrification
+unfolding demandSum oxygenSum flowOf demandAt oxygenAt demandAtHead oxygenAtHead
+foot-1 take nitrification still h =
     let Q = 3000 - amountOr 0 take in
-    (ap (λ (b : ℕ). Q * b + 0) (reach-bod-stays (accepted-first take h) refl foot ∙ head-1 take .0), ap (λ (o : ℤ). pos Q *ℤ o +ℤ pos 0) (reach-oxygen-stays (accepted-first take h) refl refl refl foot ∙ head-1 take .1))
+    let own = accepted-first take nitrification still h in
+    let keeps = upper-keeps take nitrification still in
+    record {
+      bod-is = ap (λ (b : ℕ). Q * b + 0) (reach-demand-stays own Bod (keeps Bod) foot ∙ head-1 take nitrification .bod-is);
+      nitrogenous-is = ap (λ (b : ℕ). Q * b + 0) (reach-demand-stays own Nitrogenous (keeps Nitrogenous) foot ∙ head-1 take nitrification .nitrogenous-is);
+      oxygen-is = ap (λ (o : ℤ). pos Q *ℤ o +ℤ pos 0) (reach-oxygen-stays own keeps refl refl foot ∙ head-1 take nitrification .oxygen-is);
+    }
 
--- the head of reach 2, by the takes
-abbrev HeadIs : Card → Feeders → (bod oxygen : ℕ) → Type 0
-HeadIs card up bod oxygen = (bodAtHead card up ≡ bod) × (oxygenAtHead card up ≡ pos oxygen)
+-- the head of reach 2, by the take of reach 1
+module _ (dam : Dam) (take pressure upper-take : Amount) (nitrification : Nitrification) (still : Still nitrification) (h : amountOr 0 upper-take < 3000) where
+  head-2 : {bod oxygen nitrogenous : ℕ} → headDemand (sourceOf Bod (second dam take pressure)) true (flowOf (feeders upper-take nitrification)) ((3000 - amountOr 0 upper-take) * 2000000 + 0) ≡ bod → headDemand (sourceOf Nitrogenous (second dam take pressure)) true (flowOf (feeders upper-take nitrification)) ((3000 - amountOr 0 upper-take) * brought nitrification + 0) ≡ nitrogenous → headOxygen (second dam take pressure) true (flowOf (feeders upper-take nitrification)) (pos (3000 - amountOr 0 upper-take) *ℤ pos 8000000 +ℤ pos 0) ≡ pos oxygen → HeadIs (second dam take pressure) (feeders upper-take nitrification) bod oxygen nitrogenous
+  unfolding demandAtHead oxygenAtHead fed
+  head-2 b n o =
+      let f = foot-1 upper-take nitrification still h in
+      record {
+        bod-is = rw (f .bod-is) b;
+        nitrogenous-is = rw (f .nitrogenous-is) n;
+        oxygen-is = rw (f .oxygen-is) o;
+      }
 
-head-2 : (take : Amount) → HeadIs (second Absent take Without) (feeders Without) 9000000 6500000
-unfolding bodAtHead oxygenAtHead fed flowOf headDemand headOxygen upstreamDemand upstreamOxygen belowDam aerated floor
-head-2 take =
-    let f = foot-1 Without (omega arith) in
-    (ap (headBod (second Absent take Without) true 3000) (f .0), ap (headOxygen (second Absent take Without) true 3000) (f .1))
+-- the line of a reach that keeps its figures
+still-line : {card : Card} {up : Feeders} {bod oxygen nitrogenous : ℕ} → AcceptedReach card up → ((d : Demand) → rateOf d card * card .volume ≡ 0) → card .k2 * card .volume ≡ 0 → sludgeOf card * card .volume ≡ 0 → HeadIs card up bod oxygen nitrogenous → figuresOf card up ≡ line (reachDepth up) (reachFlow card up) bod oxygen nitrogenous
+still-line own h k s is = still-figures own h k s ∙ rw (is .bod-is, is .nitrogenous-is, is .oxygen-is)
 
-head-below : HeadIs (second Absent Without Without) (feeders (Given 1000)) 11333333 6000000
-unfolding bodAtHead oxygenAtHead fed flowOf headDemand headOxygen upstreamDemand upstreamOxygen belowDam aerated floor
-head-below =
-    let f = foot-1 (Given 1000) (omega arith) in
-    (ap (headBod (second Absent Without Without) true 2000) (f .0), ap (headOxygen (second Absent Without Without) true 2000) (f .1))
+-- the first line, with no take there, by its nitrification
+first-line : (nitrification : Nitrification) → Still nitrification → figuresOf (upper Without nitrification) none ≡ line 1 3000 2000000 8000000 (brought nitrification)
+unfolding flowOf deepest
+first-line nitrification still =
+    still-line (accepted-first Without nitrification still (omega arith)) (upper-keeps Without nitrification still) refl refl (head-1 Without nitrification)
 
-head-weir : (pressure : Amount) {oxygen : ℕ} → headOxygen (second weir Without pressure) true 3000 (pos 3000 *ℤ pos 8000000 +ℤ pos 0) ≡ pos oxygen → HeadIs (second weir Without pressure) (feeders Without) 9000000 oxygen
-unfolding bodAtHead oxygenAtHead fed flowOf headDemand upstreamDemand
-head-weir pressure e =
-    let f = foot-1 Without (omega arith) in
-    (ap (headBod (second weir Without pressure) true 3000) (f .0), ap (headOxygen (second weir Without pressure) true 3000) (f .1) ∙ e)
+-- the second line, with no take or dam, by the nitrification of reach 1
+second-line : (nitrification : Nitrification) {nitrogenous : ℕ} → Still nitrification → headDemand (sourceOf Nitrogenous (second Absent Without Without)) true 3000 (3000 * brought nitrification + 0) ≡ nitrogenous → figuresOf (second Absent Without Without) (feeders Without nitrification) ≡ line 2 4000 9000000 6500000 nitrogenous
+unfolding fed flowOf deepest headDemand headOxygen upstreamDemand upstreamOxygen belowDam aerated floor
+second-line nitrification still e =
+    still-line (accepted-open Without nitrification still (omega arith)) (second-keeps Absent Without Without) refl refl
+    (head-2 Absent Without Without Without nitrification still (omega arith) {oxygen = 6500000} refl e refl)
 
 -- the line below the dam, by the pressure there
-weir-line : (pressure : Amount) {oxygen : ℕ} → SaturationInRange (second weir Without pressure) → headOxygen (second weir Without pressure) true 3000 (pos 3000 *ℤ pos 8000000 +ℤ pos 0) ≡ pos oxygen → figuresOf (second weir Without pressure) (feeders Without) ≡ line 2 4000 9000000 oxygen
-unfolding flowOf deepest
+weir-line : (pressure : Amount) {oxygen : ℕ} → SaturationInRange (second weir Without pressure) → headOxygen (second weir Without pressure) true 3000 (pos 3000 *ℤ pos 8000000 +ℤ pos 0) ≡ pos oxygen → figuresOf (second weir Without pressure) (feeders Without Idle) ≡ line 2 4000 9000000 oxygen 0
+unfolding flowOf deepest headDemand upstreamDemand
 weir-line pressure conditions e =
-    still-figures (accepted-weir pressure conditions) refl refl refl ∙ rw (head-weir pressure e .0, head-weir pressure e .1)
+    still-line (accepted-weir pressure conditions) (second-keeps weir Without pressure) refl refl
+    (head-2 weir Without pressure Without Idle idle (omega arith) refl refl e)
+
+-- the second line below a take of reach 1, and with one of its own
+below-take : figuresOf (second Absent Without Without) (feeders (Given 1000) Idle) ≡ line 2 3000 11333333 6000000 0
+unfolding fed flowOf deepest headDemand headOxygen upstreamDemand upstreamOxygen belowDam aerated floor
+below-take =
+    still-line (accepted-open (Given 1000) Idle idle (omega arith)) (second-keeps Absent Without Without) refl refl
+    (head-2 Absent Without Without (Given 1000) Idle idle (omega arith) {oxygen = 6000000} refl refl refl)
+
+own-take : figuresOf (second Absent (Given 1000) Without) (feeders Without Idle) ≡ line 2 3000 9000000 6500000 0
+unfolding fed flowOf deepest headDemand headOxygen upstreamDemand upstreamOxygen belowDam aerated floor
+own-take =
+    still-line accepted-drawn (second-keeps Absent (Given 1000) Without) refl refl
+    (head-2 Absent (Given 1000) Without Without Idle idle (omega arith) {oxygen = 6500000} refl refl refl)
 
 -- upstream oxygen of the second reach
 abbrev upstream : Feeders → ℤ
 upstream up = upstreamOxygen (fed up) (flowOf up) (oxygenSum up)
 
 -- oxygen below the dam, by the pressure there
-below-weir : (pressure : Amount) {oxygen : ℕ} → belowDam (second weir Without pressure) true 3000 (upstreamOxygen true 3000 (pos 3000 *ℤ pos 8000000 +ℤ pos 0)) ≡ pos oxygen → belowDam (second weir Without pressure) (fed (feeders Without)) (flowOf (feeders Without)) (upstream (feeders Without)) ≡ pos oxygen
+below-weir : (pressure : Amount) {oxygen : ℕ} → belowDam (second weir Without pressure) true 3000 (upstreamOxygen true 3000 (pos 3000 *ℤ pos 8000000 +ℤ pos 0)) ≡ pos oxygen → belowDam (second weir Without pressure) (fed (feeders Without Idle)) (flowOf (feeders Without Idle)) (upstream (feeders Without Idle)) ≡ pos oxygen
 unfolding fed flowOf
 below-weir pressure e =
-    ap (λ (sum : ℤ). belowDam (second weir Without pressure) true 3000 (upstreamOxygen true 3000 sum)) (foot-1 Without (omega arith) .1) ∙ e
+    ap (λ (sum : ℤ). belowDam (second weir Without pressure) true 3000 (upstreamOxygen true 3000 sum)) (foot-1 Without Idle idle (omega arith) .oxygen-is) ∙ e
 
--- the first line, with no take there
-first-line : figuresOf (first Without) none ≡ line 1 3000 2000000 8000000
-unfolding flowOf deepest
-first-line = still-figures (accepted-first Without (omega arith)) refl refl refl ∙ rw (head-1 Without .0, head-1 Without .1)
+-- the two reaches with a nitrification at the first
+abbrev laden : Nitrification → List Card
+laden nitrification = upper Without nitrification ∷ second Absent Without Without ∷ []
+
+-- the `RP` record of a record with an `RN` record is the record without
+plain-bytes : {f g : Figures} → f ≡ g → take plainBytes (encodeRecord true f) ≡ encodeRecord false g
+unfolding encodeRecord encodePlain
+plain-bytes {f} e = plain-first true f ∙ ap encodePlain e
 
 -- one theorem, a row each
 pub record Rows : Type 0 where
   pub flows-and-heads : FlowRows
-  pub line-1 : figuresAt (two Absent) 1 ≡ line 1 3000 2000000 8000000
-  pub line-2 : figuresAt (two Absent) 2 ≡ line 2 4000 9000000 6500000
+  pub line-1 : figuresAt (two Absent) 1 ≡ line 1 3000 2000000 8000000 0
+  pub line-2 : figuresAt (two Absent) 2 ≡ line 2 4000 9000000 6500000 0
   pub below-dam : belowDam (second weir Without Without) (fed (above (two weir) 2)) (flowOf (above (two weir) 2)) (upstream (above (two weir) 2)) ≡ pos 8340602
-  pub line-dam : figuresAt (two weir) 2 ≡ line 2 4000 9000000 6755451
+  pub line-dam : figuresAt (two weir) 2 ≡ line 2 4000 9000000 6755451 0
   -- the dam at 700 mm
   pub hilly-below-dam : belowDam (second weir Without (Given 700)) (fed (above (hilly (Given 700)) 2)) (flowOf (above (hilly (Given 700)) 2)) (upstream (above (hilly (Given 700)) 2)) ≡ pos 8103186
-  pub hilly-line-1 : figuresAt (hilly (Given 700)) 1 ≡ line 1 3000 2000000 8000000
-  pub hilly-line-2 : figuresAt (hilly (Given 700)) 2 ≡ line 2 4000 9000000 6577389
+  pub hilly-line-1 : figuresAt (hilly (Given 700)) 1 ≡ line 1 3000 2000000 8000000 0
+  pub hilly-line-2 : figuresAt (hilly (Given 700)) 2 ≡ line 2 4000 9000000 6577389 0
   -- with a take of 1,000 at reach 1, and at reach 2 instead
-  pub drawn-1-line-1 : figuresAt (drawn (Given 1000) Without) 1 ≡ line 1 2000 2000000 8000000
-  pub drawn-1-line-2 : figuresAt (drawn (Given 1000) Without) 2 ≡ line 2 3000 11333333 6000000
-  pub drawn-2-line-1 : figuresAt (drawn Without (Given 1000)) 1 ≡ line 1 3000 2000000 8000000
-  pub drawn-2-line-2 : figuresAt (drawn Without (Given 1000)) 2 ≡ line 2 3000 9000000 6500000
+  pub drawn-1-line-1 : figuresAt (drawn (Given 1000) Without) 1 ≡ line 1 2000 2000000 8000000 0
+  pub drawn-1-line-2 : figuresAt (drawn (Given 1000) Without) 2 ≡ line 2 3000 11333333 6000000 0
+  pub drawn-2-line-1 : figuresAt (drawn Without (Given 1000)) 1 ≡ line 1 3000 2000000 8000000 0
+  pub drawn-2-line-2 : figuresAt (drawn Without (Given 1000)) 2 ≡ line 2 3000 9000000 6500000 0
+  -- with nitrogenous BOD of 4 mg/L at reach 1, which reach 2 carries and adds none to; each line is that without and two numbers more
+  pub laden-line-1 : figuresAt (laden (Nitrifying 0 4000 0)) 1 ≡ line 1 3000 2000000 8000000 4000000
+  pub laden-line-2 : figuresAt (laden (Nitrifying 0 4000 0)) 2 ≡ line 2 4000 9000000 6500000 3000000
+  -- a nitrification of zeros makes the records longer, and leaves their `RP` records as they are
+  pub plain-size : recordSize (two Absent) ≡ 29
+  pub zeros-size : recordSize (laden (Nitrifying 0 0 0)) ≡ 39
+  pub zeros-1 : take plainBytes (recordOf (laden (Nitrifying 0 0 0)) 0) ≡ recordOf (two Absent) 0
+  pub zeros-2 : take plainBytes (recordOf (laden (Nitrifying 0 0 0)) 1) ≡ recordOf (two Absent) 1
 
 -- THEOREM: the bench values of the paper that are to be proved, a row each
 pub bench : Rows
-unfolding feedersAmong joinedIf flowOf deepest headOxygen upstreamOxygen belowDam aerated floor saturation saturationThousandths saturationOf
+unfolding feedersAmong joinedIf flowOf deepest headDemand headOxygen upstreamDemand upstreamOxygen belowDam aerated floor saturation saturationThousandths saturationOf nitrifies isNitrified hasNitrification
 bench =
     record {
       flows-and-heads = flow-bench;
-      line-1 = first-line;
-      line-2 = still-figures accepted-open refl refl refl ∙ rw (head-2 Without .0, head-2 Without .1);
+      line-1 = first-line Idle idle;
+      line-2 = second-line Idle idle refl;
       below-dam = below-weir Without refl;
       line-dam = weir-line Without (omega arith) refl;
       hilly-below-dam = below-weir (Given 700) refl;
-      hilly-line-1 = first-line;
+      hilly-line-1 = first-line Idle idle;
       hilly-line-2 = weir-line (Given 700) (omega arith) refl;
-      drawn-1-line-1 = still-figures (accepted-first (Given 1000) (omega arith)) refl refl refl ∙ rw (head-1 (Given 1000) .0, head-1 (Given 1000) .1);
-      drawn-1-line-2 = still-figures accepted-below refl refl refl ∙ rw (head-below .0, head-below .1);
-      drawn-2-line-1 = first-line;
-      drawn-2-line-2 = still-figures accepted-drawn refl refl refl ∙ rw (head-2 (Given 1000) .0, head-2 (Given 1000) .1);
+      drawn-1-line-1 = still-line (accepted-first (Given 1000) Idle idle (omega arith)) (upper-keeps (Given 1000) Idle idle) refl refl (head-1 (Given 1000) Idle);
+      drawn-1-line-2 = below-take;
+      drawn-2-line-1 = first-line Idle idle;
+      drawn-2-line-2 = own-take;
+      laden-line-1 = first-line (Nitrifying 0 4000 0) laden-still;
+      laden-line-2 = second-line (Nitrifying 0 4000 0) laden-still refl;
+      plain-size = refl;
+      zeros-size = refl;
+      zeros-1 = plain-bytes (first-line (Nitrifying 0 0 0) zeros ∙ sym (first-line Idle idle));
+      zeros-2 = plain-bytes (second-line (Nitrifying 0 0 0) zeros refl ∙ sym (second-line Idle idle refl));
     }

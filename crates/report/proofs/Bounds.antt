@@ -1,31 +1,35 @@
--- How far BOD and oxygen can lie from 0 in an accepted river, at the head of a reach and at every instant.
--- Carried down the river, times flow: BOD is at most 1,000 × M, BOD less oxygen at most that and 5,000,003 units more for each level (3 of
--- rounding at its head, and what its bed may take), and oxygen at most 20,000,000 and a unit more for each level. The levels above a reach are
--- the reaches of this river on the longest way down to it.
+-- How far the demands and oxygen can lie from 0 in an accepted river, at the head of a reach and at every instant.
+-- Carried down the river, times flow: the two demands together are at most 1,000 × M, the demands less oxygen at most that and 5,000,003 units
+-- more for each level (3 of rounding at its head, and what its bed may take), and oxygen at most 20,000,000 and a unit more for each level. The
+-- levels above a reach are the reaches of this river on the longest way down to it.
+use mathlib.Core.Path.{_≡_}
+use mathlib.Core.Bool.{Bool}
 use mathlib.Core.List.{[], _∷_}
 use Prim.Native.Nat.{ℕ, _+_, _*_, _≤_, max}
-use native.Mathlib.Nat.{le-max-left, le-max-right, le-refl, mul-le-mul-left, mul-le-mul-right}
+use native.Mathlib.Nat.{le-max-left, le-max-right, le-refl, le-trans, mul-div-le, mul-le-mul-left, mul-le-mul-right}
 use native.Mathlib.Omega.{arith}
 use lib.IntN.{ℤ, pos, negsuc, _*ℤ_}
 use lib.Signed.{_≤ℤ_}
 use Rattle.decay.specs.Fraction.{Fraction, _≈_, _≼_, ofℕ, ofℤ, _+ᶠ_, -ᶠ_, _-ᶠ_, _*ᶠ_}
-use Rattle.decay.specs.Fixed.{product}
 use Rattle.decay.specs.Promise.{share}
-use Rattle.decay.proofs.Algebra.{Nonneg, quote, slack, number, _⊞_, _⊠_, multiple, certify, ≈-refl, ≈-sym, ≈-trans, ≼-trans, ≼-of-≈, ≼-by, ≼-refl, +ᶠ-cong, *ᶠ-cong, ofℤ-+, ofℤ-*, Positive, positive-whole, certify-over, none as no-equations, ofℕ-reflect, ofℤ-reflect, ofℕ-mono, ofℕ-+, ofℕ-*}
+use Rattle.decay.proofs.Algebra.{Nonneg, quote, slack, number, _⊞_, _⊠_, multiple, certify, ring-by, _⋅_, _&_, ofℕ-≈, ≈-refl, ≈-sym, ≈-trans, ≼-trans, ≼-of-≈, ≼-by, ≼-refl, +ᶠ-cong, *ᶠ-cong, ofℤ-+, ofℤ-*, Positive, positive-whole, certify-over, none as no-equations, ofℕ-reflect, ofℤ-reflect, ofℕ-mono, ofℕ-+, ofℕ-*}
 use Rattle.river.specs.declared.card.Card.{Card}
-use Rattle.river.specs.Flow.{Feeders, more, fed, flowOf, mixedFlow, reachFlow, massOf, mixedMass, reachMass, deepest}
+use Rattle.river.specs.Flow.{Feeders, more, fed, flowOf, mixedFlow, reachFlow, ownMass, massOf, mixedMass, reachMass, deepest}
 use Rattle.river.specs.Saturation.{saturationOf, SaturationInRange}
-use Rattle.river.specs.Source.{bodSource}
+use Rattle.river.specs.declared.source.Demand.{Demand}
+use Rattle.river.specs.declared.source.Demand.the-variants.{Bod, Nitrogenous}
+use Rattle.river.specs.declared.source.Source.{Source}
+use Rattle.river.specs.Source.{sourceOf, sourceMass}
 use Rattle.river.specs.Head.{upstreamDemand, upstreamOxygen, belowDam, headDemand, headOxygen}
 use Rattle.river.proofs.flow.Take.{flow-remains, mass-within, mass-scaled}
-use Rattle.river.proofs.head.Bounds.{saturation-of-small}
+use Rattle.river.proofs.head.Bounds.{saturation-of-small, upstream-kept}
 use Rattle.report.specs.Bed.{lossLimit}
-use Rattle.report.specs.Program.{bodSum, oxygenSum, bodAtHead, oxygenAtHead, bodAt, oxygenAt, bodAlong, lossAlong, oxygenAlong, bodWith, factorsAlong, foot}
+use Rattle.report.specs.Program.{demandSum, oxygenSum, demandAtHead, oxygenAtHead, demandAt, oxygenAt, turnedAlong, lossAlong, oxygenAlong, factorsAlong, foot}
 use Rattle.report.proofs.Facts.Floor.{Rounded}
 use Rattle.report.proofs.Forest.{AcceptedReach, AllAccepted, no-more, one-more}
-use Rattle.report.proofs.Ties.{factors-range, loss-small}
-use Rattle.report.proofs.Facts.Instant.{Floored, product-floored, Shares, shares-in-range, keptDeficit, kept-floored, oxygen-parts}
-use Rattle.report.proofs.Facts.Head.{ofℕ-+₃, ofℕ-+₄, Dammed, bod-mean, oxygen-mean, damPart, below-dam, demand-mixed, oxygen-mixed}
+use Rattle.report.proofs.Ties.{factors-range, loss-small, parts-within}
+use Rattle.report.proofs.Facts.Instant.{Floored, Shares, shares-in-range, keptDeficit, kept-floored, turned-parts}
+use Rattle.report.proofs.Facts.Head.{ofℕ-+₄, source-flow, Dammed, oxygen-mean, damPart, below-dam, oxygen-mixed}
 
 -- ---- the estimates in fractions
 
@@ -34,25 +38,25 @@ dam-above : (Qu u saturated σ c k : Fraction) → Nonneg Qu → Dammed u satura
 dam-above Qu u saturated σ c k p d h g =
     certify (Qu ∷ u ∷ saturated ∷ σ ∷ c ∷ k ∷ []) (p ⊠ slack (d .low) ⊞ slack (d .part-of-one) ⊠ slack h ⊞ d .part ⊠ (p ⊠ slack g)) (search quote depth 40 fits 9999) tt
 
--- BOD less oxygen rises by at most a unit at a dam
+-- the demands less oxygen rise by at most a unit at a dam
 dam-below : (Qu bod u saturated σ c total : Fraction) → Nonneg Qu → Nonneg saturated → Dammed u saturated σ c → Qu *ᶠ bod ≼ total → Qu *ᶠ bod -ᶠ Qu *ᶠ u ≼ total +ᶠ Qu → Qu *ᶠ bod -ᶠ Qu *ᶠ c ≼ total +ᶠ Qu +ᶠ Qu
 dam-below Qu bod u saturated σ c total p s d h g =
     certify (Qu ∷ bod ∷ u ∷ saturated ∷ σ ∷ c ∷ total ∷ []) (p ⊠ slack (d .high) ⊞ slack (d .part-of-one) ⊠ slack g ⊞ d .part ⊠ slack h ⊞ d .part ⊠ p ⊞ d .part ⊠ (p ⊠ s)) (search quote depth 40 fits 9999) tt
 
--- water of flow Q: BOD at most mass, BOD less oxygen at most mass + deep, oxygen at most the bound k; each times flow
-pub record Bounded (bod oxygen Q mass deep k : Fraction) : Type 0 where
-  pub bod-above : bod ≼ mass
-  pub oxygen-below : bod -ᶠ oxygen ≼ mass +ᶠ deep
+-- water of flow Q: the demands at most mass, the demands less oxygen at most mass + deep, oxygen at most the bound k; each times flow
+pub record Bounded (demands oxygen Q mass deep k : Fraction) : Type 0 where
+  pub demands-above : demands ≼ mass
+  pub oxygen-below : demands -ᶠ oxygen ≼ mass +ᶠ deep
   pub oxygen-above : oxygen ≼ Q *ᶠ k
 
--- from the feeders' feet to the head
-head-bounded : (Qu Q inflow s t u v w h c W₁ W₂ W₃ saturated σ mass deep k : Fraction) → Nonneg Qu → Nonneg deep → Nonneg saturated → saturated ≼ k → Nonneg W₃ → W₃ ≼ inflow *ᶠ k → Q ≈ Qu +ᶠ inflow
-    → Rounded Qu u s → Rounded Qu v t → Dammed v saturated σ w → Rounded Q h (Qu *ᶠ u +ᶠ W₁ +ᶠ W₂) → Rounded Q c (Qu *ᶠ w +ᶠ W₃) → Bounded s t Qu mass deep k
-    → Bounded (Q *ᶠ h) (Q *ᶠ c) Q (mass +ᶠ W₁ +ᶠ W₂) (deep +ᶠ Qu +ᶠ Qu +ᶠ Q) k
-head-bounded Qu Q inflow s t u v w h c W₁ W₂ W₃ saturated σ mass deep k p pd ps sk pw wk flows mean₁ mean₂ dam mix₁ mix₂ b =
+-- from the feeders' feet to the head: of the demands u are upstream, h at the head, and W come in
+head-bounded : (Qu Q inflow s t u v w h c W W₃ saturated σ mass deep k : Fraction) → Nonneg Qu → Nonneg deep → Nonneg saturated → saturated ≼ k → Nonneg W₃ → W₃ ≼ inflow *ᶠ k → Q ≈ Qu +ᶠ inflow
+    → Qu *ᶠ u ≼ s → Rounded Qu v t → Dammed v saturated σ w → Q *ᶠ h ≼ Qu *ᶠ u +ᶠ W → Rounded Q c (Qu *ᶠ w +ᶠ W₃) → Bounded s t Qu mass deep k
+    → Bounded (Q *ᶠ h) (Q *ᶠ c) Q (mass +ᶠ W) (deep +ᶠ Qu +ᶠ Qu +ᶠ Q) k
+head-bounded Qu Q inflow s t u v w h c W W₃ saturated σ mass deep k p pd ps sk pw wk flows mean₁ mean₂ dam mix₁ mix₂ b =
     record {
-      bod-above = certify (Q ∷ Qu ∷ h ∷ u ∷ W₁ ∷ W₂ ∷ s ∷ mass ∷ []) (slack (mix₁ .low) ⊞ slack (mean₁ .low) ⊞ slack (b .bod-above)) (search quote depth 40 fits 9999) tt;
-      oxygen-below = certify (Q ∷ Qu ∷ h ∷ c ∷ u ∷ w ∷ W₁ ∷ W₂ ∷ W₃ ∷ mass ∷ deep ∷ []) (slack (mix₁ .low) ⊞ slack (mix₂ .high) ⊞ slack below ⊞ pw) (search quote depth 40 fits 9999) tt;
+      demands-above = certify (Q ∷ Qu ∷ h ∷ u ∷ W ∷ s ∷ mass ∷ []) (slack mix₁ ⊞ slack mean₁ ⊞ slack (b .demands-above)) (search quote depth 40 fits 9999) tt;
+      oxygen-below = certify (Q ∷ Qu ∷ h ∷ c ∷ u ∷ w ∷ W ∷ W₃ ∷ mass ∷ deep ∷ []) (slack mix₁ ⊞ slack (mix₂ .high) ⊞ slack below ⊞ pw) (search quote depth 40 fits 9999) tt;
       oxygen-above = certify (Q ∷ Qu ∷ inflow ∷ c ∷ w ∷ W₃ ∷ k ∷ []) (slack (mix₂ .low) ⊞ slack above ⊞ slack wk ⊞ multiple k (≈-sym flows)) (search quote depth 40 fits 9999) tt;
     }
   where
@@ -62,18 +66,18 @@ head-bounded Qu Q inflow s t u v w h c W₁ W₂ W₃ saturated σ mass deep k p
     below : Qu *ᶠ u -ᶠ Qu *ᶠ w ≼ mass +ᶠ deep +ᶠ Qu +ᶠ Qu
     below =
         dam-below Qu u v saturated σ w (mass +ᶠ deep) p ps dam
-        (certify (Qu ∷ u ∷ s ∷ mass ∷ deep ∷ []) (slack (mean₁ .low) ⊞ slack (b .bod-above) ⊞ pd) (search quote depth 40 fits 9999) tt)
-        (certify (Qu ∷ u ∷ v ∷ s ∷ t ∷ mass ∷ deep ∷ []) (slack (mean₁ .low) ⊞ slack (mean₂ .high) ⊞ slack (b .oxygen-below)) (search quote depth 40 fits 9999) tt)
+        (certify (Qu ∷ u ∷ s ∷ mass ∷ deep ∷ []) (slack mean₁ ⊞ slack (b .demands-above) ⊞ pd) (search quote depth 40 fits 9999) tt)
+        (certify (Qu ∷ u ∷ v ∷ s ∷ t ∷ mass ∷ deep ∷ []) (slack mean₁ ⊞ slack (mean₂ .high) ⊞ slack (b .oxygen-below)) (search quote depth 40 fits 9999) tt)
 
--- from the head to an instant: BOD is B, and oxygen is saturation less G, R and the loss T to a bed
-instant-bounded : (Q L c saturated p g r B G R T most mass deep k : Fraction) → Nonneg Q → Nonneg L → Nonneg deep → Nonneg saturated → saturated ≼ k → Shares p g r
-    → Nonneg G → Nonneg T → T ≼ most → Floored B (p *ᶠ L) → Floored G (g *ᶠ L) → Floored R (r *ᶠ (saturated -ᶠ c)) → Bounded (Q *ᶠ L) (Q *ᶠ c) Q mass deep k
+-- from the head to an instant: of the demands L there are left B and have turned G, and oxygen is saturation less G, R and the loss T to a bed
+instant-bounded : (Q L c saturated r B G R T most mass deep k : Fraction) → Nonneg Q → Nonneg L → Nonneg deep → Nonneg saturated → saturated ≼ k → Nonneg r → r ≼ ofℕ 1
+    → Nonneg G → Nonneg T → T ≼ most → B +ᶠ G ≼ L → Floored R (r *ᶠ (saturated -ᶠ c)) → Bounded (Q *ᶠ L) (Q *ᶠ c) Q mass deep k
     → Bounded (Q *ᶠ B) (Q *ᶠ (saturated -ᶠ G -ᶠ R -ᶠ T)) Q mass (deep +ᶠ Q *ᶠ most) (k +ᶠ ofℕ 1)
-instant-bounded Q L c saturated p g r B G R T most mass deep k pQ pL pd ps sk shares pG pT hT fB fG fR b =
+instant-bounded Q L c saturated r B G R T most mass deep k pQ pL pd ps sk pr r1 pG pT hT parts fR b =
     record {
-      bod-above = certify (Q ∷ L ∷ p ∷ g ∷ B ∷ mass ∷ []) (pQ ⊠ slack (fB .low) ⊞ pQ ⊠ pL ⊠ (slack (shares .bod-of-one) ⊞ shares .turned-part) ⊞ slack (b .bod-above)) (search quote depth 40 fits 9999) tt;
-      oxygen-below = certify (Q ∷ L ∷ c ∷ saturated ∷ p ∷ g ∷ r ∷ B ∷ G ∷ R ∷ T ∷ most ∷ mass ∷ deep ∷ []) (pQ ⊠ (slack (fB .low) ⊞ slack (fG .low) ⊞ slack (fR .low) ⊞ slack hT) ⊞ shares .kept-part ⊠ slack (b .oxygen-below) ⊞ slack (shares .kept-of-one) ⊠ (slack (b .bod-above) ⊞ pd ⊞ pQ ⊠ ps) ⊞ pQ ⊠ pL ⊠ slack (shares .bod-of-one)) (search quote depth 40 fits 9999) tt;
-      oxygen-above = certify (Q ∷ c ∷ saturated ∷ r ∷ G ∷ R ∷ T ∷ k ∷ []) (pQ ⊠ (pG ⊞ pT) ⊞ pQ ⊠ slack (fR .high) ⊞ slack (shares .kept-of-one) ⊠ (pQ ⊠ slack sk) ⊞ shares .kept-part ⊠ slack (b .oxygen-above)) (search quote depth 40 fits 9999) tt;
+      demands-above = certify (Q ∷ L ∷ B ∷ G ∷ mass ∷ []) (pQ ⊠ (slack parts ⊞ pG) ⊞ slack (b .demands-above)) (search quote depth 40 fits 9999) tt;
+      oxygen-below = certify (Q ∷ L ∷ c ∷ saturated ∷ r ∷ B ∷ G ∷ R ∷ T ∷ most ∷ mass ∷ deep ∷ []) (pQ ⊠ (slack parts ⊞ slack (fR .low) ⊞ slack hT) ⊞ pr ⊠ slack (b .oxygen-below) ⊞ slack r1 ⊠ (slack (b .demands-above) ⊞ pd ⊞ pQ ⊠ ps)) (search quote depth 40 fits 9999) tt;
+      oxygen-above = certify (Q ∷ c ∷ saturated ∷ r ∷ G ∷ R ∷ T ∷ k ∷ []) (pQ ⊠ (pG ⊞ pT) ⊞ pQ ⊠ slack (fR .high) ⊞ slack r1 ⊠ (pQ ⊠ slack sk) ⊞ pr ⊠ slack (b .oxygen-above)) (search quote depth 40 fits 9999) tt;
     }
 
 -- a take leaves the concentrations, and of M no smaller a part than of the flow
@@ -81,7 +85,7 @@ taken-bounded : (Qm Q h c mass left deep rest k : Fraction) → Positive Qm → 
     → Bounded (Qm *ᶠ h) (Qm *ᶠ c) Qm mass deep k → Bounded (Q *ᶠ h) (Q *ᶠ c) Q left rest k
 taken-bounded Qm Q h c mass left deep rest k p pQ hm hd b =
     record {
-      bod-above = certify-over Qm p (Qm ∷ Q ∷ h ∷ mass ∷ left ∷ []) no-equations (slack hm ⊞ pQ ⊠ slack (b .bod-above)) (search quote depth 40 fits 9999) tt;
+      demands-above = certify-over Qm p (Qm ∷ Q ∷ h ∷ mass ∷ left ∷ []) no-equations (slack hm ⊞ pQ ⊠ slack (b .demands-above)) (search quote depth 40 fits 9999) tt;
       oxygen-below = certify-over Qm p (Qm ∷ Q ∷ h ∷ c ∷ mass ∷ left ∷ deep ∷ rest ∷ []) no-equations (slack hm ⊞ slack hd ⊞ pQ ⊠ slack (b .oxygen-below)) (search quote depth 40 fits 9999) tt;
       oxygen-above = certify-over Qm p (Qm ∷ Q ∷ c ∷ k ∷ []) no-equations (pQ ⊠ slack (b .oxygen-above)) (search quote depth 40 fits 9999) tt;
     }
@@ -92,35 +96,45 @@ taken-bounded Qm Q h c mass left deep rest k p pQ hm hd b =
 abbrev pub levels : Feeders → ℕ
 levels up = deepest up
 
--- how far oxygen may fall below BOD at this many levels, and at the head below them, less what M accounts for
+-- how far oxygen may fall below the demands at this many levels, and at the head below them, less what M accounts for
 abbrev fall : ℕ → ℕ
 fall n = 5_000_003 * n
 
 abbrev headFall : Feeders → ℕ
 headFall up = 3 + fall (levels up)
 
+-- the demands of the feeders together, at a head, and at an instant
+abbrev pub demandSums : Feeders → ℕ
+demandSums up = demandSum Bod up + demandSum Nitrogenous up
+
+abbrev pub demandsAtHead : Card → Feeders → ℕ
+demandsAtHead card up = demandAtHead Bod card up + demandAtHead Nitrogenous card up
+
+abbrev pub demandsAt : Card → Feeders → ℕ → ℕ
+demandsAt card up m = demandAt Bod card up m + demandAt Nitrogenous card up m
+
 -- what the feeders bring, times flow
 abbrev FeetBounded : Feeders → Type 0
-FeetBounded up = Bounded (ofℕ (bodSum up)) (ofℤ (oxygenSum up)) (ofℕ (flowOf up)) (ofℕ (1000 * massOf up)) (ofℕ (fall (levels up) * flowOf up)) (ofℕ (20000000 + levels up))
+FeetBounded up = Bounded (ofℕ (demandSums up)) (ofℤ (oxygenSum up)) (ofℕ (flowOf up)) (ofℕ (1000 * massOf up)) (ofℕ (fall (levels up) * flowOf up)) (ofℕ (20000000 + levels up))
 
 -- the water at a head before the take, and after it
 abbrev MixedBounded : Card → Feeders → Type 0
 MixedBounded card up =
-    Bounded (ofℕ (mixedFlow card up) *ᶠ ofℕ (bodAtHead card up)) (ofℕ (mixedFlow card up) *ᶠ ofℤ (oxygenAtHead card up)) (ofℕ (mixedFlow card up)) (ofℕ (1000 * mixedMass card up)) (ofℕ (headFall up * mixedFlow card up)) (ofℕ (20000000 + levels up))
+    Bounded (ofℕ (mixedFlow card up) *ᶠ ofℕ (demandsAtHead card up)) (ofℕ (mixedFlow card up) *ᶠ ofℤ (oxygenAtHead card up)) (ofℕ (mixedFlow card up)) (ofℕ (1000 * mixedMass card up)) (ofℕ (headFall up * mixedFlow card up)) (ofℕ (20000000 + levels up))
 
 abbrev HeadBounded : Card → Feeders → Type 0
 HeadBounded card up =
-    Bounded (ofℕ (reachFlow card up) *ᶠ ofℕ (bodAtHead card up)) (ofℕ (reachFlow card up) *ᶠ ofℤ (oxygenAtHead card up)) (ofℕ (reachFlow card up)) (ofℕ (1000 * reachMass card up)) (ofℕ (headFall up * reachFlow card up)) (ofℕ (20000000 + levels up))
+    Bounded (ofℕ (reachFlow card up) *ᶠ ofℕ (demandsAtHead card up)) (ofℕ (reachFlow card up) *ᶠ ofℤ (oxygenAtHead card up)) (ofℕ (reachFlow card up)) (ofℕ (1000 * reachMass card up)) (ofℕ (headFall up * reachFlow card up)) (ofℕ (20000000 + levels up))
 
 abbrev InstantBounded : Card → Feeders → ℕ → Type 0
 InstantBounded card up m =
-    Bounded (ofℕ (reachFlow card up) *ᶠ ofℕ (bodAt card up m)) (ofℕ (reachFlow card up) *ᶠ ofℤ (oxygenAt card up m)) (ofℕ (reachFlow card up)) (ofℕ (1000 * reachMass card up)) (ofℕ (fall (1 + levels up) * reachFlow card up)) (ofℕ (20000000 + (1 + levels up)))
+    Bounded (ofℕ (reachFlow card up) *ᶠ ofℕ (demandsAt card up m)) (ofℕ (reachFlow card up) *ᶠ ofℤ (oxygenAt card up m)) (ofℕ (reachFlow card up)) (ofℕ (1000 * reachMass card up)) (ofℕ (fall (1 + levels up) * reachFlow card up)) (ofℕ (20000000 + (1 + levels up)))
 
 -- a wider bound
 bounded-by : {bod oxygen Q mass deep k mass′ deep′ k′ : Fraction} → mass ≼ mass′ → deep ≼ deep′ → k ≼ k′ → Nonneg Q → Bounded bod oxygen Q mass deep k → Bounded bod oxygen Q mass′ deep′ k′
 bounded-by {bod} {oxygen} {Q} {mass} {deep} {k} {mass′} {deep′} {k′} hm hd hk pQ b =
     record {
-      bod-above = ≼-trans (b .bod-above) hm;
+      demands-above = ≼-trans (b .demands-above) hm;
       oxygen-below = certify (bod ∷ oxygen ∷ mass ∷ deep ∷ mass′ ∷ deep′ ∷ []) (slack (b .oxygen-below) ⊞ slack hm ⊞ slack hd) (search quote depth 40 fits 9999) tt;
       oxygen-above = certify (oxygen ∷ Q ∷ k ∷ k′ ∷ []) (slack (b .oxygen-above) ⊞ pQ ⊠ slack hk) (search quote depth 40 fits 9999) tt;
     }
@@ -128,30 +142,42 @@ bounded-by {bod} {oxygen} {Q} {mass} {deep} {k} {mass′} {deep′} {k′} hm hd
 saturation-below : (card : Card) (d : ℕ) → SaturationInRange card → ofℕ (saturationOf card) ≼ ofℕ (20000000 + d)
 saturation-below card d h = ofℕ-mono (omega (arith, saturation-of-small card h))
 
+-- what is upstream of a demand is at most what the feeders bring, and what is at a head at most that and what comes in
+upstream-low : (d : Demand) (up : Feeders) → flowOf up * upstreamDemand (fed up) (flowOf up) (demandSum d up) ≤ demandSum d up
+upstream-low d up = upstream-kept (fed up) (flowOf up) (demandSum d up)
+
+mixed-of : (source : Source) (t : Bool) (Qu sum : ℕ) {Qm : ℕ} → Qm ≡ Qu + source .inflow → Qm * headDemand source t Qu sum ≤ Qu * upstreamDemand t Qu sum + 1000 * sourceMass source
+unfolding headDemand
+mixed-of source t Qu sum e = rw e (le-trans (mul-div-le _ (Qu + source .inflow)) (omega arith))
+
+mixed-low : (d : Demand) (card : Card) (up : Feeders) → mixedFlow card up * demandAtHead d card up ≤ flowOf up * upstreamDemand (fed up) (flowOf up) (demandSum d up) + 1000 * sourceMass (sourceOf d card)
+unfolding demandAtHead
+mixed-low d card up = mixed-of (sourceOf d card) (fed up) (flowOf up) (demandSum d up) (source-flow d card (flowOf up))
+
 mixed-in-bounds : {card : Card} {up : Feeders} → AcceptedReach card up → AllAccepted up → FeetBounded up → MixedBounded card up
-unfolding bodAtHead oxygenAtHead headDemand headOxygen
+unfolding oxygenAtHead headOxygen
 mixed-in-bounds {card} {up} own above b =
     let Qu = flowOf up in
     let i = card .inflow in
-    let u = upstreamDemand (fed up) Qu (bodSum up) in
+    let u = upstreamDemand (fed up) Qu (demandSum Bod up) + upstreamDemand (fed up) Qu (demandSum Nitrogenous up) in
     let v = upstreamOxygen (fed up) Qu (oxygenSum up) in
-    let W₁ = 1000 * i * card .«inflow_bod» in
-    let W₂ = 1000000 * card .load in
+    let W = 1000 * ownMass card in
     let W₃ = 1000 * i * card .«inflow_oxygen» in
     let k = 20000000 + levels up in
     bounded-by
-    (≼-by (≈-sym (ofℕ-+₃ (1000 * massOf up) W₁ W₂)) (ofℕ-mono (mass-whole (massOf up) i (card .«inflow_bod») (card .load))) (≈-refl (ofℕ (1000 * mixedMass card up))))
+    (≼-by (≈-sym (ofℕ-+ (1000 * massOf up) W)) (ofℕ-mono (omega arith)) (≈-refl (ofℕ (1000 * mixedMass card up))))
     (≼-by (≈-sym (ofℕ-+₄ (fall (levels up) * Qu) Qu Qu (Qu + i))) (ofℕ-mono (deeper (levels up) Qu i)) (≈-refl (ofℕ (headFall up * mixedFlow card up))))
     (≼-refl (ofℕ k))
     (number (mixedFlow card up))
-    (head-bounded (ofℕ Qu) (ofℕ (Qu + i)) (ofℕ i) (ofℕ (bodSum up)) (ofℤ (oxygenSum up)) (ofℕ u) (ofℤ v) (ofℤ (belowDam card (fed up) Qu v)) (ofℕ (bodAtHead card up)) (ofℤ (oxygenAtHead card up)) (ofℕ W₁) (ofℕ W₂) (ofℕ W₃) (ofℕ (saturationOf card)) (damPart (fed up) (card .dam) Qu) (ofℕ (1000 * massOf up)) (ofℕ (fall (levels up) * Qu)) (ofℕ k)
+    (head-bounded (ofℕ Qu) (ofℕ (Qu + i)) (ofℕ i) (ofℕ (demandSums up)) (ofℤ (oxygenSum up)) (ofℕ u) (ofℤ v) (ofℤ (belowDam card (fed up) Qu v)) (ofℕ (demandsAtHead card up)) (ofℤ (oxygenAtHead card up)) (ofℕ W) (ofℕ W₃) (ofℕ (saturationOf card)) (damPart (fed up) (card .dam) Qu) (ofℕ (1000 * massOf up)) (ofℕ (fall (levels up) * Qu)) (ofℕ k)
     (number Qu) (number (fall (levels up) * Qu)) (number (saturationOf card)) (saturation-below card (levels up) (own .saturation)) (number W₃)
     (≼-by (≈-refl (ofℕ W₃)) (ofℕ-mono (oxygen-in i (card .«inflow_oxygen») (levels up) (own .fields .inflow-oxygen))) (ofℕ-* i k))
-    (ofℕ-+ Qu i) (bod-mean above) (oxygen-mean above) (below-dam card above (own .dam) v) (demand-mixed (bodSource card) Qu u (own .flows .flowing)) (oxygen-mixed card Qu (belowDam card (fed up) Qu v) (own .flows .flowing)) b)
+    (ofℕ-+ Qu i)
+    (≼-by (≈-sym (ofℕ-* Qu u)) (ofℕ-mono (omega (arith, upstream-low Bod up, upstream-low Nitrogenous up))) (≈-refl (ofℕ (demandSums up))))
+    (oxygen-mean above) (below-dam card above (own .dam) v)
+    (≼-by (≈-sym (ofℕ-* (Qu + i) (demandsAtHead card up))) (ofℕ-mono (omega (arith, mixed-low Bod card up, mixed-low Nitrogenous card up))) (≈-trans (ofℕ-+ (Qu * u) W) (+ᶠ-cong (ofℕ-* Qu u) (≈-refl (ofℕ W)))))
+    (oxygen-mixed card Qu (belowDam card (fed up) Qu v) (own .flows .flowing)) b)
   where
-    mass-whole : (M i bod load : ℕ) → 1000 * M + 1000 * i * bod + 1000000 * load ≤ 1000 * (M + (i * bod + 1000 * load))
-    mass-whole M i bod load = omega arith
-
     deeper : (n Qu i : ℕ) → fall n * Qu + Qu + Qu + (Qu + i) ≤ (3 + fall n) * (Qu + i)
     deeper n Qu i = omega arith
 
@@ -166,7 +192,7 @@ head-in-bounds : {card : Card} {up : Feeders} → AcceptedReach card up → AllA
 head-in-bounds {card} {up} own above b =
     let Qm = mixedFlow card up in
     let Q = reachFlow card up in
-    taken-bounded (ofℕ Qm) (ofℕ Q) (ofℕ (bodAtHead card up)) (ofℤ (oxygenAtHead card up)) (ofℕ (1000 * mixedMass card up)) (ofℕ (1000 * reachMass card up)) (ofℕ (headFall up * Qm)) (ofℕ (headFall up * Q)) (ofℕ (20000000 + levels up))
+    taken-bounded (ofℕ Qm) (ofℕ Q) (ofℕ (demandsAtHead card up)) (ofℤ (oxygenAtHead card up)) (ofℕ (1000 * mixedMass card up)) (ofℕ (1000 * reachMass card up)) (ofℕ (headFall up * Qm)) (ofℕ (headFall up * Q)) (ofℕ (20000000 + levels up))
     (positive-whole (own .flows .flowing)) (number Q)
     (products Q (1000 * mixedMass card up) Qm (1000 * reachMass card up) (thousand Q (mixedMass card up) Qm (reachMass card up) (mass-scaled (own .flows))))
     (products Q (headFall up * Qm) Qm (headFall up * Q) (exchanged (headFall up) Qm Q))
@@ -182,27 +208,38 @@ head-in-bounds {card} {up} own above b =
 bounded-at : {bod oxygen oxygen′ Q mass deep k : Fraction} → oxygen ≈ oxygen′ → Bounded bod oxygen Q mass deep k → Bounded bod oxygen′ Q mass deep k
 bounded-at {bod} {oxygen} {oxygen′} {Q} {mass} {deep} {k} e b =
     record {
-      bod-above = b .bod-above;
+      demands-above = b .demands-above;
       oxygen-below = certify (bod ∷ oxygen ∷ oxygen′ ∷ mass ∷ deep ∷ []) (slack (b .oxygen-below) ⊞ multiple (ofℕ 1) e) (search quote depth 40 fits 9999) tt;
       oxygen-above = ≼-trans (≼-of-≈ (≈-sym e)) (b .oxygen-above);
     }
 
 instant-in-bounds : {card : Card} {up : Feeders} → AcceptedReach card up → HeadBounded card up → (m : ℕ) → m ≤ foot → InstantBounded card up m
-unfolding bodAt oxygenAt bodAlong oxygenAlong bodWith
+unfolding oxygenAt oxygenAlong
 instant-in-bounds {card} {up} own b m l =
     let Q = reachFlow card up in
     let f = factorsAlong card Q m in
-    let L = bodAtHead card up in
+    let L = demandAtHead Bod card up in
     let C = oxygenAtHead card up in
     let Cs = saturationOf card in
+    let G = turnedAlong Bod card Q L m in
+    let H = turnedAlong Nitrogenous card Q (demandAtHead Nitrogenous card up) m in
+    let R = keptDeficit f Cs C in
     let T = lossAlong card Q m in
     let k = 20000000 + levels up in
     let deep = headFall up * Q in
     bounded-by (≼-refl (ofℕ (1000 * reachMass card up))) (≼-by (≈-trans (+ᶠ-cong (≈-refl (ofℕ deep)) (≈-sym (ofℕ-* Q lossLimit))) (≈-sym (ofℕ-+ deep (Q * lossLimit)))) (ofℕ-mono (one-more-level (levels up) Q)) (≈-refl (ofℕ (fall (1 + levels up) * Q)))) (≼-by (≈-sym (ofℕ-+ k 1)) (ofℕ-mono (one-more-unit (levels up))) (≈-refl (ofℕ (20000000 + (1 + levels up))))) (number Q)
-    (bounded-at (*ᶠ-cong (≈-refl (ofℕ Q)) (≈-sym (oxygen-parts f Cs L C T)))
-    (instant-bounded (ofℕ Q) (ofℕ L) (ofℤ C) (ofℕ Cs) (share (f .left)) (share (f .turned)) (share (f .kept)) (ofℕ (product (f .left) L)) (ofℕ (product (f .turned) L)) (ofℤ (keptDeficit f Cs C)) (ofℕ T) (ofℕ lossLimit) (ofℕ (1000 * reachMass card up)) (ofℕ deep) (ofℕ k)
-    (number Q) (number L) (number deep) (number Cs) (saturation-below card (levels up) (own .saturation)) (shares-in-range f (factors-range own m)) (number (product (f .turned) L)) (number T) (ofℕ-mono (loss-small own m l)) (product-floored (f .left) L) (product-floored (f .turned) L) (kept-floored f Cs C) b))
+    (bounded-at (*ᶠ-cong (≈-refl (ofℕ Q)) (≈-sym (≈-trans (turned-parts card Q L C H T m) (two-turned (ofℕ Cs) (ofℕ G) (ofℕ H) (ofℕ (G + H)) (ofℤ R) (ofℕ T) (ofℕ-+ G H)))))
+    (instant-bounded (ofℕ Q) (ofℕ (demandsAtHead card up)) (ofℤ C) (ofℕ Cs) (share (f .kept)) (ofℕ (demandsAt card up m)) (ofℕ (G + H)) (ofℤ R) (ofℕ T) (ofℕ lossLimit) (ofℕ (1000 * reachMass card up)) (ofℕ deep) (ofℕ k)
+    (number Q) (number (demandsAtHead card up)) (number deep) (number Cs) (saturation-below card (levels up) (own .saturation)) (shares .kept-part) (shares .kept-of-one) (number (G + H)) (number T) (ofℕ-mono (loss-small own m l))
+    (≼-by (≈-sym (ofℕ-+ (demandsAt card up m) (G + H))) (ofℕ-mono (omega (arith, parts-within own Bod m, parts-within own Nitrogenous m))) (≈-refl (ofℕ (demandsAtHead card up))))
+    (kept-floored f Cs C) b))
   where
+    shares : Shares (share (factorsAlong card (reachFlow card up) m .left)) (share (factorsAlong card (reachFlow card up) m .turned)) (share (factorsAlong card (reachFlow card up) m .kept))
+    shares = shares-in-range (factorsAlong card (reachFlow card up) m) (factors-range own m)
+
+    two-turned : (cs g h gh r t : Fraction) → gh ≈ g +ᶠ h → cs -ᶠ g -ᶠ r -ᶠ h -ᶠ t ≈ cs -ᶠ gh -ᶠ r -ᶠ t
+    two-turned cs g h gh r t e = ring-by (cs ∷ g ∷ h ∷ gh ∷ r ∷ t ∷ []) (ofℕ 1 ⋅ e & no-equations) (search quote depth 40 fits 9999) tt
+
     one-more-unit : (n : ℕ) → 20000000 + n + 1 ≤ 20000000 + (1 + n)
     one-more-unit n = omega arith
 
@@ -214,18 +251,19 @@ bounded-join : {b o Q m d k b₁ o₁ Q₁ m₁ d₁ k₁ b₂ o₂ Q₂ m₂ d�
     → Bounded b₁ o₁ Q₁ m₁ d₁ k₁ → Bounded b₂ o₂ Q₂ m₂ d₂ k₂ → Bounded b o Q m d k
 bounded-join {b} {o} {Q} {m} {d} {k} {b₁} {o₁} {Q₁} {m₁} {d₁} {k₁} {b₂} {o₂} {Q₂} {m₂} {d₂} {k₂} eb eo eQ hm hd h₁ h₂ p₁ p₂ x y =
     record {
-      bod-above = certify (b ∷ b₁ ∷ b₂ ∷ m ∷ m₁ ∷ m₂ ∷ []) (slack (x .bod-above) ⊞ slack (y .bod-above) ⊞ slack hm ⊞ multiple (ofℕ 1) eb) (search quote depth 40 fits 9999) tt;
+      demands-above = certify (b ∷ b₁ ∷ b₂ ∷ m ∷ m₁ ∷ m₂ ∷ []) (slack (x .demands-above) ⊞ slack (y .demands-above) ⊞ slack hm ⊞ multiple (ofℕ 1) eb) (search quote depth 40 fits 9999) tt;
       oxygen-below = certify (b ∷ b₁ ∷ b₂ ∷ m ∷ m₁ ∷ m₂ ∷ o ∷ o₁ ∷ o₂ ∷ d ∷ d₁ ∷ d₂ ∷ []) (slack (x .oxygen-below) ⊞ slack (y .oxygen-below) ⊞ slack hm ⊞ slack hd ⊞ multiple (ofℕ 1) eb ⊞ multiple (ofℕ 1) (≈-sym eo)) (search quote depth 40 fits 9999) tt;
       oxygen-above = certify (o ∷ o₁ ∷ o₂ ∷ Q ∷ Q₁ ∷ Q₂ ∷ k ∷ k₁ ∷ k₂ ∷ []) (slack (x .oxygen-above) ⊞ slack (y .oxygen-above) ⊞ p₁ ⊠ slack h₁ ⊞ p₂ ⊠ slack h₂ ⊞ multiple (ofℕ 1) eo ⊞ multiple k (≈-sym eQ)) (search quote depth 40 fits 9999) tt;
     }
 
 -- every foot of a forest is in bounds
 feet-join : (card : Card) (up rest : Feeders) → InstantBounded card up foot → FeetBounded rest → FeetBounded (more card up rest)
-unfolding flowOf massOf deepest bodSum oxygenSum bodAt oxygenAt bodAtHead oxygenAtHead
+unfolding flowOf massOf deepest demandSum oxygenSum demandAt oxygenAt demandAtHead oxygenAtHead
 feet-join card up rest x y =
     let Q = reachFlow card up in
+    let B = demandsAt card up foot in
     bounded-join
-    (≈-trans (ofℕ-+ (Q * bodAt card up foot) (bodSum rest)) (+ᶠ-cong (ofℕ-* Q (bodAt card up foot)) (≈-refl (ofℕ (bodSum rest)))))
+    (≈-trans (ofℕ-≈ {m = demandSums (more card up rest)} {n = Q * B + demandSums rest} (omega arith)) (≈-trans (ofℕ-+ (Q * B) (demandSums rest)) (+ᶠ-cong (ofℕ-* Q B) (≈-refl (ofℕ (demandSums rest))))))
     (≈-trans (ofℤ-+ (pos Q *ℤ oxygenAt card up foot) (oxygenSum rest)) (+ᶠ-cong (ofℤ-* (pos Q) (oxygenAt card up foot)) (≈-refl (ofℤ (oxygenSum rest)))))
     (ofℕ-+ Q (flowOf rest))
     (≼-by (≈-sym (ofℕ-+ (1000 * reachMass card up) (1000 * massOf rest))) (ofℕ-mono (omega arith)) (≈-refl (ofℕ (1000 * massOf (more card up rest)))))
@@ -236,10 +274,10 @@ feet-join card up rest x y =
     deeper a b Q R = omega (arith, mul-le-mul-right Q (le-max-left a b), mul-le-mul-right R (le-max-right a b))
 
 feet-in-bounds : {up : Feeders} → AllAccepted up → FeetBounded up
-unfolding flowOf massOf deepest bodSum oxygenSum
+unfolding flowOf massOf deepest demandSum oxygenSum
 feet-in-bounds no-more =
     record {
-      bod-above = ≼-refl (ofℕ 0);
+      demands-above = ≼-refl (ofℕ 0);
       oxygen-below = certify [] (number 0) (search quote depth 40 fits 9999) tt;
       oxygen-above = certify [] (number 0) (search quote depth 40 fits 9999) tt;
     }
@@ -248,20 +286,20 @@ feet-in-bounds (one-more {card} {up} {rest} own above others) =
 
 -- ---- the ranges that follow, by the rule M ≤ 1,000,000 × Q and at most 128 levels
 
--- the most by which oxygen lies below BOD, and so below 0
+-- the most by which oxygen lies below the demands, and so below 0
 abbrev pub mostBelow : ℕ
 mostBelow = 1_640_000_384
 
-pub record Ranged (bod oxygen k : Fraction) : Type 0 where
-  pub bod-range : bod ≼ ofℕ 1000000000
-  pub bod-below : bod ≼ oxygen +ᶠ ofℕ mostBelow
+pub record Ranged (demands oxygen k : Fraction) : Type 0 where
+  pub demands-range : demands ≼ ofℕ 1000000000
+  pub demands-below : demands ≼ oxygen +ᶠ ofℕ mostBelow
   pub oxygen-high : oxygen ≼ k
 
 bounded-ranged : (Q bod oxygen mass deep k : Fraction) → Positive Q → mass ≼ ofℕ 1000000000 *ᶠ Q → deep ≼ ofℕ 640_000_384 *ᶠ Q → Bounded (Q *ᶠ bod) (Q *ᶠ oxygen) Q mass deep k → Ranged bod oxygen k
 bounded-ranged Q bod oxygen mass deep k pQ hm hd b =
     record {
-      bod-range = certify-over Q pQ (Q ∷ bod ∷ mass ∷ []) no-equations (slack (b .bod-above) ⊞ slack hm) (search quote depth 40 fits 9999) tt;
-      bod-below = certify-over Q pQ (Q ∷ bod ∷ oxygen ∷ mass ∷ deep ∷ []) no-equations (slack (b .oxygen-below) ⊞ slack hm ⊞ slack hd) (search quote depth 40 fits 9999) tt;
+      demands-range = certify-over Q pQ (Q ∷ bod ∷ mass ∷ []) no-equations (slack (b .demands-above) ⊞ slack hm) (search quote depth 40 fits 9999) tt;
+      demands-below = certify-over Q pQ (Q ∷ bod ∷ oxygen ∷ mass ∷ deep ∷ []) no-equations (slack (b .oxygen-below) ⊞ slack hm ⊞ slack hd) (search quote depth 40 fits 9999) tt;
       oxygen-high = certify-over Q pQ (Q ∷ oxygen ∷ k ∷ []) no-equations (slack (b .oxygen-above)) (search quote depth 40 fits 9999) tt;
     }
 
@@ -273,34 +311,34 @@ module _ {card : Card} {up : Feeders} (own : AcceptedReach card up) (above : All
   fall-small h = ≼-trans (ofℕ-mono (mul-le-mul-right (reachFlow card up) h)) (≼-of-≈ (ofℕ-* 640_000_384 (reachFlow card up)))
 
   -- at the head
-  pub head-ranged : Ranged (ofℕ (bodAtHead card up)) (ofℤ (oxygenAtHead card up)) (ofℕ (20000000 + levels up))
+  pub head-ranged : Ranged (ofℕ (demandsAtHead card up)) (ofℤ (oxygenAtHead card up)) (ofℕ (20000000 + levels up))
   head-ranged =
-      bounded-ranged (ofℕ (reachFlow card up)) (ofℕ (bodAtHead card up)) (ofℤ (oxygenAtHead card up)) (ofℕ (1000 * reachMass card up)) (ofℕ (headFall up * reachFlow card up)) (ofℕ (20000000 + levels up)) (positive-whole (flow-remains (own .flows))) mass-small (fall-small (omega arith)) (head-in-bounds own above (feet-in-bounds above))
+      bounded-ranged (ofℕ (reachFlow card up)) (ofℕ (demandsAtHead card up)) (ofℤ (oxygenAtHead card up)) (ofℕ (1000 * reachMass card up)) (ofℕ (headFall up * reachFlow card up)) (ofℕ (20000000 + levels up)) (positive-whole (flow-remains (own .flows))) mass-small (fall-small (omega arith)) (head-in-bounds own above (feet-in-bounds above))
 
   -- at every instant
-  pub instant-ranged : (m : ℕ) → m ≤ foot → Ranged (ofℕ (bodAt card up m)) (ofℤ (oxygenAt card up m)) (ofℕ (20000000 + (1 + levels up)))
+  pub instant-ranged : (m : ℕ) → m ≤ foot → Ranged (ofℕ (demandsAt card up m)) (ofℤ (oxygenAt card up m)) (ofℕ (20000000 + (1 + levels up)))
   instant-ranged m l =
-      bounded-ranged (ofℕ (reachFlow card up)) (ofℕ (bodAt card up m)) (ofℤ (oxygenAt card up m)) (ofℕ (1000 * reachMass card up)) (ofℕ (fall (1 + levels up) * reachFlow card up)) (ofℕ (20000000 + (1 + levels up))) (positive-whole (flow-remains (own .flows))) mass-small (fall-small (omega arith)) (instant-in-bounds own (head-in-bounds own above (feet-in-bounds above)) m l)
+      bounded-ranged (ofℕ (reachFlow card up)) (ofℕ (demandsAt card up m)) (ofℤ (oxygenAt card up m)) (ofℕ (1000 * reachMass card up)) (ofℕ (fall (1 + levels up) * reachFlow card up)) (ofℕ (20000000 + (1 + levels up))) (positive-whole (flow-remains (own .flows))) mass-small (fall-small (omega arith)) (instant-in-bounds own (head-in-bounds own above (feet-in-bounds above)) m l)
 
 -- the same of whole numbers
-pub record Range (bod : ℕ) (oxygen : ℤ) : Type 0 where
-  pub bod-range : bod ≤ 1000000000
-  pub bod-below : ofℕ bod ≼ ofℤ oxygen +ᶠ ofℕ mostBelow
+pub record Range (demands : ℕ) (oxygen : ℤ) : Type 0 where
+  pub demands-range : demands ≤ 1000000000
+  pub demands-below : ofℕ demands ≼ ofℤ oxygen +ᶠ ofℕ mostBelow
   pub oxygen-low : negsuc 1_640_000_383 ≤ℤ oxygen
   pub oxygen-high : oxygen ≤ℤ pos 20000128
 
 whole-range : (bod : ℕ) (oxygen : ℤ) (n : ℕ) → n ≤ 128 → Ranged (ofℕ bod) (ofℤ oxygen) (ofℕ (20000000 + n)) → Range bod oxygen
 whole-range bod oxygen n h r =
     record {
-      bod-range = ofℕ-reflect bod 1000000000 (r .bod-range);
-      bod-below = r .bod-below;
-      oxygen-low = ofℤ-reflect (negsuc 1_640_000_383) oxygen (certify (ofℕ bod ∷ ofℤ oxygen ∷ []) (slack (r .bod-below) ⊞ number bod) (search quote depth 40 fits 9999) tt);
+      demands-range = ofℕ-reflect bod 1000000000 (r .demands-range);
+      demands-below = r .demands-below;
+      oxygen-low = ofℤ-reflect (negsuc 1_640_000_383) oxygen (certify (ofℕ bod ∷ ofℤ oxygen ∷ []) (slack (r .demands-below) ⊞ number bod) (search quote depth 40 fits 9999) tt);
       oxygen-high = ofℤ-reflect oxygen (pos 20000128) (≼-trans (r .oxygen-high) (ofℕ-mono (omega arith)));
     }
 
 module _ {card : Card} {up : Feeders} (own : AcceptedReach card up) (above : AllAccepted up) (shallow : 1 + levels up ≤ 128) where
-  pub head-range : Range (bodAtHead card up) (oxygenAtHead card up)
-  head-range = whole-range (bodAtHead card up) (oxygenAtHead card up) (levels up) (omega arith) (head-ranged own above shallow)
+  pub head-range : Range (demandsAtHead card up) (oxygenAtHead card up)
+  head-range = whole-range (demandsAtHead card up) (oxygenAtHead card up) (levels up) (omega arith) (head-ranged own above shallow)
 
-  pub instant-range : (m : ℕ) → m ≤ foot → Range (bodAt card up m) (oxygenAt card up m)
-  instant-range m l = whole-range (bodAt card up m) (oxygenAt card up m) (1 + levels up) shallow (instant-ranged own above shallow m l)
+  pub instant-range : (m : ℕ) → m ≤ foot → Range (demandsAt card up m) (oxygenAt card up m)
+  instant-range m l = whole-range (demandsAt card up m) (oxygenAt card up m) (1 + levels up) shallow (instant-ranged own above shallow m l)

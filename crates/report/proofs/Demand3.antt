@@ -9,14 +9,14 @@ use native.Mathlib.Omega.{arith}
 use lib.ListN.{length}
 use lib.IntN.{ℤ}
 use Rattle.decay.specs.Fraction.{Fraction, _≼_, ofℕ, ofℤ, _+ᶠ_, -ᶠ_, _-ᶠ_, distance}
-use Rattle.decay.proofs.Algebra.{quote, certify, slack, _⊞_, ≼-trans, ofℕ-mono, ofℤ-mono, within→distance, bound-nonneg, small}
+use Rattle.decay.proofs.Algebra.{quote, certify, slack, _⊞_, ≼-trans, ofℕ-mono, ofℤ-mono, Within, within-weaken, within→distance, bound-nonneg, small}
 use Rattle.river.specs.declared.card.Card.{Card}
 use Rattle.river.specs.Card.{Lawful}
 use Rattle.river.specs.Flow.{Feeders, cardOf, above, reachDepth, Flows}
-use Rattle.report.specs.Program.{lowest, bodAt, oxygenAt, figuresOf, figuresAt, foot}
+use Rattle.report.specs.Program.{lowest, demandAt, oxygenAt, figuresOf, figuresAt, foot}
 use Rattle.report.specs.Recurrence.{exactOxygenAt}
 use Rattle.report.specs.Distance.{hasBed, stepUnits, allowanceAt, WithinAllowance, broughtAllowance, waterAllowance}
-use Rattle.report.specs.Record.{Figures}
+use Rattle.report.specs.Record.{hasNitrification, Figures}
 use Rattle.report.proofs.Refutations
 use Rattle.report.proofs.UnitRows
 use Rattle.report.proofs.Lowest.{lowest-first}
@@ -25,19 +25,20 @@ use Rattle.report.proofs.Accuracy.Errors.{Near, head-adds}
 use Rattle.report.proofs.Accuracy.Allowance.{water-by-depth}
 use Rattle.report.proofs.Accuracy.{Covers, head-is-near, instant-is-near, feet-are-near}
 
--- the two distances, and oxygen's alone
-both : {b bx o ox e : Fraction} → Near b bx o ox e → distance b bx +ᶠ distance o ox ≼ e
-both {b} {bx} {o} {ox} {e} n =
-    certify (distance b bx ∷ distance o ox ∷ n .bod-error ∷ n .oxygen-error ∷ e ∷ []) (slack (within→distance (n .bod-near)) ⊞ slack (within→distance (n .oxygen-near)) ⊞ slack (n .together)) (search quote depth 40 fits 9999) tt
+-- the three distances, and oxygen's alone
+all-three : {b bx n nx o ox e : Fraction} → Near b bx n nx o ox e → distance b bx +ᶠ distance n nx +ᶠ distance o ox ≼ e
+all-three {b} {bx} {n} {nx} {o} {ox} {e} k =
+    certify (distance b bx ∷ distance n nx ∷ distance o ox ∷ k .bod-error ∷ k .nitrogenous-error ∷ k .oxygen-error ∷ e ∷ []) (slack (within→distance (k .bod-near)) ⊞ slack (within→distance (k .nitrogenous-near)) ⊞ slack (within→distance (k .oxygen-near)) ⊞ slack (k .together)) (search quote depth 40 fits 9999) tt
 
-oxygen-alone : {b bx o ox e : Fraction} → Near b bx o ox e → distance o ox ≼ e
-oxygen-alone {b} {bx} {o} {ox} {e} n =
-    certify (distance o ox ∷ n .bod-error ∷ n .oxygen-error ∷ e ∷ []) (slack (within→distance (n .oxygen-near)) ⊞ bound-nonneg (small (n .bod-near)) ⊞ slack (n .together)) (search quote depth 40 fits 9999) tt
+oxygen-within : {b bx n nx o ox e : Fraction} → Near b bx n nx o ox e → Within o ox e
+oxygen-within {b} {bx} {n} {nx} {o} {ox} {e} k =
+    within-weaken (k .oxygen-near)
+    (certify (k .bod-error ∷ k .nitrogenous-error ∷ k .oxygen-error ∷ e ∷ []) (bound-nonneg (small (k .bod-near)) ⊞ bound-nonneg (small (k .nitrogenous-near)) ⊞ slack (k .together)) (search quote depth 40 fits 9999) tt)
 
 -- exact oxygen is not lower than a lower figure by more
-not-lower : {b bx o ox e : Fraction} (c : Fraction) → c ≼ o → Near b bx o ox e → c -ᶠ e ≼ ox
-not-lower {b} {bx} {o} {ox} {e} c h n =
-    certify (c ∷ o ∷ ox ∷ e ∷ n .bod-error ∷ n .oxygen-error ∷ []) (slack h ⊞ slack (n .oxygen-near .high) ⊞ bound-nonneg (small (n .bod-near)) ⊞ slack (n .together)) (search quote depth 40 fits 9999) tt
+not-lower : {o ox e : Fraction} (c : Fraction) → c ≼ o → Within o ox e → c -ᶠ e ≼ ox
+not-lower {o} {ox} {e} c h w =
+    certify (c ∷ o ∷ ox ∷ e ∷ []) (slack h ⊞ slack (w .high)) (search quote depth 40 fits 9999) tt
 
 -- the distance allowed may be more
 within-more : {N : ℕ} {card : Card} {up : Feeders} {f : Figures} {a b : Fraction} → a ≼ b → WithinAllowance N card up f a → WithinAllowance N card up f b
@@ -53,28 +54,29 @@ within-more {N} {card} {up} {f} {a} {b} h w =
 -- the units that a river allows cover what a reach adds
 units-cover : (cards : List Card) → Covers (stepUnits cards)
 unfolding stepUnits
-units-cover cards = go (hasBed cards)
+units-cover cards = go (hasNitrification cards) (hasBed cards)
   where
-    go : (t : Bool) → Covers (cond t 150 100)
-    go true = record { added = omega arith; few = omega arith }
-    go false = record { added = omega arith; few = omega arith }
+    go : (s t : Bool) → Covers (cond s 200 (cond t 150 100))
+    go true t = record { added = omega arith; few = omega arith }
+    go false true = record { added = omega arith; few = omega arith }
+    go false false = record { added = omega arith; few = omega arith }
 
 module _ (N : ℕ) (long : 40 ≤ N) where
   -- THEOREM: a reach over an accepted forest lies within its allowance by water
   pub within-water : {units : ℕ} {card : Card} {up : Feeders} → Covers units → AcceptedReach card up → AllAccepted up → reachDepth up ≤ 128 → WithinAllowance N card up (figuresOf card up) (waterAllowance units card up)
-  unfolding figuresOf bodAt oxygenAt
+  unfolding figuresOf demandAt oxygenAt
   within-water {units} {card} {up} covers own above shallow =
       let head = head-is-near N long covers own above (feet-are-near N long covers above (omega arith)) in
       let at = instant-is-near N long covers own above shallow head in
       let c = lowest-first (oxygenAt card up) foot in
       let allowed = waterAllowance units card up in
       record {
-        at-head = ≼-trans (both head) (head-adds (broughtAllowance units card up) (ofℕ units) (ofℕ-mono (covers .added)));
-        at-foot = both (at foot (le-refl foot));
+        at-head = ≼-trans (all-three head) (head-adds (broughtAllowance units card up) (ofℕ units) (ofℕ-mono (covers .added)));
+        at-foot = all-three (at foot (le-refl foot));
         in-reach = c .within;
         at-critical =
-            subst (λ (o : ℤ). distance (ofℤ o) (exactOxygenAt N card up (lowest (oxygenAt card up) foot .instant)) ≼ allowed) (sym (c .value)) (oxygen-alone (at (lowest (oxygenAt card up) foot .instant) (c .within)));
-        nowhere-lower = λ m l. not-lower (ofℤ (lowest (oxygenAt card up) foot .oxygen)) (ofℤ-mono (c .least m l)) (at m l);
+            subst (λ (o : ℤ). distance (ofℤ o) (exactOxygenAt N card up (lowest (oxygenAt card up) foot .instant)) ≼ allowed) (sym (c .value)) (within→distance (oxygen-within (at (lowest (oxygenAt card up) foot .instant) (c .within))));
+        nowhere-lower = λ m l. not-lower (ofℤ (lowest (oxygenAt card up) foot .oxygen)) (ofℤ-mono (c .least m l)) (oxygen-within (at m l));
       }
 
   -- THEOREM: every reach of an accepted river lies within the distance allowed, which is that by depth

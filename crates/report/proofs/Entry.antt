@@ -24,13 +24,14 @@ use Rattle.river.proofs.Acceptance.{accepts-exactly}
 use Rattle.river.proofs.Answers.{passed, went, need-true, need-false, after-accepted, after-refused}
 use Rattle.report.specs.Program.{oxygenAt, figuresOf, figuresAt, foot}
 use Rattle.report.specs.Distance.{allowanceAt, WithinAllowance}
-use Rattle.report.specs.Record.{complement, fromComplement, recordSize, recordAt, readRecord, Figures}
+use Rattle.report.specs.Record.{hasNitrification, complement, fromComplement, recordSize, recordAt, readRecord, Figures}
 use Rattle.report.specs.Report.{recordOf, reportOf, reportSize, roomAnswer, reportAnswer, resultOf, bufferReported, figuresRead, Accepted, Reports}
 use Rattle.report.specs.Ties.{Tied}
 use Rattle.report.specs.Lines.{Ready}
 use Rattle.report.proofs.Lowest.{lowest-first}
 use Rattle.report.proofs.Bounds.{Range}
 use Rattle.report.proofs.Orders.{reporting-order}
+use Rattle.report.proofs.NoNitrification.{none-reported}
 use Rattle.report.proofs.River.{IsRiver, river-of-file, head-in-range, instant-in-range, reach-tied, reach-within-allowance}
 use Rattle.report.proofs.record.Encoding.{Writable, record-length, read-back}
 use Rattle.report.proofs.record.Rows.{Begins, stands}
@@ -46,7 +47,7 @@ complement-back (negsuc n) r =
     let h : n ≤ 1_640_000_383 = leb→le n 1_640_000_383 (r .oxygen-low .le) in
     rw (le-ltb (storedLimit - n) storedZero (omega arith)) (ap negsuc (omega arith))
 
-writable : {cards : List Card} → IsRiver cards → (i : ℕ) → i < length cards → Writable (figuresAt cards (suc i))
+writable : {cards : List Card} → IsRiver cards → (i : ℕ) → i < length cards → Writable (hasNitrification cards) (figuresAt cards (suc i))
 unfolding figuresOf oxygenAt
 writable {cards} river i l =
     let c = lowest-first (oxygenAt (cardOf cards (suc i)) (above cards (suc i))) foot in
@@ -55,6 +56,7 @@ writable {cards} river i l =
       critical =
           subst (λ (z : ℤ). fromComplement (complement z) ≡ z) (sym (c .value)) (complement-back _ (instant-in-range river i l _ (c .within)));
       foot = complement-back _ (instant-in-range river i l foot (le-refl foot));
+      plain = λ e. none-reported cards e i l;
     }
 
 -- an accepted river whose report the buffer can hold is what reporting answers
@@ -74,7 +76,7 @@ pub record-stands :
 unfolding bufferReported
 record-stands file before buffer river i l =
     rw (buffer, answers file river)
-    (stands (recordOf (river .cards)) (recordSize (river .cards)) (λ j. record-length (river .cards) (figuresAt (river .cards) (suc j))) (length (river .cards)) i (drop (reportSize (river .cards)) before) l)
+    (stands (recordOf (river .cards)) (recordSize (river .cards)) (λ j. record-length (hasNitrification (river .cards)) (figuresAt (river .cards) (suc j))) (length (river .cards)) i (drop (reportSize (river .cards)) before) l)
 
 module _ (file before : List ℕ) where
   answered : (x : Answer (List Card)) → reportAnswer file (length before) ≡ x → Numbered x → resultOf x ≡ 0 → Accepted file (length before)
@@ -93,7 +95,8 @@ module _ (file before : List ℕ) where
     figures-read : figuresRead (river .cards) after i ≡ figuresAt (river .cards) (suc i)
     figures-read =
         let s = record-stands file before buffer river i l in
-        ap readRecord (s .is) ∙ read-back (figuresAt (river .cards) (suc i)) (s .rest) (writable is-river i l)
+        let nitrified = hasNitrification (river .cards) in
+        ap (readRecord nitrified) (s .is) ∙ read-back nitrified (figuresAt (river .cards) (suc i)) (s .rest) (writable is-river i l)
 
 -- a refusal leaves the buffer as it was
 left-alone : (x : Answer (List Card)) (before : List ℕ) → (resultOf x ≡ 0 → ⊥) → bufferReported x before ≡ before

@@ -1,7 +1,7 @@
 -- What an accepted river gives for every reach of the forest above a reach: its card lies in range and passes the flow check.
 use mathlib.Core.Bool.{Bool, true, false}
 use mathlib.Core.List.{List}
-use Prim.Native.Nat.{ℕ, zero, suc, _≤_, _<_, zero-le}
+use Prim.Native.Nat.{ℕ, zero, suc, _*_, _≤_, _<_, zero-le}
 use native.Mathlib.Omega.{arith}
 use lib.ListN.{length, getD}
 use lib.Dec.{eqb}
@@ -10,12 +10,16 @@ use Rattle.river.specs.declared.card.Card.{Card}
 use Rattle.river.specs.declared.card.Amount.{Amount}
 use Rattle.river.specs.declared.card.Amount.the-variants.{Without, Given}
 use Rattle.river.specs.Card.{FieldsInRange, LawfulDam, LawfulAmount, sludgeLayout, amountOr, Lawful, blank}
+use Rattle.river.specs.declared.source.Demand.{Demand}
+use Rattle.river.specs.declared.source.Demand.the-variants.{Bod, Nitrogenous}
+use Rattle.river.specs.Source.{rateOf}
 use Rattle.river.specs.Saturation.{SaturationInRange}
 use Rattle.river.proofs.range.Ranges.{lawful-at}
+use Rattle.river.proofs.source.Ranges.{rate-small}
 use Rattle.river.proofs.head.Bounds.{conditions-in-range}
 use Rattle.river.proofs.flow.Table.{deepest-few}
 use Rattle.river.proofs.flow.Take.{flow-remains, flow-within}
-use Rattle.river.specs.Flow.{Feeders, none, more, joinedIf, feedersAmong, sludgeOf, reachFlow, reachDepth, ReachPasses, Flows}
+use Rattle.river.specs.Flow.{Feeders, none, more, joinedIf, feedersAmong, rateLimit, sludgeOf, reachFlow, reachDepth, ReachPasses, Flows}
 use Rattle.report.specs.Bed.{BedPasses}
 
 -- an accepted reach: its fields lie in range, and it passes the flow check
@@ -23,19 +27,25 @@ pub record AcceptedReach (card : Card) (up : Feeders) : Type 0 where
   pub fields : FieldsInRange card
   pub saturation : SaturationInRange card
   pub dam : LawfulDam (card .dam)
+  pub rates : (d : Demand) → rateOf d card ≤ 20_000
   pub sludge : sludgeOf card ≤ 65_535
   pub flows : ReachPasses card up
 
--- and so the factors' promise holds for it
-pub rates-pass : {card : Card} {up : Feeders} → AcceptedReach card up → RatesPass (card .k1) (card .k2) (card .volume) (reachFlow card up)
-rates-pass a =
+-- check 11 passes the rate of each demand
+demand-rule : {card : Card} {up : Feeders} → ReachPasses card up → (d : Demand) → rateOf d card * card .volume ≤ rateLimit * reachFlow card up
+demand-rule p Bod = p .decay-rule
+demand-rule p Nitrogenous = p .nitrification-rule
+
+-- and so the promise of the factors holds for each demand
+pub rates-pass : {card : Card} {up : Feeders} → AcceptedReach card up → (d : Demand) → RatesPass (rateOf d card) (card .k2) (card .volume) (reachFlow card up)
+rates-pass a d =
     record {
-      k1-range = a .fields .k1;
+      k1-range = a .rates d;
       k2-range = a .fields .k2;
       volume-range = a .fields .volume;
       flow-above = flow-remains (a .flows);
       flow-below = flow-within (a .flows);
-      k1-short = a .flows .decay-rule;
+      k1-short = demand-rule (a .flows) d;
       k2-short = a .flows .aeration-rule;
     }
 
@@ -68,6 +78,7 @@ module _ (cards : List Card) (lawful : Lawful cards) (flows : Flows cards) where
         fields = own .in-range;
         saturation = conditions-in-range own;
         dam = own .dam;
+        rates = rate-small own;
         sludge = demand-small (getD cards n blank .sludge) (own .sludge);
         flows = flows .each n l;
       }

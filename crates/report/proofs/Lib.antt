@@ -1,6 +1,7 @@
 -- What serves all of the crate, and its theorems. The laws of a module of src/ stand in the room of its name beside this file.
 pub mod Forest
 pub mod Facts
+pub mod NitrificationRows
 pub mod Lowest
 pub mod Ties
 pub mod Bounds
@@ -10,8 +11,10 @@ pub mod UnitRows
 pub mod Demand3
 pub mod River
 pub mod Orders
+pub mod NoNitrification
 pub mod Entry
 pub mod Reported
 pub mod Rewrite
+pub mod Size
 pub mod Bench
 pub mod Refutations

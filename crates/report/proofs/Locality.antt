@@ -12,11 +12,13 @@ use lib.IntN.{ℤ, pos, _+ℤ_, _*ℤ_, +ℤ-assoc, +ℤ-comm}
 use Rattle.river.specs.declared.card.Card.{Card}
 use Rattle.river.specs.Card.{blank}
 use Rattle.river.specs.Flow.{Feeders, joinedIf, feedersAmong, fed, takeOf, flowOf, ownMass, remainingMass, massOf, deepest}
+use Rattle.river.specs.declared.source.Demand.the-variants.{Bod, Nitrogenous}
+use Rattle.river.specs.Source.{sourceOf}
 use Rattle.river.specs.Saturation.{saturationOf}
-use Rattle.river.specs.Head.{belowDam, headBod, headOxygen}
+use Rattle.river.specs.Head.{belowDam, headDemand, headOxygen}
 use Rattle.report.specs.Record.{Figures}
 use Rattle.report.specs.Bed.{bedOf}
-use Rattle.report.specs.Program.{factorsAlong, bodAlong, lossAlong, oxygenAlong, bodSum, oxygenSum, bodAtHead, oxygenAtHead, figuresBelow, figuresOf}
+use Rattle.report.specs.Program.{factorsAlong, partsAlong, demandAlong, turnedAlong, lossAlong, oxygenAlong, demandSum, oxygenSum, demandAtHead, oxygenAtHead, figuresBelow, figuresOf}
 use Rattle.report.specs.Locality.{withOutlet, SameButOutlet, SameForest, bare, alike, exchanged, chained, SameReach, LiesAbove, feeds, through, SameCard, Agree}
 
 -- ---- what a reach takes from its feeders, and what it gives
@@ -28,21 +30,30 @@ record Sums : Type 0 where
   mass : ℕ
   deepest : ℕ
   bod : ℕ
+  nitrogenous : ℕ
   oxygen : ℤ
 
 abbrev sumsOf : Feeders → Sums
 sumsOf up =
-    record { fed = fed up; flow = flowOf up; mass = massOf up; deepest = deepest up; bod = bodSum up; oxygen = oxygenSum up }
+    record { fed = fed up; flow = flowOf up; mass = massOf up; deepest = deepest up; bod = demandSum Bod up; nitrogenous = demandSum Nitrogenous up; oxygen = oxygenSum up }
 
 -- the figures of a reach below these sums
 abbrev figuresBy : Card → Sums → Figures
 figuresBy card s =
-    figuresBelow card (1 + s .deepest) (s .flow + card .inflow - takeOf card) (headBod card (s .fed) (s .flow) (s .bod)) (headOxygen card (s .fed) (s .flow) (s .oxygen))
+    figuresBelow card (1 + s .deepest) (s .flow + card .inflow - takeOf card) (headDemand (sourceOf Bod card) (s .fed) (s .flow) (s .bod)) (headDemand (sourceOf Nitrogenous card) (s .fed) (s .flow) (s .nitrogenous)) (headOxygen card (s .fed) (s .flow) (s .oxygen))
 
 -- what a feeder gives, by its undecayed BOD after the take and its figures
 abbrev given : ℕ → Figures → Sums
 given M f =
-    record { fed = true; flow = f .flow; mass = M; deepest = f .depth; bod = f .flow * f .foot-bod; oxygen = pos (f .flow) *ℤ f .foot-oxygen }
+    record {
+      fed = true;
+      flow = f .flow;
+      mass = M;
+      deepest = f .depth;
+      bod = f .flow * f .foot-bod;
+      nitrogenous = f .flow * f .foot-nitrogenous;
+      oxygen = pos (f .flow) *ℤ f .foot-oxygen;
+    }
 
 abbrev massBy : Card → Sums → ℕ
 massBy card s = remainingMass (takeOf card) (s .flow + card .inflow) (s .mass + ownMass card)
@@ -60,6 +71,7 @@ s ⊕ t =
       mass = s .mass + t .mass;
       deepest = max (s .deepest) (t .deepest);
       bod = s .bod + t .bod;
+      nitrogenous = s .nitrogenous + t .nitrogenous;
       oxygen = s .oxygen +ℤ t .oxygen;
     }
 
@@ -88,7 +100,7 @@ dam-any-outlet card true Qu C = refl
 dam-any-outlet card false Qu C = refl
 
 figures-any-outlet : (s : Sums) (card : Card) → figuresBy (withOutlet 0 card) s ≡ figuresBy card s
-unfolding withOutlet headOxygen bodAlong oxygenAlong lossAlong factorsAlong bedOf saturationOf
+unfolding withOutlet headOxygen demandAlong turnedAlong partsAlong oxygenAlong lossAlong factorsAlong bedOf saturationOf
 figures-any-outlet s card = rw (dam-any-outlet card (s .fed))
 
 gives-any-outlet : (s : Sums) (card : Card) → gives (withOutlet 0 card) s ≡ gives card s
@@ -102,7 +114,7 @@ outlet-aside {c} {d} f h same = sym (h c) ∙ ap f (same .rest) ∙ h d
 
 -- the sums of a forest are put together of what each feeder gives, and so the same forests have the same sums
 same-sums : {f g : Feeders} → SameForest f g → sumsOf f ≡ sumsOf g
-unfolding fed flowOf massOf deepest bodSum oxygenSum
+unfolding fed flowOf massOf deepest demandSum demandAtHead oxygenSum
 same-sums bare = refl
 same-sums (alike {d} {up} card forest others) =
     ap₂ _⊕_ (outlet-aside (λ c. gives c (sumsOf up)) (gives-any-outlet (sumsOf up)) card ∙ ap (gives d) (same-sums forest)) (same-sums others)
@@ -112,7 +124,7 @@ same-sums (chained p q) = same-sums p ∙ same-sums q
 
 -- THEOREM: reaches with the same card and the same forest above them, outlets and the order of feeders aside, have the same figures
 pub same-figures : {c d : Card} {f g : Feeders} → SameButOutlet c d → SameForest f g → figuresOf c f ≡ figuresOf d g
-unfolding figuresOf bodAtHead oxygenAtHead
+unfolding figuresOf demandAtHead oxygenAtHead
 same-figures {d} {f} card forest =
     outlet-aside (λ c. figuresBy c (sumsOf f)) (figures-any-outlet (sumsOf f)) card ∙ ap (figuresBy d) (same-sums forest)
 

@@ -5,9 +5,10 @@ use mathlib.Core.List.{List, [], _∷_}
 use Prim.Native.Nat.{ℕ}
 use Rattle.decay.specs.Fraction.{Fraction, _≼_, ofℤ, _+ᶠ_, -ᶠ_, _-ᶠ_, _*ᶠ_, _÷_, over, distance}
 use Rattle.decay.specs.Exact.{foot, exponent, power, factorial, term, sum, S, F}
-use Rattle.decay.proofs.Algebra.{quote, certify, slack, _⊞_, Within, small, bound-nonneg, within-distance, distance→within, within-sym, within-trans}
+use Rattle.decay.proofs.Algebra.{Nonneg, quote, certify, slack, _⊞_, Within, small, bound-nonneg, within-distance, distance→within, within-sym, within-trans}
 use Rattle.river.specs.declared.card.Card.{Card}
 use Rattle.river.specs.declared.card.Dam.the-variants.{Absent}
+use Rattle.river.specs.declared.card.Nitrification.the-variants.{Idle}
 use Rattle.river.specs.declared.card.Amount.the-variants.{Without}
 use Rattle.river.specs.Refusal.{accepted, need, after, choose}
 use Rattle.river.specs.Card.{countOk, inRange, outletOk}
@@ -17,8 +18,9 @@ use Rattle.river.specs.Write.{encode}
 use Rattle.river.specs.Flow.{cardOf, above, feedersAmong, joinedIf, fed, flowOf, massOf, deepest, damFits, flowCheck, checksFrom, reachChecks}
 use Rattle.river.specs.Accept.{acceptFile}
 use Rattle.river.specs.Saturation.{saturationThousandths}
-use Rattle.report.specs.Record.{Figures}
-use Rattle.report.specs.Recurrence.{exactSaturation, exactMean, exactBelowDam, exactMixedDemand, exactMixedOxygen, exactHeadDemand, exactHeadOxygen, exactBodAlong, exactLoss, exactOxygenAlong, exactBodSum, exactBodAtHead, exactOxygenAtHead, exactBodAt, exactOxygenAt}
+use Rattle.river.specs.declared.source.Demand.the-variants.{Bod}
+use Rattle.report.specs.Record.{nitrifies, isNitrified, hasNitrification, Figures}
+use Rattle.report.specs.Recurrence.{exactSaturation, exactMean, exactBelowDam, exactMixedDemand, exactMixedOxygen, exactHeadDemand, exactHeadOxygen, exactDemandAlong, exactTurnedAlong, exactLoss, exactOxygenAlong, exactDemandSum, exactDemandAtHead, exactOxygenAtHead, exactDemandAt, exactOxygenAt}
 use Rattle.report.specs.Distance.{isGiven, hasBed, stepUnits, allowanceAt, WithinAllowance}
 
 -- the reach of the river file paper's bench values, by outlet and inflow
@@ -38,6 +40,7 @@ reach outlet inflow =
       take = Without;
       pressure = Without;
       sludge = Without;
+      nitrification = Idle;
     }
 
 -- that reach, and below it as long a one with no inflow of its own
@@ -56,23 +59,26 @@ abbrev pub NearReach : ℕ → Figures → Type 0
 NearReach i f = WithinAllowance 40 (cardOf two i) (above two i) f (allowed i)
 
 abbrev headBod : ℕ → Fraction
-headBod i = exactBodAtHead 40 (cardOf two i) (above two i)
+headBod i = exactDemandAtHead 40 Bod (cardOf two i) (above two i)
 
 -- the exact figures, computed, lie further apart than the allowances together
 record Apart : Type 0 where
-  head-foot-bod : headBod 1 -ᶠ exactBodAt 40 (cardOf two 1) (above two 1) foot ≼ allowed 1 +ᶠ allowed 1 → ⊥
+  head-foot-bod : headBod 1 -ᶠ exactDemandAt 40 Bod (cardOf two 1) (above two 1) foot ≼ allowed 1 +ᶠ allowed 1 → ⊥
   head-foot-oxygen :
       exactOxygenAtHead 40 (cardOf two 1) (above two 1) -ᶠ exactOxygenAt 40 (cardOf two 1) (above two 1) foot ≼ allowed 1 +ᶠ allowed 1 → ⊥
   heads : headBod 1 -ᶠ headBod 2 ≼ allowed 1 +ᶠ allowed 2 → ⊥
 
 apart : Apart
-unfolding ofℤ _+ᶠ_ -ᶠ_ _*ᶠ_ _÷_ over exponent power factorial term sum S F feedersAmong joinedIf fed flowOf deepest isGiven hasBed stepUnits saturationThousandths exactSaturation exactMean exactBelowDam exactMixedDemand exactMixedOxygen exactHeadDemand exactHeadOxygen exactBodAlong exactLoss exactOxygenAlong exactBodSum exactBodAtHead exactOxygenAtHead exactBodAt exactOxygenAt
+unfolding ofℤ _+ᶠ_ -ᶠ_ _*ᶠ_ _÷_ over exponent power factorial term sum S F feedersAmong joinedIf fed flowOf deepest nitrifies isNitrified hasNitrification isGiven hasBed stepUnits saturationThousandths exactSaturation exactMean exactBelowDam exactMixedDemand exactMixedOxygen exactHeadDemand exactHeadOxygen exactDemandAlong exactTurnedAlong exactLoss exactOxygenAlong exactDemandSum exactDemandAtHead exactOxygenAtHead exactDemandAt exactOxygenAt
 apart = record { head-foot-bod = λ h. h .across .le; head-foot-oxygen = λ h. h .across .le; heads = λ h. h .across .le }
 
--- of two distances that together are at most e, each is
-each : {a b c d e : Fraction} → distance a b +ᶠ distance c d ≼ e → Within a b e × Within c d e
-each {a} {b} {c} {d} {e} h =
-    (distance→within (certify (distance a b ∷ distance c d ∷ e ∷ []) (slack h ⊞ bound-nonneg (small (within-distance c d))) (search quote depth 40 fits 9999) tt), distance→within (certify (distance a b ∷ distance c d ∷ e ∷ []) (slack h ⊞ bound-nonneg (small (within-distance a b))) (search quote depth 40 fits 9999) tt))
+-- of three distances that together are at most e, the first and the last are
+each : {a b c d e : Fraction} (n m : Fraction) → distance a b +ᶠ distance n m +ᶠ distance c d ≼ e → Within a b e × Within c d e
+each {a} {b} {c} {d} {e} n m h =
+    (distance→within (certify (distance a b ∷ distance n m ∷ distance c d ∷ e ∷ []) (slack h ⊞ other n m ⊞ other c d) (search quote depth 40 fits 9999) tt), distance→within (certify (distance a b ∷ distance n m ∷ distance c d ∷ e ∷ []) (slack h ⊞ other n m ⊞ other a b) (search quote depth 40 fits 9999) tt))
+  where
+    other : (x y : Fraction) → Nonneg (distance x y)
+    other x y = bound-nonneg (small (within-distance x y))
 
 -- values that are near one figure are no further apart than the allowances together
 between : {x a b e f : Fraction} → Within x a e → Within x b f → a -ᶠ b ≼ e +ᶠ f
@@ -80,12 +86,12 @@ between v w = within-trans (within-sym v) w .high
 
 -- THEOREM: no report that copies head BOD to the foot is within the allowance
 pub copied-bod : (f : Figures) → f .foot-bod ≡ f .head-bod → NearReach 1 f → ⊥
-copied-bod f e w = apart .head-foot-bod (between (each (w .at-head) .0) (rw e at (each (w .at-foot) .0)))
+copied-bod f e w = apart .head-foot-bod (between (each _ _ (w .at-head) .0) (rw e at (each _ _ (w .at-foot) .0)))
 
 -- THEOREM: none that copies head oxygen to the foot
 pub copied-oxygen : (f : Figures) → f .foot-oxygen ≡ f .head-oxygen → NearReach 1 f → ⊥
-copied-oxygen f e w = apart .head-foot-oxygen (between (each (w .at-head) .1) (rw e at (each (w .at-foot) .1)))
+copied-oxygen f e w = apart .head-foot-oxygen (between (each _ _ (w .at-head) .1) (rw e at (each _ _ (w .at-foot) .1)))
 
 -- THEOREM: none that works the first reach and repeats it
 pub repeated : (f : Figures) → NearReach 1 f → NearReach 2 f → ⊥
-repeated f v w = apart .heads (between (each (v .at-head) .0) (each (w .at-head) .0))
+repeated f v w = apart .heads (between (each _ _ (v .at-head) .0) (each _ _ (w .at-head) .0))

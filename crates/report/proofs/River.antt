@@ -12,14 +12,17 @@ use Rattle.river.specs.declared.card.Card.{Card}
 use Rattle.river.specs.Bytes.{AreBytes}
 use Rattle.river.specs.Card.{Lawful}
 use Rattle.river.specs.Refusal.{accepted}
+use Rattle.river.specs.declared.source.Demand.{Demand}
+use Rattle.river.specs.declared.source.Demand.the-variants.{Bod, Nitrogenous}
+use Rattle.river.specs.Source.{rateOf}
 use Rattle.river.specs.Flow.{cardOf, above, sludgeOf, Flows}
 use Rattle.river.proofs.Acceptance.{accepts-exactly}
-use Rattle.report.specs.Program.{bodAtHead, oxygenAtHead, bodAt, oxygenAt, figuresAt, figuresOf, lowest, foot}
+use Rattle.report.specs.Program.{oxygenAtHead, demandAt, oxygenAt, figuresAt, figuresOf, lowest, foot}
 use Rattle.report.specs.Distance.{allowanceAt, WithinAllowance}
-use Rattle.report.specs.Ties.{NoChange, Tied}
+use Rattle.report.specs.Ties.{NoDecay, NoChange, headFigure, footFigure, Tied}
 use Rattle.report.proofs.Forest.{AcceptedReach, AllAccepted, reach-accepted, above-accepted, reach-shallow}
-use Rattle.report.proofs.Bounds.{Range, head-range, instant-range}
-use Rattle.report.proofs.Ties.{bod-at-most-head, reach-bod-stays, reach-oxygen-stays, oxygen-at-head}
+use Rattle.report.proofs.Bounds.{demandsAtHead, demandsAt, Range, head-range, instant-range}
+use Rattle.report.proofs.Ties.{demand-at-most-head, reach-demand-stays, reach-oxygen-stays, oxygen-at-head}
 use Rattle.report.proofs.Lowest.{lowest-first}
 use Rattle.report.proofs.Demand3.{demand-3}
 use Rattle.river.specs.Accept.{acceptFile}
@@ -39,16 +42,17 @@ no-rate : {k volume : ℕ} → (k ≡ 0) ⊎ (volume ≡ 0) → k * volume ≡ 0
 no-rate {k} {volume} (inl e) = rw (e, zero-mul)
 no-rate {k} {volume} (inr e) = rw (e, mul-zero)
 
-no-decay : (card : Card) → NoChange card → card .k1 * card .volume ≡ 0
-no-decay card (inl (h, k, s)) = no-rate (inl h)
-no-decay card (inr h) = no-rate (inr h)
+no-decay : (card : Card) → NoChange card → (d : Demand) → rateOf d card * card .volume ≡ 0
+no-decay card (inl (h, n, k, s)) Bod = no-rate (inl h)
+no-decay card (inl (h, n, k, s)) Nitrogenous = no-rate (inl n)
+no-decay card (inr h) d = no-rate (inr h)
 
 no-aeration : (card : Card) → NoChange card → card .k2 * card .volume ≡ 0
-no-aeration card (inl (h, k, s)) = no-rate (inl k)
+no-aeration card (inl (h, n, k, s)) = no-rate (inl k)
 no-aeration card (inr h) = no-rate (inr h)
 
 no-demand : (card : Card) → NoChange card → sludgeOf card * card .volume ≡ 0
-no-demand card (inl (h, k, s)) = no-rate (inl s)
+no-demand card (inl (h, n, k, s)) = no-rate (inl s)
 no-demand card (inr h) = no-rate (inr h)
 
 module _ {cards : List Card} (river : IsRiver cards) (i : ℕ) (l : i < length cards) where
@@ -58,24 +62,35 @@ module _ {cards : List Card} (river : IsRiver cards) (i : ℕ) (l : i < length c
   water : AllAccepted (above cards (suc i))
   water = above-accepted cards (river .lawful) (river .flows) i (suc i) (le-of-lt l)
 
-  -- BOD from 0 to 1,000,000,000 and oxygen from -1,640,000,384 to 20,000,128, and no more than 1,640,000,384 below BOD
-  pub head-in-range : Range (bodAtHead (cardOf cards (suc i)) (above cards (suc i))) (oxygenAtHead (cardOf cards (suc i)) (above cards (suc i)))
+  -- the demands together from 0 to 1,000,000,000 and oxygen from -1,640,000,384 to 20,000,128, and no more than 1,640,000,384 below them
+  pub head-in-range : Range (demandsAtHead (cardOf cards (suc i)) (above cards (suc i))) (oxygenAtHead (cardOf cards (suc i)) (above cards (suc i)))
   head-in-range = head-range own water (reach-shallow cards (river .lawful) (river .flows) i l)
 
-  pub instant-in-range : (m : ℕ) → m ≤ foot → Range (bodAt (cardOf cards (suc i)) (above cards (suc i)) m) (oxygenAt (cardOf cards (suc i)) (above cards (suc i)) m)
+  pub instant-in-range : (m : ℕ) → m ≤ foot → Range (demandsAt (cardOf cards (suc i)) (above cards (suc i)) m) (oxygenAt (cardOf cards (suc i)) (above cards (suc i)) m)
   instant-in-range m h = instant-range own water (reach-shallow cards (river .lawful) (river .flows) i l) m h
+
+  -- each demand at the foot
+  falls : (d : Demand) → footFigure d (figuresAt cards (suc i)) ≤ headFigure d (figuresAt cards (suc i))
+  unfolding figuresOf demandAt
+  falls Bod = demand-at-most-head own Bod foot
+  falls Nitrogenous = demand-at-most-head own Nitrogenous foot
+
+  kept : (d : Demand) → NoDecay d (cardOf cards (suc i)) → footFigure d (figuresAt cards (suc i)) ≡ headFigure d (figuresAt cards (suc i))
+  unfolding figuresOf demandAt
+  kept Bod h = reach-demand-stays own Bod (no-rate h) foot
+  kept Nitrogenous h = reach-demand-stays own Nitrogenous (no-rate h) foot
 
   -- the ties and the critical point
   pub reach-tied : Tied (cardOf cards (suc i)) (oxygenAt (cardOf cards (suc i)) (above cards (suc i))) (figuresAt cards (suc i))
-  unfolding figuresOf bodAt oxygenAt
+  unfolding figuresOf demandAt oxygenAt
   reach-tied =
       let card = cardOf cards (suc i) in
       let up = above cards (suc i) in
       let c = lowest-first (oxygenAt card up) foot in
       let head = oxygen-at-head card up in
       record {
-        foot-bod = bod-at-most-head own foot;
-        bod-kept = λ h. reach-bod-stays own (no-rate h) foot;
+        foot-demand = falls;
+        demand-kept = kept;
         oxygen-kept = λ h m l. reach-oxygen-stays own (no-decay card h) (no-aeration card h) (no-demand card h) m;
         at-head = head;
         at-foot = refl;

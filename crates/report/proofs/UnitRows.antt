@@ -1,16 +1,19 @@
--- The units that a river allows for each step of depth, computed from the definition: with an `SD` record or none, also of demand 0.
+-- The units that a river allows for each step of depth, computed from the definition: with an `SD` or an `NT` record or none, also of zeros.
 -- Demand 3 names them, so that these rows are checked first.
 use mathlib.Core.Path.{_≡_, refl}
 use mathlib.Core.List.{[], _∷_}
 use Rattle.river.specs.declared.card.Card.{Card}
 use Rattle.river.specs.declared.card.Dam.the-variants.{Absent}
+use Rattle.river.specs.declared.card.Nitrification.{Nitrification}
+use Rattle.river.specs.declared.card.Nitrification.the-variants.{Idle, Nitrifying}
 use Rattle.river.specs.declared.card.Amount.{Amount}
 use Rattle.river.specs.declared.card.Amount.the-variants.{Without, Given}
+use Rattle.report.specs.Record.{nitrifies, isNitrified, hasNitrification}
 use Rattle.report.specs.Distance.{isGiven, hasBed, stepUnits}
 
--- a reach with a take and a pressure, by its sludge bed
-abbrev reach : Amount → Card
-reach sludge =
+-- a reach with a take and a pressure, by its sludge bed and its nitrification
+abbrev reach : Amount → Nitrification → Card
+reach sludge nitrification =
     record {
       outlet = 0;
       temperature = 0;
@@ -25,17 +28,21 @@ reach sludge =
       take = Given 0;
       pressure = Given 760;
       sludge = sludge;
+      nitrification = nitrification;
     }
 
 pub record Rows : Type 0 where
-  -- no bed
-  pub plain : stepUnits (reach Without ∷ reach Without ∷ []) ≡ 100
+  -- neither
+  pub plain : stepUnits (reach Without Idle ∷ reach Without Idle ∷ []) ≡ 100
   -- a bed, also one that takes nothing, at the only reach, the first or the last
-  pub bed : stepUnits (reach (Given 1) ∷ []) ≡ 150
-  pub first : stepUnits (reach (Given 0) ∷ reach Without ∷ []) ≡ 150
-  pub last : stepUnits (reach Without ∷ reach (Given 0) ∷ []) ≡ 150
+  pub bed : stepUnits (reach (Given 1) Idle ∷ []) ≡ 150
+  pub first : stepUnits (reach (Given 0) Idle ∷ reach Without Idle ∷ []) ≡ 150
+  pub last : stepUnits (reach Without Idle ∷ reach (Given 0) Idle ∷ []) ≡ 150
+  -- nitrification, also of zeros, with a bed or none
+  pub nitrified : stepUnits (reach Without Idle ∷ reach Without (Nitrifying 0 0 0) ∷ []) ≡ 200
+  pub nitrified-bed : stepUnits (reach Without (Nitrifying 1 2 3) ∷ reach (Given 1) Idle ∷ []) ≡ 200
 
 -- THEOREM: these units, a row each
 pub rows : Rows
-unfolding isGiven hasBed stepUnits
-rows = record { plain = refl; bed = refl; first = refl; last = refl }
+unfolding nitrifies isNitrified hasNitrification isGiven hasBed stepUnits
+rows = record { plain = refl; bed = refl; first = refl; last = refl; nitrified = refl; nitrified-bed = refl }

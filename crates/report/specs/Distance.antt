@@ -6,12 +6,13 @@ use Rattle.decay.specs.Fraction.{Fraction, ofℕ, ofℤ, _≼_, _+ᶠ_, _-ᶠ_,
 use Rattle.decay.specs.Exact.{foot}
 use Rattle.decay.specs.Promise.{deficitDistance}
 use Rattle.river.specs.declared.card.Card.{Card}
+use Rattle.river.specs.declared.source.Demand.the-variants.{Bod, Nitrogenous}
 use Rattle.river.specs.declared.card.Amount.{Amount}
 use Rattle.river.specs.declared.card.Amount.the-variants.{Without, Given}
 use Rattle.river.specs.Flow.{Feeders, none, more, flowOf, reachFlow, reachDepth, above}
 use Rattle.report.specs.Bed.{bedOf}
-use Rattle.report.specs.Recurrence.{exactBodAtHead, exactOxygenAtHead, exactBodAt, exactOxygenAt}
-use Rattle.report.specs.Record.{Figures}
+use Rattle.report.specs.Recurrence.{exactDemandAtHead, exactOxygenAtHead, exactDemandAt, exactOxygenAt}
+use Rattle.report.specs.Record.{Figures, hasNitrification}
 
 -- whether an amount stands on a card, 0 too
 unfoldable pub isGiven : Amount → Bool
@@ -23,9 +24,9 @@ unfoldable pub hasBed : List Card → Bool
 hasBed [] = false
 hasBed (card ∷ cards) = isGiven (card .sludge) || hasBed cards
 
--- the units that a river allows for each step of depth: 150 with a sludge bed, else 100, which is 0.0001 mg/L
+-- the units that a river allows for each step of depth: 200 with nitrification, else 150 with a sludge bed, else 100, which is 0.0001 mg/L
 unfoldable pub stepUnits : List Card → ℕ
-stepUnits cards = cond (hasBed cards) 150 100
+stepUnits cards = cond (hasNitrification cards) 200 (cond (hasBed cards) 150 100)
 
 -- units times the depth of a reach
 abbrev pub allowance : (units : ℕ) → Feeders → Fraction
@@ -37,12 +38,18 @@ allowanceAt cards i = allowance (stepUnits cards) (above cards i)
 
 -- the figures of a reach lie within a distance of the exact recurrence
 pub record WithinAllowance (N : ℕ) (card : Card) (up : Feeders) (f : Figures) (allowed : Fraction) : Type 0 where
-  -- at the head, the errors of BOD and of oxygen, added together
+  -- at the head, the errors of BOD, of nitrogenous BOD and of oxygen, added together
   pub at-head :
-      distance (ofℕ (f .head-bod)) (exactBodAtHead N card up) +ᶠ distance (ofℤ (f .head-oxygen)) (exactOxygenAtHead N card up) ≼ allowed
+      distance (ofℕ (f .head-bod)) (exactDemandAtHead N Bod card up) +ᶠ
+      distance (ofℕ (f .head-nitrogenous)) (exactDemandAtHead N Nitrogenous card up) +ᶠ
+      distance (ofℤ (f .head-oxygen)) (exactOxygenAtHead N card up) ≼
+      allowed
   -- at the foot likewise
   pub at-foot :
-      distance (ofℕ (f .foot-bod)) (exactBodAt N card up foot) +ᶠ distance (ofℤ (f .foot-oxygen)) (exactOxygenAt N card up foot) ≼ allowed
+      distance (ofℕ (f .foot-bod)) (exactDemandAt N Bod card up foot) +ᶠ
+      distance (ofℕ (f .foot-nitrogenous)) (exactDemandAt N Nitrogenous card up foot) +ᶠ
+      distance (ofℤ (f .foot-oxygen)) (exactOxygenAt N card up foot) ≼
+      allowed
   -- critical oxygen lies within the distance of exact oxygen at the reported instant, one of the 1,025
   pub in-reach : f .critical-instant ≤ foot
   pub at-critical : distance (ofℤ (f .critical-oxygen)) (exactOxygenAt N card up (f .critical-instant)) ≼ allowed

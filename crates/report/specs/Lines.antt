@@ -1,28 +1,53 @@
--- What the program holds between the reaches of an accepted river: the feet of the reaches reported so far. A function that reports a reach is
--- handed its card and not all cards, which would be copied for each reach; what it promises holds for every river that it may be of.
+-- What the program holds between the reaches of an accepted river: what the feet of the reaches reported so far bring. A function that
+-- reports a reach is handed its card, its flow and depth and what its feeders bring, and no table, which would be copied for each reach; what it
+-- promises holds for every river and tables that these may be of.
 use mathlib.Core.Path.{_≡_}
+use mathlib.Core.Bool.{Bool}
 use mathlib.Core.List.{List}
 use Prim.Native.Nat.{ℕ, suc, _+_, _*_, _≤_, _<_}
 use lib.ListN.{length, getD}
 use lib.Seq.{sets}
+use Rattle.decay.specs.Step.{RatesPass}
 use Rattle.river.specs.declared.card.Card.{Card}
 use Rattle.river.specs.declared.flow.FlowTable.{FlowTable}
+use Rattle.river.specs.declared.head.Brought.{Brought}
 use Rattle.river.specs.declared.head.FootTable.{FootTable}
+use Rattle.river.specs.declared.head.Head.{Head}
+use Rattle.river.specs.declared.source.Demand.{Demand}
 use Rattle.river.specs.Card.{Lawful}
+use Rattle.river.specs.Source.{rateOf}
+use Rattle.river.specs.Saturation.{SaturationInRange}
 use Rattle.river.specs.Flow.{Flows, cardOf, flowAt, massAt}
 use Rattle.river.specs.FlowTable.{Tabled}
-use Rattle.river.specs.HeadTable.{Carried}
+use Rattle.river.specs.HeadTable.{demandLimit, footOf, broughtTo, FootWithin, Carried}
 use Rattle.river.specs.Stored.{storedOf}
+use Rattle.report.specs.Bed.{BedPasses, lossLimit}
 use Rattle.report.specs.Program.{figuresAt}
-use Rattle.report.specs.Record.{figuresIn, recordSize}
+use Rattle.report.specs.Record.{hasNitrification, Figures, figuresIn, recordSize}
 use Rattle.report.specs.Report.{recordOf}
 use Rattle.report.specs.declared.record.Line.{Line}
 
--- tables of flow × foot BOD and flow × stored foot oxygen of the first n reaches
+-- what the figures along a reach ask of its card and flow
+pub record LineReady (card : Card) (flow : ℕ) : Type 0 where
+  pub rates : (d : Demand) → RatesPass (rateOf d card) (card .k2) (card .volume) flow
+  pub saturation : SaturationInRange card
+  pub bed : BedPasses card flow
+
+-- and of its head: stored oxygen is at least the demands and what a bed may take, together
+pub record HeadFits (head : Head) : Type 0 where
+  pub demands : head .bod + head .nitrogenous ≤ demandLimit
+  pub low : head .bod + head .nitrogenous + lossLimit ≤ head .oxygen
+
+-- what the foot of a reach with this flow and these figures brings
+abbrev pub footBy : (flow : ℕ) → Figures → Brought
+footBy flow f = footOf flow (f .foot-bod) (f .foot-nitrogenous) (storedOf (f .foot-oxygen))
+
+-- tables of what the feet of the first n reaches bring
 pub record FeetOf (cards : List Card) (feet : FootTable) (n : ℕ) : Type 0 where
-  pub bod : (j : ℕ) → j < n → getD (feet .bod) j 0 ≡ flowAt cards (suc j) * figuresAt cards (suc j) .foot-bod
-  pub oxygen :
-      (j : ℕ) → j < n → getD (feet .oxygen) j 0 ≡ flowAt cards (suc j) * storedOf (figuresAt cards (suc j) .foot-oxygen)
+  pub bod : (j : ℕ) → j < n → getD (feet .bod) j 0 ≡ footBy (flowAt cards (suc j)) (figuresAt cards (suc j)) .bod
+  pub nitrogenous :
+      (j : ℕ) → j < n → getD (feet .nitrogenous) j 0 ≡ footBy (flowAt cards (suc j)) (figuresAt cards (suc j)) .nitrogenous
+  pub oxygen : (j : ℕ) → j < n → getD (feet .oxygen) j 0 ≡ footBy (flowAt cards (suc j)) (figuresAt cards (suc j)) .oxygen
   pub carried : Carried cards feet n
 
 -- the flows of an accepted river
@@ -31,34 +56,42 @@ pub record Ready (cards : List Card) (flows : FlowTable) : Type 0 where
   pub sound : Flows cards
   pub tabled : Tabled cards (length cards) flows
 
--- the line of reach i + 1: it has the figures of the reach, and its BOD is at most the undecayed BOD
+-- the line of reach i + 1: it has the figures of the reach, and its demands are at most the undecayed BOD
 pub record LineOf (cards : List Card) (i : ℕ) (line : Line) : Type 0 where
   pub figures : figuresIn line ≡ figuresAt cards (suc i)
-  pub mass : flowAt cards (suc i) * line .«head_bod» ≤ 1000 * massAt cards (suc i)
+  pub mass : flowAt cards (suc i) * (line .«head_bod» + line .«head_nitrogenous») ≤ 1000 * massAt cards (suc i)
 
--- what the line of reach i + 1 needs beside its card: an accepted river with these flows and feet, in which that reach has that card
-pub record LineAt (card : Card) (flows : FlowTable) (feet : FootTable) (i : ℕ) : Type 0 where
+-- what a line needs: there is an accepted river with flows and feet, one of whose reaches has this card, flow and depth and is brought this
+pub record LineAt (card : Card) (flow depth : ℕ) (sums : Brought) : Type 0 where
   pub cards : List Card
+  pub flows : FlowTable
+  pub feet : FootTable
+  pub i : ℕ
   pub ready : Ready cards flows
   pub feet-are : FeetOf cards feet i
   pub within : i < length cards
   pub own : card ≡ cardOf cards (suc i)
+  pub flow-is : flow ≡ getD (flows .flow) i 0
+  pub depth-is : depth ≡ getD (flows .depth) i 0
+  pub sums-are : sums ≡ broughtTo (flows .outlet) (feet .bod) (feet .nitrogenous) (feet .oxygen) i
 
--- for every such river the line is that of its reach i + 1
-abbrev pub LineBy : Card → FlowTable → FootTable → ℕ → Line → Type 0
-LineBy card flows feet i line = (here : LineAt card flows feet i) → LineOf (here .cards) i line
+-- for every such river the line is that of this reach
+abbrev pub LineBy : Card → (flow depth : ℕ) → Brought → Line → Type 0
+LineBy card flow depth sums line = (here : LineAt card flow depth sums) → LineOf (here .cards) (here .i) line
 
--- what its record needs too: room at a place of a report of some length
-pub record PlacedAt (card : Card) (flows : FlowTable) (feet : FootTable) (i at long : ℕ) : Type 0 where
-  pub line : LineAt card flows feet i
+-- what its record needs too: whether the river has nitrification, and room at a place of a report of some length
+pub record PlacedAt (card : Card) (flow depth : ℕ) (sums : Brought) (nitrified : Bool) (at long : ℕ) : Type 0 where
+  pub line : LineAt card flow depth sums
+  pub nitrification : nitrified ≡ hasNitrification (line .cards)
   pub room : at + recordSize (line .cards) ≤ long
 
--- the feet with that of reach i + 1, and the report with its record at a place
-pub record ReachReported (cards : List Card) (i at : ℕ) (before after : List ℕ) (feet : FootTable) : Type 0 where
-  pub feet-are : FeetOf cards feet (i + 1)
+-- what the foot of reach i + 1 brings, and the report with its record at a place
+pub record ReachReported (cards : List Card) (i at : ℕ) (before after : List ℕ) (foot : Brought) : Type 0 where
+  pub brings : foot ≡ footBy (flowAt cards (suc i)) (figuresAt cards (suc i))
+  pub within : FootWithin cards i foot
   pub report : after ≡ sets before at (recordOf cards i)
 
--- for every such river the call leaves the feet and the report so
-abbrev pub ReportedBy : Card → FlowTable → FootTable → (i at : ℕ) (before after : List ℕ) → FootTable → Type 0
-ReportedBy card flows feet i at before after next =
-    (here : PlacedAt card flows feet i at (length before)) → ReachReported (here .line .cards) i at before after next
+-- for every such river the call tells the foot and leaves the report so
+abbrev pub ReportedBy : Card → (flow depth : ℕ) → Brought → (nitrified : Bool) (at : ℕ) (before after : List ℕ) → Brought → Type 0
+ReportedBy card flow depth sums nitrified at before after foot =
+    (here : PlacedAt card flow depth sums nitrified at (length before)) → ReachReported (here .line .cards) (here .line .i) at before after foot

@@ -25,6 +25,7 @@ withOutlet o card =
       take = card .take;
       pressure = card .pressure;
       sludge = card .sludge;
+      nitrification = card .nitrification;
     }
 
 -- two cards are the same but for their outlets

@@ -1,27 +1,30 @@
--- What the program computes for a reach: BOD and oxygen along it, its critical point, and the figures of its record.
+-- What the program computes for a reach: its two demands, BOD and nitrogenous BOD, and oxygen along it, its critical point, and the figures of
+-- its record.
 -- A reach is a card with what flows into it, the forest of its feeders. Concentrations are in units; oxygen is signed.
 use mathlib.Core.Bool.{cond}
 use mathlib.Core.List.{List}
-use Prim.Native.Nat.{ℕ, zero, suc, _+_, _*_}
+use Prim.Native.Nat.{ℕ, zero, suc, _+_, _*_, _/_}
 use lib.IntN.{ℤ, pos, _+ℤ_, _-ℤ_, _*ℤ_}
 use lib.Signed.{ltZ}
 pub use Rattle.decay.specs.Exact.{foot}
 use Rattle.decay.specs.Fixed.{one, product}
 use Rattle.decay.specs.Promise.{factorsOf}
+use Rattle.decay.specs.Step.{stepOf}
+use Rattle.decay.specs.Factors.{demandFrom}
+use Rattle.decay.specs.declared.factors.DemandFactors.{DemandFactors}
 use Rattle.decay.specs.declared.factors.Factors.{Factors}
 use Rattle.river.specs.declared.card.Card.{Card}
 use Rattle.river.specs.Flow.{Feeders, none, more, fed, flowOf, reachFlow, reachDepth, cardOf, above}
 use Rattle.river.specs.Saturation.{saturationOf}
-use Rattle.river.specs.Head.{floor, headBod, headOxygen}
+use Rattle.river.specs.declared.source.Demand.{Demand}
+use Rattle.river.specs.declared.source.Demand.the-variants.{Bod, Nitrogenous}
+use Rattle.river.specs.Source.{sourceOf, rateOf}
+use Rattle.river.specs.Head.{floor, headDemand, headOxygen}
 use Rattle.report.specs.Bed.{bedOf, lossWith}
 use Rattle.report.specs.Record.{Figures}
 
--- BOD where these factors hold, with head BOD L: the share left of it, rounded down
-unfoldable pub bodWith : Factors → (L : ℕ) → ℕ
-bodWith f L = product (f .left) L
-
--- oxygen where these factors hold and no bed takes any, with saturation Cs, head BOD L and head oxygen C: Cs less the share of L that has
--- turned to deficit and the share kept of the head deficit, each rounded down
+-- oxygen where these factors of BOD hold, with saturation Cs, head BOD L and head oxygen C, if nothing else takes any: Cs less the share of
+-- L that has turned to deficit and the share kept of the head deficit, each rounded down
 unfoldable pub oxygenWith : Factors → (Cs L : ℕ) (C : ℤ) → ℤ
 oxygenWith f Cs L C = pos Cs -ℤ pos (product (f .turned) L) -ℤ floor (pos (f .kept) *ℤ (pos Cs -ℤ C)) one
 
@@ -29,47 +32,64 @@ oxygenWith f Cs L C = pos Cs -ℤ pos (product (f .turned) L) -ℤ floor (pos (f
 unfoldable pub factorsAlong : Card → (Q m : ℕ) → Factors
 factorsAlong card Q m = factorsOf (card .k1) (card .k2) (card .volume) Q m
 
+-- nitrogenous BOD is stepped from instant to instant in parts of a unit: 2^14, so that the most units, 1,000,000,000, are less than 2^44 parts
+abbrev pub unitParts : ℕ
+unitParts = 16_384
+
+-- nitrogenous BOD of a reach with flow Q at instant m, in these parts, with head value L
+unfoldable pub partsAlong : Card → (Q L m : ℕ) → DemandFactors
+partsAlong card Q L m = demandFrom (unitParts * L) (stepOf (rateOf Nitrogenous card) (card .k2) (card .volume) Q) m
+
 -- the oxygen lost to the bed of a reach with flow Q at instant m
 unfoldable pub lossAlong : Card → (Q m : ℕ) → ℕ
 lossAlong card Q m = lossWith (factorsAlong card Q m) (bedOf card Q) m
 
--- BOD and oxygen at instant m of a reach with flow Q, head BOD L and head oxygen C
-unfoldable pub bodAlong : Card → (Q L m : ℕ) → ℕ
-bodAlong card Q L m = bodWith (factorsAlong card Q m) L
+-- a demand at instant m of a reach with flow Q and head value L, rounded down: of BOD the share left of it, of nitrogenous BOD the units in the parts left
+unfoldable pub demandAlong : Demand → Card → (Q L m : ℕ) → ℕ
+demandAlong Bod card Q L m = product (factorsAlong card Q m .left) L
+demandAlong Nitrogenous card Q L m = partsAlong card Q L m .left / unitParts
 
-unfoldable pub oxygenAlong : Card → (Q L : ℕ) (C : ℤ) (m : ℕ) → ℤ
-oxygenAlong card Q L C m = oxygenWith (factorsAlong card Q m) (saturationOf card) L C -ℤ pos (lossAlong card Q m)
+-- how much of it has turned to deficit there, rounded down
+unfoldable pub turnedAlong : Demand → Card → (Q L m : ℕ) → ℕ
+turnedAlong Bod card Q L m = product (factorsAlong card Q m .turned) L
+turnedAlong Nitrogenous card Q L m = partsAlong card Q L m .turned / unitParts
 
--- the sum over the feeders of Q × foot BOD
-unfoldable pub bodSum : Feeders → ℕ
-bodSum none = 0
-bodSum (more card up rest) =
+-- oxygen at instant m of a reach with flow Q, head BOD L, head nitrogenous BOD Ln and head oxygen C
+unfoldable pub oxygenAlong : Card → (Q L Ln : ℕ) (C : ℤ) (m : ℕ) → ℤ
+oxygenAlong card Q L Ln C m =
+    oxygenWith (factorsAlong card Q m) (saturationOf card) L C -ℤ pos (turnedAlong Nitrogenous card Q Ln m) -ℤ pos (lossAlong card Q m)
+
+-- the sum over the feeders of Q × foot value of a demand
+unfoldable pub demandSum : Demand → Feeders → ℕ
+demandSum d none = 0
+demandSum d (more card up rest) =
     let Q = reachFlow card up in
-    let L = headBod card (fed up) (flowOf up) (bodSum up) in
-    Q * bodAlong card Q L foot + bodSum rest
+    let L = headDemand (sourceOf d card) (fed up) (flowOf up) (demandSum d up) in
+    Q * demandAlong d card Q L foot + demandSum d rest
+
+-- a demand at the head of a reach
+unfoldable pub demandAtHead : Demand → Card → Feeders → ℕ
+demandAtHead d card up = headDemand (sourceOf d card) (fed up) (flowOf up) (demandSum d up)
 
 -- the sum over the feeders of Q × foot oxygen
 unfoldable pub oxygenSum : Feeders → ℤ
 oxygenSum none = pos 0
 oxygenSum (more card up rest) =
     let Q = reachFlow card up in
-    let L = headBod card (fed up) (flowOf up) (bodSum up) in
     let C = headOxygen card (fed up) (flowOf up) (oxygenSum up) in
-    pos Q *ℤ oxygenAlong card Q L C foot +ℤ oxygenSum rest
+    pos Q *ℤ oxygenAlong card Q (demandAtHead Bod card up) (demandAtHead Nitrogenous card up) C foot +ℤ oxygenSum rest
 
--- BOD and oxygen at the head of a reach
-unfoldable pub bodAtHead : Card → Feeders → ℕ
-bodAtHead card up = headBod card (fed up) (flowOf up) (bodSum up)
-
+-- oxygen at the head of a reach
 unfoldable pub oxygenAtHead : Card → Feeders → ℤ
 oxygenAtHead card up = headOxygen card (fed up) (flowOf up) (oxygenSum up)
 
--- BOD and oxygen at instant m of a reach
-unfoldable pub bodAt : Card → Feeders → ℕ → ℕ
-bodAt card up m = bodAlong card (reachFlow card up) (bodAtHead card up) m
+-- a demand and oxygen at instant m of a reach
+unfoldable pub demandAt : Demand → Card → Feeders → ℕ → ℕ
+demandAt d card up m = demandAlong d card (reachFlow card up) (demandAtHead d card up) m
 
 unfoldable pub oxygenAt : Card → Feeders → ℕ → ℤ
-oxygenAt card up m = oxygenAlong card (reachFlow card up) (bodAtHead card up) (oxygenAtHead card up) m
+oxygenAt card up m =
+    oxygenAlong card (reachFlow card up) (demandAtHead Bod card up) (demandAtHead Nitrogenous card up) (oxygenAtHead card up) m
 
 -- a critical point: an instant and the oxygen there
 pub record Critical : Type 0 where
@@ -85,23 +105,26 @@ unfoldable pub lowest : (ℕ → ℤ) → ℕ → Critical
 lowest at zero = record { instant = 0; oxygen = at 0 }
 lowest at (suc m) = lower (lowest at m) (suc m) (at (suc m))
 
--- the figures of a reach with this depth, flow Q, head BOD L and head oxygen C
-abbrev pub figuresBelow : Card → (depth Q L : ℕ) (C : ℤ) → Figures
-figuresBelow card depth Q L C =
+-- the figures of a reach with this depth, flow Q, head BOD L, head nitrogenous BOD Ln and head oxygen C
+abbrev pub figuresBelow : Card → (depth Q L Ln : ℕ) (C : ℤ) → Figures
+figuresBelow card depth Q L Ln C =
     record {
       depth = depth;
       flow = Q;
       head-bod = L;
-      foot-bod = bodAlong card Q L foot;
+      foot-bod = demandAlong Bod card Q L foot;
       head-oxygen = C;
-      critical-instant = lowest (oxygenAlong card Q L C) foot .instant;
-      critical-oxygen = lowest (oxygenAlong card Q L C) foot .oxygen;
-      foot-oxygen = oxygenAlong card Q L C foot;
+      critical-instant = lowest (oxygenAlong card Q L Ln C) foot .instant;
+      critical-oxygen = lowest (oxygenAlong card Q L Ln C) foot .oxygen;
+      foot-oxygen = oxygenAlong card Q L Ln C foot;
+      head-nitrogenous = Ln;
+      foot-nitrogenous = demandAlong Nitrogenous card Q Ln foot;
     }
 
 -- the figures of a reach
 unfoldable pub figuresOf : Card → Feeders → Figures
-figuresOf card up = figuresBelow card (reachDepth up) (reachFlow card up) (bodAtHead card up) (oxygenAtHead card up)
+figuresOf card up =
+    figuresBelow card (reachDepth up) (reachFlow card up) (demandAtHead Bod card up) (demandAtHead Nitrogenous card up) (oxygenAtHead card up)
 
 -- the figures of reach i of a river
 abbrev pub figuresAt : List Card → ℕ → Figures

@@ -11,13 +11,15 @@ use Rattle.river.specs.declared.card.Card.{Card}
 use Rattle.river.specs.declared.source.Source.{Source}
 use Rattle.river.specs.Flow.{Feeders, none, more, fed, flowOf, reachFlow, sludgeOf}
 use Rattle.river.specs.Saturation.{saturationThousandths, standardPressure, pressureOf}
-use Rattle.river.specs.Source.{bodSource}
+use Rattle.river.specs.declared.source.Demand.{Demand}
+use Rattle.river.specs.declared.source.Demand.the-variants.{Bod, Nitrogenous}
+use Rattle.river.specs.Source.{sourceOf, rateOf}
 
 -- saturation of a reach, at its own temperature and pressure, unrounded
 unfoldable pub exactSaturation : Card → Fraction
 exactSaturation card = ofℕ (saturationThousandths (card .temperature) * pressureOf card) ÷ ofℕ (1_000 * standardPressure)
 
--- 1. upstream BOD or oxygen: the flow-weighted mean of the feeders' exact foot values, 0 without feeders
+-- 1. an upstream demand or oxygen: the flow-weighted mean of the feeders' exact foot values, 0 without feeders
 unfoldable pub exactMean : (fed : Bool) (Qu : ℕ) (sum : Fraction) → Fraction
 exactMean false Qu sum = ofℕ 0
 exactMean true Qu sum = sum ÷ ofℕ Qu
@@ -46,18 +48,19 @@ exactMixedOxygen card Qu upstream =
 unfoldable pub exactHeadDemand : Source → (fed : Bool) (Qu : ℕ) (sum : Fraction) → Fraction
 exactHeadDemand source fed Qu sum = exactMixedDemand source Qu (exactMean fed Qu sum)
 
--- BOD and oxygen at the head of a reach, by its card, whether it has feeders, Qu, and the feeders' sums of Q × exact foot BOD and oxygen
-abbrev pub exactHeadBod : Card → (fed : Bool) (Qu : ℕ) (sum : Fraction) → Fraction
-exactHeadBod card = exactHeadDemand (bodSource card)
-
+-- oxygen at the head of a reach, by its card, whether it has feeders, Qu, and the feeders' sum of Q × exact foot oxygen
 unfoldable pub exactHeadOxygen : Card → (fed : Bool) (Qu : ℕ) (sum : Fraction) → Fraction
 exactHeadOxygen card fed Qu sum = exactMixedOxygen card Qu (exactBelowDam card fed Qu (exactMean fed Qu sum))
 
 -- the recurrence, at one N throughout
 module _ (N : ℕ) where
-  -- BOD at instant m of a reach with flow Q, which is that after the take, and head BOD L: L × S(x1)
-  unfoldable pub exactBodAlong : Card → (Q : ℕ) (L : Fraction) (m : ℕ) → Fraction
-  exactBodAlong card Q L m = L *ᶠ S N (exponent (card .k1) (card .volume) Q m)
+  -- A demand of rate k, k1 for BOD or that of nitrification, along a reach with flow Q, which is that after the take. At instant m its
+  -- exponent x is from k, volume and Q, and of its head value L there is left L × S(x); F × L has turned to deficit.
+  unfoldable pub exactDemandAlong : Demand → Card → (Q : ℕ) (L : Fraction) (m : ℕ) → Fraction
+  exactDemandAlong d card Q L m = L *ᶠ S N (exponent (rateOf d card) (card .volume) Q m)
+
+  unfoldable pub exactTurnedAlong : Demand → Card → (Q : ℕ) (L : Fraction) (m : ℕ) → Fraction
+  exactTurnedAlong d card Q L m = F N (rateOf d card) (card .k2) (card .volume) Q m *ᶠ L
 
   -- B, the oxygen lost to the sludge bed at instant m: demand × (1 − S(x2)) / k2 mg/L, and if k2 is 0 demand × volume / (86,400 × Q) mg/L, the
   -- volume times m / 1024; 1,000,000 units are a mg/L
@@ -68,41 +71,42 @@ module _ (N : ℕ) where
       ofℕ 1_000_000 *ᶠ
       cond (eqb (card .k2) 0) (ofℕ (demand * card .volume * m) ÷ ofℕ (86_400 * 1_024 * Q)) (ofℕ demand *ᶠ (ofℕ 1 -ᶠ S N x2) ÷ ofℕ (card .k2))
 
-  -- oxygen at instant m, with head oxygen C too: Cs − F × L − S(x2) × (Cs − C) − B
-  unfoldable pub exactOxygenAlong : Card → (Q : ℕ) (L C : Fraction) (m : ℕ) → Fraction
-  exactOxygenAlong card Q L C m =
+  -- oxygen at instant m, with head BOD L, head nitrogenous BOD Ln and head oxygen C: Cs − F × L − F × Ln − S(x2) × (Cs − C) − B, each F by
+  -- the rate of its demand
+  unfoldable pub exactOxygenAlong : Card → (Q : ℕ) (L Ln C : Fraction) (m : ℕ) → Fraction
+  exactOxygenAlong card Q L Ln C m =
       let Cs = exactSaturation card in
       let x2 = exponent (card .k2) (card .volume) Q m in
-      Cs -ᶠ F N (card .k1) (card .k2) (card .volume) Q m *ᶠ L -ᶠ S N x2 *ᶠ (Cs -ᶠ C) -ᶠ exactLoss card Q m
+      Cs -ᶠ exactTurnedAlong Bod card Q L m -ᶠ exactTurnedAlong Nitrogenous card Q Ln m -ᶠ S N x2 *ᶠ (Cs -ᶠ C) -ᶠ exactLoss card Q m
 
-  -- the sum over the feeders of Q × exact foot BOD
-  unfoldable pub exactBodSum : Feeders → Fraction
-  exactBodSum none = ofℕ 0
-  exactBodSum (more card up rest) =
+  -- the sum over the feeders of Q × exact foot value of a demand
+  unfoldable pub exactDemandSum : Demand → Feeders → Fraction
+  exactDemandSum d none = ofℕ 0
+  exactDemandSum d (more card up rest) =
       let Q = reachFlow card up in
-      let L = exactHeadBod card (fed up) (flowOf up) (exactBodSum up) in
-      ofℕ Q *ᶠ exactBodAlong card Q L foot +ᶠ exactBodSum rest
+      let L = exactHeadDemand (sourceOf d card) (fed up) (flowOf up) (exactDemandSum d up) in
+      ofℕ Q *ᶠ exactDemandAlong d card Q L foot +ᶠ exactDemandSum d rest
+
+  -- an exact demand at the head of a reach
+  unfoldable pub exactDemandAtHead : Demand → Card → Feeders → Fraction
+  exactDemandAtHead d card up = exactHeadDemand (sourceOf d card) (fed up) (flowOf up) (exactDemandSum d up)
 
   -- the sum over the feeders of Q × exact foot oxygen
   unfoldable pub exactOxygenSum : Feeders → Fraction
   exactOxygenSum none = ofℕ 0
   exactOxygenSum (more card up rest) =
       let Q = reachFlow card up in
-      let L = exactHeadBod card (fed up) (flowOf up) (exactBodSum up) in
       let C = exactHeadOxygen card (fed up) (flowOf up) (exactOxygenSum up) in
-      ofℕ Q *ᶠ exactOxygenAlong card Q L C foot +ᶠ exactOxygenSum rest
+      ofℕ Q *ᶠ exactOxygenAlong card Q (exactDemandAtHead Bod card up) (exactDemandAtHead Nitrogenous card up) C foot +ᶠ exactOxygenSum rest
 
-  -- exact BOD and oxygen at the head of a reach
-  unfoldable pub exactBodAtHead : Card → Feeders → Fraction
-  exactBodAtHead card up = exactHeadBod card (fed up) (flowOf up) (exactBodSum up)
-
+  -- exact oxygen at the head of a reach
   unfoldable pub exactOxygenAtHead : Card → Feeders → Fraction
   exactOxygenAtHead card up = exactHeadOxygen card (fed up) (flowOf up) (exactOxygenSum up)
 
-  -- exact BOD and oxygen at instant m of a reach
-  unfoldable pub exactBodAt : Card → Feeders → ℕ → Fraction
-  exactBodAt card up m = exactBodAlong card (reachFlow card up) (exactBodAtHead card up) m
+  -- an exact demand and exact oxygen at instant m of a reach
+  unfoldable pub exactDemandAt : Demand → Card → Feeders → ℕ → Fraction
+  exactDemandAt d card up m = exactDemandAlong d card (reachFlow card up) (exactDemandAtHead d card up) m
 
   unfoldable pub exactOxygenAt : Card → Feeders → ℕ → Fraction
   exactOxygenAt card up m =
-      exactOxygenAlong card (reachFlow card up) (exactBodAtHead card up) (exactOxygenAtHead card up) m
+      exactOxygenAlong card (reachFlow card up) (exactDemandAtHead Bod card up) (exactDemandAtHead Nitrogenous card up) (exactOxygenAtHead card up) m

@@ -1,4 +1,4 @@
--- "Reporting" of the river file paper: what a call of the entry returns and leaves in the report buffer.
+-- "Reporting" of the river file paper: what a call of the entry returns and leaves in the report buffer, and the size of a file's records.
 use mathlib.Core.Path.{_≡_}
 use mathlib.Core.Logic.{_↔_}
 use mathlib.Core.List.{List, [], _++_}
@@ -7,11 +7,13 @@ use lib.Dec.{leb}
 use lib.ListN.{length, take, drop}
 use Rattle.river.specs.declared.card.Card.{Card}
 use Rattle.river.specs.Refusal.{Answer, accepted, refused, refuse, need, after, codeOf}
+use Rattle.river.specs.declared.refusal.Refusal.{Refusal}
+use Rattle.river.specs.Read.{readFile}
 use Rattle.river.specs.Flow.{cardOf, above, depthAt, flowAt}
 use Rattle.report.specs.Program.{oxygenAt, figuresAt}
 use Rattle.report.specs.Distance.{allowanceAt, WithinAllowance}
 use Rattle.report.specs.Ties.{Tied}
-use Rattle.report.specs.Record.{Figures, encodeRecord, recordSize, recordAt, readRecord}
+use Rattle.report.specs.Record.{hasNitrification, Figures, encodeRecord, recordSize, recordAt, readRecord}
 use Rattle.river.specs.Accept.{acceptFile, AcceptedFile}
 
 -- the first n of some rows of bytes, one behind the other
@@ -21,7 +23,7 @@ firstRows row (suc n) = firstRows row n ++ row n
 
 -- the record of the reach at place i
 abbrev pub recordOf : List Card → ℕ → List ℕ
-recordOf cards i = encodeRecord (figuresAt cards (suc i))
+recordOf cards i = encodeRecord (hasNitrification cards) (figuresAt cards (suc i))
 
 -- the report of a river: the records of its reaches, and how many bytes they have together
 abbrev pub reportOf : List Card → List ℕ
@@ -56,7 +58,7 @@ pub record Accepted (file : List ℕ) (room : ℕ) : Type 0 where
 
 -- the figures read back from the bytes of reach i + 1
 abbrev pub figuresRead : List Card → (buffer : List ℕ) → ℕ → Figures
-figuresRead cards buffer i = readRecord (recordAt (recordSize cards) buffer i)
+figuresRead cards buffer i = readRecord (hasNitrification cards) (recordAt (recordSize cards) buffer i)
 
 -- the bytes of reach i + 1 themselves
 abbrev pub bytesRead : List Card → (buffer : List ℕ) → ℕ → List ℕ
@@ -104,3 +106,21 @@ pub record Reports (file before after : List ℕ) (result : ℕ) : Type 0 where
       40 ≤ N →
       WithinAllowance N (cardOf (river .cards) (suc i)) (above (river .cards) (suc i)) (figuresRead (river .cards) after i)
       (allowanceAt (river .cards) (suc i))
+
+-- the size of a file's records, by the answer of reading: 0 where it refuses
+unfoldable pub sizeAnswer : Answer (List Card) → ℕ
+sizeAnswer (accepted cards) = recordSize cards
+sizeAnswer (refused r) = 0
+
+-- reading refuses a file
+pub record ReadingRefuses (file : List ℕ) : Type 0 where
+  pub refusal : Refusal
+  pub is : readFile file ≡ refused refusal
+
+-- a call on a file that returns the size of its records, with no flow check
+pub record TellsSize (file : List ℕ) (result : ℕ) : Type 0 where
+  -- the result, by the answer of reading
+  pub answer : result ≡ sizeAnswer (readFile file)
+  -- in short: that of the river's records where the file is read, and 0 exactly where it is not
+  pub size : (cards : List Card) → readFile file ≡ accepted cards → result ≡ recordSize cards
+  pub zero : (result ≡ 0) ↔ ReadingRefuses file

@@ -6,16 +6,20 @@ use lib.IntN.{ℤ}
 use lib.Signed.{_≤ℤ_, _<ℤ_}
 use Rattle.decay.specs.Exact.{foot}
 use Rattle.river.specs.declared.card.Card.{Card}
+use Rattle.river.specs.declared.source.Demand.{Demand}
+use Rattle.river.specs.declared.source.Demand.the-variants.{Bod, Nitrogenous}
 use Rattle.river.specs.Flow.{sludgeOf}
+use Rattle.river.specs.Source.{rateOf}
 use Rattle.report.specs.Record.{Figures}
 
--- BOD does not decay: k1 = 0 or volume 0
-abbrev pub NoDecay : Card → Type 0
-NoDecay card = (card .k1 ≡ 0) ⊎ (card .volume ≡ 0)
+-- a demand does not decay: its rate is 0, or the volume
+abbrev pub NoDecay : Demand → Card → Type 0
+NoDecay d card = (rateOf d card ≡ 0) ⊎ (card .volume ≡ 0)
 
--- oxygen does not change: both rates and the demand of a sludge bed 0, or volume 0
+-- oxygen does not change: the rates of both demands, k2 and the demand of a sludge bed are 0, or the volume is
 abbrev pub NoChange : Card → Type 0
-NoChange card = ((card .k1 ≡ 0) × (card .k2 ≡ 0) × (sludgeOf card ≡ 0)) ⊎ (card .volume ≡ 0)
+NoChange card =
+    ((rateOf Bod card ≡ 0) × (rateOf Nitrogenous card ≡ 0) × (card .k2 ≡ 0) × (sludgeOf card ≡ 0)) ⊎ (card .volume ≡ 0)
 
 -- an instant and its oxygen: the lowest of the values at instants 0 to n, at the first instant that has it
 pub record FirstLowest (at : ℕ → ℤ) (n instant : ℕ) (lowest : ℤ) : Type 0 where
@@ -24,13 +28,22 @@ pub record FirstLowest (at : ℕ → ℤ) (n instant : ℕ) (lowest : ℤ) : Typ
   pub least : (m : ℕ) → m ≤ n → lowest ≤ℤ at m
   pub first : (m : ℕ) → m < instant → lowest <ℤ at m
 
+-- a demand among the figures, at the head and at the foot
+abbrev pub headFigure : Demand → Figures → ℕ
+headFigure Bod f = f .head-bod
+headFigure Nitrogenous f = f .head-nitrogenous
+
+abbrev pub footFigure : Demand → Figures → ℕ
+footFigure Bod f = f .foot-bod
+footFigure Nitrogenous f = f .foot-nitrogenous
+
 -- how the figures of a reach with this card are tied
 pub record Tied (card : Card) (oxygen : ℕ → ℤ) (f : Figures) : Type 0 where
-  -- foot BOD lies from 0 to head BOD
-  pub foot-bod : f .foot-bod ≤ f .head-bod
-  -- k1 = 0 or volume 0 keeps BOD to the unit
-  pub bod-kept : NoDecay card → f .foot-bod ≡ f .head-bod
-  -- both rates 0 without a bed's demand, or volume 0, keep oxygen to the unit at every instant
+  -- foot BOD lies from 0 to head BOD, and nitrogenous BOD likewise
+  pub foot-demand : (d : Demand) → footFigure d f ≤ headFigure d f
+  -- k1 = 0 or volume 0 keeps BOD to the unit, and nitrogenous BOD likewise by its own rate
+  pub demand-kept : (d : Demand) → NoDecay d card → footFigure d f ≡ headFigure d f
+  -- all rates 0 without a bed's demand, or volume 0, keep oxygen to the unit at every instant
   pub oxygen-kept : NoChange card → (m : ℕ) → m ≤ foot → oxygen m ≡ f .head-oxygen
   -- instant 0 is the head, and instant 1,024 the foot
   pub at-head : oxygen 0 ≡ f .head-oxygen

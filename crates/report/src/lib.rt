@@ -5,12 +5,13 @@ pub mod profile;
 pub mod record;
 
 use river::accept;
+use river::file::read_file;
 use river::refusal;
 use river::refusal::Outcome;
 use river::rewrite;
 ghost use mathlib.Core.Path.{_≡_};
 ghost use Prim.Native.Nat.{_/_, _%_};
-ghost use Rattle.report.specs.Report.{Reports};
+ghost use Rattle.report.specs.Report.{Reports, TellsSize};
 ghost use Rattle.report.specs.Rewrite.{Rewrites};
 
 // The number of the refusal in a result.
@@ -47,6 +48,20 @@ pub extern "C" fn xylandreo_report(file: &[u8], report: &mut [u8]) -> u32
             0
         }
     }
+}
+
+// How many bytes the records in the report of a river file have each, which is told with no flow check: 0 for a file that reading refuses.
+#[no_mangle]
+pub extern "C" fn xylandreo_record_size(file: &[u8]) -> u32
+    ensures { λ r. ⌜ TellsSize (now (file .entry)) r ⌝ }
+{
+    let reading = read_file(file);
+    let outcome = reading.outcome;
+    let Outcome::Accepted = outcome else {
+        return 0;
+    };
+    let cards = reading.cards;
+    record::record_size(cards) as u32
 }
 
 // A river file that is read and written back, with no flow check: 0, or the number and 256 times the reach of a refusal.

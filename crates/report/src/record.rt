@@ -1,6 +1,8 @@
-// The `RP` record of a reach.
+// The record of a reach: an `RP` record and, in a river with nitrification, an `RN` record behind it.
 use river::bytes;
+use river::card::Card;
 use river::card::Cards;
+use river::card::Nitrification;
 use river::flow;
 use river::head::STORED_ZERO;
 ghost use mathlib.Core.Path.{_≡_};
@@ -10,11 +12,13 @@ ghost use lib.ListN.{length};
 ghost use Rattle.river.specs.Bytes.{Put, markBytes, twoBytes, fourBytes, fourAt};
 ghost use Rattle.river.specs.Card.{river};
 ghost use Rattle.river.specs.Stored.{oxygenOf};
-ghost use Rattle.report.specs.Record.{complement, fromComplement, RP, encodeRecord, recordSize, recordAt, readRecord, figuresIn};
+ghost use Rattle.report.specs.Record.{isNitrified, hasNitrification, complement, fromComplement, RP, nitrogenousBytes, encodeNitrogenous, encodeRecord, recordBytes, recordSize, recordAt, nitrogenousAt, readRecord, figuresIn};
 ghost use Rattle.report.specs.Report.{reportSize};
 
-// How many bytes an `RP` record has.
+// How many bytes an `RP` record has, and an `RN` record.
 pub const RP_SIZE: usize = 29;
+
+pub const RN_SIZE: usize = 10;
 
 // The figures of a reach. Oxygen is stored as its units plus 2^31.
 pub struct Line {
@@ -26,13 +30,59 @@ pub struct Line {
     pub critical_instant: u16,
     pub critical_oxygen: u32,
     pub foot_oxygen: u32,
+    pub head_nitrogenous: u32,
+    pub foot_nitrogenous: u32,
+}
+
+// Whether a reach has nitrification.
+fn is_nitrified(card: Card) -> bool
+    ensures { λ r. ⌜ r ≡ isNitrified card ⌝ }
+{
+    let nitrification = card.nitrification;
+    match nitrification {
+        Nitrification::Idle => false,
+        Nitrification::Nitrifying {
+            rate: _,
+            concentration: _,
+            load: _,
+        } => true,
+    }
+}
+
+// Whether a river has nitrification at any reach.
+pub fn has_nitrification(cards: Cards) -> bool
+    requires { ⌜ length (river cards) ≤ 128 ⌝ }
+    ensures { λ r. ⌜ r ≡ hasNitrification (river cards) ⌝ }
+{
+    let count = flow::reach_count(cards);
+    let mut i: usize = 0;
+    while i < count {
+        let card = cards.at[i];
+        if is_nitrified(card) {
+            return true;
+        }
+        i = i + 1;
+    }
+    false
+}
+
+// How many bytes a record has, by whether its river has nitrification.
+pub fn record_bytes(nitrified: bool) -> usize
+    ensures { λ r. ⌜ r ≡ recordBytes nitrified ⌝ }
+{
+    if nitrified {
+        RP_SIZE + RN_SIZE
+    } else {
+        RP_SIZE
+    }
 }
 
 // How many bytes a river's records have each.
 pub fn record_size(cards: Cards) -> usize
+    requires { ⌜ length (river cards) ≤ 128 ⌝ }
     ensures { λ r. ⌜ r ≡ recordSize (river cards) ⌝ }
 {
-    RP_SIZE
+    record_bytes(has_nitrification(cards))
 }
 
 // How many bytes a river's report has.
@@ -63,7 +113,7 @@ fn put_complement(report: &mut [u8], at: usize, oxygen: u32) -> usize
     bytes::put_four(report, at, complement(oxygen))
 }
 
-// The start of a record: mark, depth, Q, head and foot BOD.
+// The start of an `RP` record: mark, depth, Q, head and foot BOD.
 fn put_flows(report: &mut [u8], at: usize, line: Line) -> usize
     requires { ⌜ at + 15 ≤ length (now report) ⌝ }
     ensures { λ r. ⌜ Put (now (report .entry)) at (markBytes RP ++ line .depth ∷ fourBytes (line .flow) ++ fourBytes (line .«head_bod») ++ fourBytes (line .«foot_bod»)) (now (report .exit)) r ⌝ }
@@ -75,7 +125,7 @@ fn put_flows(report: &mut [u8], at: usize, line: Line) -> usize
     bytes::put_four(report, next, line.foot_bod)
 }
 
-// The end of a record: head oxygen, the critical instant, critical and foot oxygen.
+// The end of an `RP` record: head oxygen, the critical instant, critical and foot oxygen.
 fn put_oxygen(report: &mut [u8], at: usize, line: Line) -> usize
     requires { ⌜ at + 14 ≤ length (now report) ⌝ }
     ensures { λ r. ⌜ Put (now (report .entry)) at (fourBytes (complement (oxygenOf (line .«head_oxygen»))) ++ twoBytes (line .«critical_instant») ++ fourBytes (complement (oxygenOf (line .«critical_oxygen»))) ++ fourBytes (complement (oxygenOf (line .«foot_oxygen»)))) (now (report .exit)) r ⌝ }
@@ -86,13 +136,28 @@ fn put_oxygen(report: &mut [u8], at: usize, line: Line) -> usize
     put_complement(report, next, line.foot_oxygen)
 }
 
-// Puts the record of a line at a place.
-pub fn put_record(report: &mut [u8], at: usize, line: Line) -> usize
-    requires { ⌜ at + length (encodeRecord (figuresIn line)) ≤ length (now report) ⌝ }
-    ensures { λ r. ⌜ Put (now (report .entry)) at (encodeRecord (figuresIn line)) (now (report .exit)) r ⌝ }
+// An `RN` record: mark, head and foot nitrogenous BOD.
+fn put_nitrogenous(report: &mut [u8], at: usize, line: Line) -> usize
+    requires { ⌜ at + nitrogenousBytes ≤ length (now report) ⌝ }
+    ensures { λ r. ⌜ Put (now (report .entry)) at (encodeNitrogenous (figuresIn line)) (now (report .exit)) r ⌝ }
+{
+    let next = bytes::put_pair(report, at, b'R', b'N');
+    let next = bytes::put_four(report, next, line.head_nitrogenous);
+    bytes::put_four(report, next, line.foot_nitrogenous)
+}
+
+// Puts the record of a line at a place, by whether its river has nitrification.
+pub fn put_record(report: &mut [u8], at: usize, line: Line, nitrified: bool) -> usize
+    requires { ⌜ at + recordBytes nitrified ≤ length (now report) ⌝ }
+    ensures { λ r. ⌜ Put (now (report .entry)) at (encodeRecord nitrified (figuresIn line)) (now (report .exit)) r ⌝ }
 {
     let next = put_flows(report, at, line);
-    put_oxygen(report, next, line)
+    let next = put_oxygen(report, next, line);
+    if nitrified {
+        put_nitrogenous(report, next, line)
+    } else {
+        next
+    }
 }
 
 // Stored oxygen from the four bytes from a place on.
@@ -103,9 +168,17 @@ fn complement_at(s: &[u8], k: usize) -> u32
     complement(bytes::four_at(s, k))
 }
 
+// Nitrogenous BOD from the four bytes from a place on, and 0 in a river without nitrification.
+fn nitrogenous_at(s: &[u8], nitrified: bool, k: usize) -> u32
+    requires { ⌜ k < 62 ⌝ }
+    ensures { λ r. ⌜ r ≡ nitrogenousAt nitrified (now (s .entry)) k ⌝ }
+{
+    if nitrified { bytes::four_at(s, k) } else { 0 }
+}
+
 // The line of the record at the start of some bytes.
-fn line_in(s: &[u8]) -> Line
-    ensures { λ r. ⌜ figuresIn r ≡ readRecord (now (s .entry)) ⌝ }
+fn line_in(s: &[u8], nitrified: bool) -> Line
+    ensures { λ r. ⌜ figuresIn r ≡ readRecord nitrified (now (s .entry)) ⌝ }
 {
     Line {
         depth: bytes::byte_at(s, 2),
@@ -116,14 +189,16 @@ fn line_in(s: &[u8]) -> Line
         critical_instant: bytes::two_at(s, 19),
         critical_oxygen: complement_at(s, 21),
         foot_oxygen: complement_at(s, 25),
+        head_nitrogenous: nitrogenous_at(s, nitrified, 31),
+        foot_nitrogenous: nitrogenous_at(s, nitrified, 35),
     }
 }
 
-// The line at place i of a report whose records have this size.
-pub fn read_record(report: &[u8], size: usize, i: usize) -> Line
-    requires { ⌜ size * i ≤ length (now report) ⌝ }
-    ensures { λ r. ⌜ figuresIn r ≡ readRecord (recordAt size (now (report .entry)) i) ⌝ }
+// The line at place i of a report, by whether its river has nitrification.
+pub fn read_record(report: &[u8], nitrified: bool, i: usize) -> Line
+    requires { ⌜ recordBytes nitrified * i ≤ length (now report) ⌝ }
+    ensures { λ r. ⌜ figuresIn r ≡ readRecord nitrified (recordAt (recordBytes nitrified) (now (report .entry)) i) ⌝ }
 {
-    let from = size * i;
-    line_in(&report[from..])
+    let from = record_bytes(nitrified) * i;
+    line_in(&report[from..], nitrified)
 }

@@ -1,27 +1,32 @@
 -- The bench values of the river file paper for flows and heads, and the empty file, proved from the definitions by computation.
 use mathlib.Core.Path.{_≡_, refl}
-use mathlib.Core.List.{List, [], _∷_}
+use mathlib.Core.List.{List, [], _∷_, map}
 use Prim.Native.Nat.{ℕ, _*_}
 use lib.IntN.{pos}
+use lib.ListN.{take, set, replicate}
 use Rattle.river.specs.declared.card.Dam.{Dam}
 use Rattle.river.specs.declared.card.Dam.the-variants.{Absent, Aerating}
 use Rattle.river.specs.declared.card.Amount.{Amount}
 use Rattle.river.specs.declared.card.Amount.the-variants.{Without, Given}
+use Rattle.river.specs.declared.card.Nitrification.{Nitrification}
+use Rattle.river.specs.declared.card.Nitrification.the-variants.{Idle, Nitrifying}
 use Rattle.river.specs.declared.card.Card.{Card}
+use Rattle.river.specs.declared.source.Demand.the-variants.{Bod, Nitrogenous}
 use Rattle.river.specs.Refusal.{accepted, refused, refuse, need, choose, after}
-use Rattle.river.specs.Card.{longestFile, countOk, inRange, outletOk, damInRange, amountInRange}
+use Rattle.river.specs.Card.{longestFile, countOk, inRange, outletOk, damInRange, amountInRange, nitrificationInRange}
 use Rattle.river.specs.Optional.{readOptional, readOptionals}
 use Rattle.river.specs.Read.{readFile, readHeader, readReaches, readReach, cardAt}
 use Rattle.river.specs.Write.{encode}
-use Rattle.river.specs.Flow.{fed, above, flowOf, massOf, deepest, feedersAmong, joinedIf, flowAt, massAt, depthAt, damFits, flowCheck, checksFrom, reachChecks}
+use Rattle.river.specs.Source.{sourceOf}
+use Rattle.river.specs.Flow.{fed, cardOf, above, flowOf, massOf, deepest, feedersAmong, joinedIf, flowAt, massAt, depthAt, damFits, flowCheck, checksFrom, reachChecks}
 use Rattle.river.specs.Saturation.{saturation, saturationThousandths, saturationOf}
-use Rattle.river.specs.Head.{floor, upstreamDemand, upstreamOxygen, aerated, belowDam, headDemand, headBod, headOxygen}
+use Rattle.river.specs.Head.{floor, upstreamDemand, upstreamOxygen, aerated, belowDam, headDemand, headOxygen}
 use Rattle.river.specs.Accept.{acceptFile}
 use Rattle.river.proofs.head.SaturationRows.{Rows as SaturationRows, rows as saturation-rows}
 
 -- a reach at 20 degrees
-abbrev pub reach : (outlet k1 volume inflow bod oxygen load : ℕ) → Dam → (take pressure sludge : Amount) → Card
-reach outlet k1 volume inflow bod oxygen load dam take pressure sludge =
+abbrev pub reach : (outlet k1 volume inflow bod oxygen load : ℕ) → Dam → (take pressure sludge : Amount) → Nitrification → Card
+reach outlet k1 volume inflow bod oxygen load dam take pressure sludge nitrification =
     record {
       outlet = outlet;
       temperature = 20;
@@ -36,14 +41,15 @@ reach outlet k1 volume inflow bod oxygen load dam take pressure sludge =
       take = take;
       pressure = pressure;
       sludge = sludge;
+      nitrification = nitrification;
     }
 
 -- the two reaches of the printing program's example, with a dam on reach 2 or without, and with takes or without
 abbrev pub first : Amount → Card
-first take = reach 2 0 1000 3000 2000 8000 0 Absent take Without Without
+first take = reach 2 0 1000 3000 2000 8000 0 Absent take Without Without Idle
 
 abbrev pub second : Dam → (take pressure : Amount) → Card
-second dam take pressure = reach 0 0 1000 1000 30000 2000 0 dam take pressure Without
+second dam take pressure = reach 0 0 1000 1000 30000 2000 0 dam take pressure Without Idle
 
 abbrev pub two : Dam → List Card
 two dam = first Without ∷ second dam Without Without ∷ []
@@ -60,31 +66,44 @@ hilly pressure = first Without ∷ second weir Without pressure ∷ []
 
 -- reach 2 with a sludge bed
 abbrev pub bedded : (sludge : Amount) → List Card
-bedded sludge = first Without ∷ reach 0 0 1000 1000 30000 2000 0 Absent Without Without sludge ∷ []
+bedded sludge = first Without ∷ reach 0 0 1000 1000 30000 2000 0 Absent Without Without sludge Idle ∷ []
+
+-- reach 2 with a nitrification, and its file, whose last 16 bytes are the `NT` record
+abbrev pub nitrified : (rate concentration load : ℕ) → List Card
+nitrified rate concentration load = first Without ∷ reach 0 0 1000 1000 30000 2000 0 Absent Without Without Without (Nitrifying rate concentration load) ∷ []
+
+abbrev nitrified-file : List ℕ
+nitrified-file = encode (nitrified 300 4_000 5)
+
+-- one reach with a nitrification, by its volume, inflow and inflow BOD
+abbrev ammonia : (volume inflow bod : ℕ) → Nitrification → List Card
+ammonia volume inflow bod nitrification = reach 0 0 volume inflow bod 0 0 Absent Without Without Without nitrification ∷ []
 
 -- one reach with a sludge bed of 1,000 by its volume and take
 abbrev bed : (volume : ℕ) → Amount → List Card
-bed volume take = reach 0 0 volume 10000 0 0 0 Absent take Without (Given 1000) ∷ []
+bed volume take = reach 0 0 volume 10000 0 0 0 Absent take Without (Given 1000) Idle ∷ []
 
 -- one reach by its k1, volume, inflow and take
 abbrev one : (k1 volume inflow : ℕ) → Amount → List Card
-one k1 volume inflow take = reach 0 k1 volume inflow 0 0 0 Absent take Without Without ∷ []
+one k1 volume inflow take = reach 0 k1 volume inflow 0 0 0 Absent take Without Without Idle ∷ []
 
 -- one reach with Qm 3 and Mm 2,999,999
 abbrev full : Amount → List Card
-full take = reach 0 0 0 3 999_333 0 2 Absent take Without Without ∷ []
+full take = reach 0 0 0 3 999_333 0 2 Absent take Without Without Idle ∷ []
 
 pub record Rows : Type 0 where
   pub saturation-rows : SaturationRows
   pub accepted-two : flowCheck (two Absent) ≡ accepted (two Absent)
   pub depth-1 : depthAt (two Absent) 1 ≡ 1
   pub flow-1 : flowAt (two Absent) 1 ≡ 3000
-  pub bod-1 : headBod (first Without) (fed (above (two Absent) 1)) (flowOf (above (two Absent) 1)) 0 ≡ 2000000
+  pub bod-1 : headDemand (sourceOf Bod (first Without)) (fed (above (two Absent) 1)) (flowOf (above (two Absent) 1)) 0 ≡ 2000000
   pub oxygen-1 : headOxygen (first Without) (fed (above (two Absent) 1)) (flowOf (above (two Absent) 1)) (pos 0) ≡ pos 8000000
   pub depth-2 : depthAt (two Absent) 2 ≡ 2
   pub flow-2 : flowAt (two Absent) 2 ≡ 4000
-  pub bod-2 : headBod (second Absent Without Without) (fed (above (two Absent) 2)) (flowOf (above (two Absent) 2)) (3000 * 2000000) ≡ 9000000
+  pub bod-2 : headDemand (sourceOf Bod (second Absent Without Without)) (fed (above (two Absent) 2)) (flowOf (above (two Absent) 2)) (3000 * 2000000) ≡ 9000000
   pub oxygen-2 : headOxygen (second Absent Without Without) (fed (above (two Absent) 2)) (flowOf (above (two Absent) 2)) (pos (3000 * 8000000)) ≡ pos 6500000
+  -- what comes down of a demand that reach 2 does not add to
+  pub nitrogenous-2 : headDemand (sourceOf Nitrogenous (second Absent Without Without)) (fed (above (two Absent) 2)) (flowOf (above (two Absent) 2)) (3000 * 2000000) ≡ 1500000
   pub accepted-dam : flowCheck (two weir) ≡ accepted (two weir)
   pub below-dam : belowDam (second weir Without Without) (fed (above (two weir) 2)) (flowOf (above (two weir) 2)) (pos 8000000) ≡ pos 8340602
   pub oxygen-dam : headOxygen (second weir Without Without) (fed (above (two weir) 2)) (flowOf (above (two weir) 2)) (pos (3000 * 8000000)) ≡ pos 6755451
@@ -127,12 +146,30 @@ pub record Rows : Type 0 where
   -- a sludge bed at either end of its range
   pub none-demanded-read : readFile (encode (bedded (Given 0))) ≡ accepted (bedded (Given 0))
   pub most-demanded-read : readFile (encode (bedded (Given 65_535))) ≡ accepted (bedded (Given 65_535))
+  -- a nitrification at either end of its ranges, and past that of its rate and of its concentration
+  pub least-nitrified-read : readFile (encode (nitrified 0 0 0)) ≡ accepted (nitrified 0 0 0)
+  pub most-nitrified-read : readFile (encode (nitrified 20_000 1_000_000 4_294_967_295)) ≡ accepted (nitrified 20_000 1_000_000 4_294_967_295)
+  pub too-fast : readFile (encode (nitrified 20_001 0 0)) ≡ refused (refuse 4 2)
+  pub too-strong : readFile (encode (nitrified 0 1_000_001 0)) ≡ refused (refuse 4 2)
+  -- its last four bytes, each of them other than 0; and cut there
+  pub ends-in-zeros : map (λ (k : ℕ). readFile (set nitrified-file k 1)) (68 ∷ 69 ∷ 70 ∷ 71 ∷ []) ≡ replicate 4 (refused (refuse 4 2))
+  pub cut-nitrified : readFile (take 71 nitrified-file) ≡ refused (refuse 1 2)
+  -- 11 of the nitrogenous rate on its limit and past it
+  pub nitrogenous-rate-passes : flowCheck (ammonia 3_456_000 10_000 0 (Nitrifying 1_000 0 0)) ≡ accepted (ammonia 3_456_000 10_000 0 (Nitrifying 1_000 0 0))
+  pub nitrogenous-rate-refused : flowCheck (ammonia 3_456_001 10_000 0 (Nitrifying 1_000 0 0)) ≡ refused (refuse 11 1)
+  -- 10 of both demands together on its limit and past it, by an inflow and by a load
+  pub demands-pass : flowCheck (ammonia 0 1 600_000 (Nitrifying 0 399_000 1)) ≡ accepted (ammonia 0 1 600_000 (Nitrifying 0 399_000 1))
+  pub demands-refused : flowCheck (ammonia 0 1 600_000 (Nitrifying 0 399_001 1)) ≡ refused (refuse 10 1)
+  pub demand-load-refused : flowCheck (ammonia 0 1 600_000 (Nitrifying 0 399_000 2)) ≡ refused (refuse 10 1)
+  -- M of both demands, and nitrogenous BOD mixed with what comes down
+  pub mass-nitrified : massAt (nitrified 300 4_000 5) 2 ≡ 40_005_000
+  pub nitrogenous-mixed : headDemand (sourceOf Nitrogenous (cardOf (nitrified 300 4_000 5) 2)) (fed (above (nitrified 300 4_000 5) 2)) (flowOf (above (nitrified 300 4_000 5) 2)) (3000 * 2000000) ≡ 2501250
   -- the longest file
-  pub longest : longestFile ≡ 6_148
+  pub longest : longestFile ≡ 8_196
 
 -- THEOREM: the bench values of the paper for flows and heads, and the empty file, a row each
 pub bench : Rows
-unfolding saturation saturationThousandths saturationOf flowCheck checksFrom reachChecks need damFits fed flowOf massOf deepest feedersAmong joinedIf headDemand headOxygen upstreamDemand upstreamOxygen belowDam aerated floor acceptFile readFile readHeader readReaches readReach readOptionals readOptional cardAt countOk inRange outletOk damInRange amountInRange choose after encode
+unfolding saturation saturationThousandths saturationOf flowCheck checksFrom reachChecks need damFits fed flowOf massOf deepest feedersAmong joinedIf headDemand headOxygen upstreamDemand upstreamOxygen belowDam aerated floor acceptFile readFile readHeader readReaches readReach readOptionals readOptional cardAt countOk inRange outletOk damInRange amountInRange nitrificationInRange choose after encode
 bench =
     record {
       saturation-rows = saturation-rows;
@@ -145,6 +182,7 @@ bench =
       flow-2 = refl;
       bod-2 = refl;
       oxygen-2 = refl;
+      nitrogenous-2 = refl;
       accepted-dam = refl;
       below-dam = refl;
       oxygen-dam = refl;
@@ -177,5 +215,18 @@ bench =
       bed-after-take = refl;
       none-demanded-read = refl;
       most-demanded-read = refl;
+      least-nitrified-read = refl;
+      most-nitrified-read = refl;
+      too-fast = refl;
+      too-strong = refl;
+      ends-in-zeros = refl;
+      cut-nitrified = refl;
+      nitrogenous-rate-passes = refl;
+      nitrogenous-rate-refused = refl;
+      demands-pass = refl;
+      demands-refused = refl;
+      demand-load-refused = refl;
+      mass-nitrified = refl;
+      nitrogenous-mixed = refl;
       longest = refl;
     }

@@ -18,6 +18,7 @@ use Rattle.river.specs.Write.{encode, encodeCard, encodeCards, encodeHea
 use Rattle.river.specs.declared.card.Amount.the-variants.{Without, Given}
 use Rattle.river.specs.declared.card.Card.{Card}
 use Rattle.river.specs.declared.card.Dam.the-variants.{Absent, Aerating}
+use Rattle.river.specs.declared.card.Nitrification.the-variants.{Idle, Nitrifying}
 use Rattle.river.proofs.Answers.{need-true, after-accepted, passed, went}
 use Rattle.river.proofs.bytes.Numbers.{are-bytes-drop, true-marked, twoBytes-twoAt, leads-spelled}
 use Rattle.river.proofs.range.Ranges.{countOk-true, true-countOk}
@@ -160,6 +161,10 @@ pressure-or-none c d p q e = let z : _≡_ {A = ℕ} 0 1 = cc (ap (λ (x : Card)
 -- THEOREM: a sludge bed likewise, one of demand 0 too
 pub sludge-or-none : {n : ℕ} (c d : Card) → c .sludge ≡ Without → d .sludge ≡ Given n → c ≡ d → ⊥
 sludge-or-none c d p q e = let z : _≡_ {A = ℕ} 0 1 = cc (ap (λ (x : Card). x .sludge) e) in omega arith
+
+-- THEOREM: a nitrification likewise, one of zeros too
+pub nitrification-or-none : {rate concentration load : ℕ} (c d : Card) → c .nitrification ≡ Idle → d .nitrification ≡ Nitrifying rate concentration load → c ≡ d → ⊥
+nitrification-or-none c d p q e = let z : _≡_ {A = ℕ} 0 1 = cc (ap (λ (x : Card). x .nitrification) e) in omega arith
 
 -- each card's records are at most as long as the longest card's
 cards-length : (cs : List Card) → length (encodeCards cs) ≤ longestCard * length cs

@@ -9,17 +9,19 @@ use Rattle.river.specs.declared.card.Amount.the-variants.{Without, Given
 use Rattle.river.specs.declared.card.Card.{Card}
 use Rattle.river.specs.declared.card.Dam.{Dam}
 use Rattle.river.specs.declared.card.Dam.the-variants.{Absent, Aerating}
+use Rattle.river.specs.declared.card.Nitrification.{Nitrification}
+use Rattle.river.specs.declared.card.Nitrification.the-variants.{Idle, Nitrifying}
 use Rattle.river.specs.Refusal.{accepted, refused, refuse, need, choose, after}
-use Rattle.river.specs.Card.{countOk, inRange, outletOk, encodeDam, damInRange, takeLayout, pressureLayout, sludgeLayout, encodeAmount, amountInRange}
+use Rattle.river.specs.Card.{countOk, inRange, outletOk, encodeDam, damInRange, takeLayout, pressureLayout, sludgeLayout, encodeAmount, amountInRange, encodeNitrification, nitrificationInRange}
 use Rattle.river.specs.Optional.{readOptional, readOptionals, optionalsInRange}
 use Rattle.river.specs.Read.{readHeader, readReach, readReaches, readFile, cardAt}
 use Rattle.river.specs.Write.{encode, encodeCard, encodeHeader, checkCard, checkFrom, writeAnswer}
 use Rattle.river.specs.Rewrite.{rewriteAnswer}
 use Rattle.river.specs.Flow.{fed, flowOf, massOf, feedersAmong, joinedIf, damFits, flowCheck, checksFrom, reachChecks}
 
--- a reach by the fields that break a rule, one without a sludge bed, and one without a pressure too
-abbrev reach-on : (sludge pressure : Amount) (outlet temperature volume inflow load : ℕ) → Dam → (amount : Amount) → Card
-reach-on sludge pressure outlet temperature volume inflow load dam amount =
+-- a reach by the fields that break a rule, one without a nitrification, one without a sludge bed too, and one without a pressure too
+abbrev reach-in : Nitrification → (sludge pressure : Amount) (outlet temperature volume inflow load : ℕ) → Dam → (amount : Amount) → Card
+reach-in nitrification sludge pressure outlet temperature volume inflow load dam amount =
     record {
       outlet = outlet;
       temperature = temperature;
@@ -34,7 +36,11 @@ reach-on sludge pressure outlet temperature volume inflow load dam amount =
       take = amount;
       pressure = pressure;
       sludge = sludge;
+      nitrification = nitrification;
     }
+
+abbrev reach-on : (sludge pressure : Amount) (outlet temperature volume inflow load : ℕ) → Dam → (amount : Amount) → Card
+reach-on = reach-in Idle
 
 abbrev reach-at : (pressure : Amount) (outlet temperature volume inflow load : ℕ) → Dam → (amount : Amount) → Card
 reach-at = reach-on Without
@@ -49,7 +55,7 @@ weir = Aerating 500 0
 abbrev weir-out : Dam
 weir-out = Aerating 1_001 0
 
--- a take, a pressure and a sludge bed out of range
+-- a take, a pressure, a sludge bed and a nitrification out of range
 abbrev take-out : Amount
 take-out = Given 100_000_001
 
@@ -58,6 +64,13 @@ pressure-out = Given 499
 
 abbrev sludge-out : Amount
 sludge-out = Given 65_536
+
+abbrev nitrification-out : Nitrification
+nitrification-out = Nitrifying 20_001 0 0
+
+-- a nitrification in range
+abbrev nitrifying : Nitrification
+nitrifying = Nitrifying 0 0 0
 
 -- one reach with a volume of 100, k1 of 1,000, and a sludge bed: 4,320 is the most to a litre a second
 abbrev bed : (sludge inflow : ℕ) (amount : Amount) → List Card
@@ -101,19 +114,30 @@ pub record Reading : Type 0 where
   -- a pressure behind a sludge bed is no record that is due, nor is a second sludge bed
   pub sludge-then-pressure : readFile (file (reach-on (Given 0) Without 0 20 0 1 0 Absent Without) ++ encodeAmount pressureLayout (Given 760)) ≡ refused (refuse 6 0)
   pub sludge-twice : readFile (file (reach-on (Given 0) Without 0 20 0 1 0 Absent Without) ++ encodeAmount sludgeLayout (Given 0)) ≡ refused (refuse 6 0)
+  -- then its nitrification: 1, 4
+  pub outlet-and-nitrification : readFile (file (reach-in nitrification-out Without Without 9 20 0 1 0 Absent Without)) ≡ refused (refuse 5 1)
+  pub pressure-and-cut-nitrification : readFile (take 49 (file (reach-in nitrifying Without pressure-out 0 20 0 1 0 Absent Without))) ≡ refused (refuse 4 1)
+  pub cut-sludge-and-nitrification : readFile (take 33 (file (reach-in nitrification-out (Given 0) Without 0 20 0 1 0 Absent Without))) ≡ refused (refuse 1 1)
+  pub cut-nitrification : readFile (take 45 (file (reach-in nitrification-out Without Without 0 20 0 1 0 Absent Without))) ≡ refused (refuse 1 1)
+  -- a sludge bed behind a nitrification is no record that is due, nor is a second nitrification
+  pub nitrification-then-sludge : readFile (file (reach-in nitrifying Without Without 0 20 0 1 0 Absent Without) ++ encodeAmount sludgeLayout (Given 0)) ≡ refused (refuse 6 0)
+  pub nitrification-twice : readFile (file (reach-in nitrifying Without Without 0 20 0 1 0 Absent Without) ++ encodeNitrification nitrifying) ≡ refused (refuse 6 0)
   -- 6 comes last
   pub dam-and-more : readFile (file (reach 0 20 0 1 0 weir-out Without) ++ (0 ∷ [])) ≡ refused (refuse 4 1)
   pub take-and-more : readFile (file (reach 0 20 0 1 0 weir take-out) ++ (0 ∷ [])) ≡ refused (refuse 4 1)
   pub pressure-and-more : readFile (file (reach-at pressure-out 0 20 0 1 0 weir Without) ++ (0 ∷ [])) ≡ refused (refuse 4 1)
+  pub nitrification-and-more : readFile (file (reach-in nitrification-out Without Without 0 20 0 1 0 Absent Without) ++ (0 ∷ [])) ≡ refused (refuse 4 1)
 
 pub record Writing : Type 0 where
-  -- 3, then 4 and 5 of a reach, then the 4 of its dam, its take, its pressure and its sludge bed, then 12
+  -- 3, then 4 and 5 of a reach, then the 4 of its dam, its take, its pressure, its sludge bed and its nitrification, then 12
   pub count-and-range : writeAnswer 0 (reach 9 36 0 1 0 Absent Without ∷ []) 0 ≡ refused (refuse 3 0)
   pub range-and-outlet : writeAnswer 1 (reach 9 36 0 1 0 Absent Without ∷ []) 0 ≡ refused (refuse 4 1)
   pub outlet-and-dam : writeAnswer 1 (reach 9 20 0 1 0 weir-out Without ∷ []) 0 ≡ refused (refuse 5 1)
   pub outlet-and-take : writeAnswer 1 (reach 9 20 0 1 0 Absent take-out ∷ []) 0 ≡ refused (refuse 5 1)
   pub outlet-and-pressure : writeAnswer 1 (reach-at pressure-out 9 20 0 1 0 Absent Without ∷ []) 0 ≡ refused (refuse 5 1)
   pub outlet-and-sludge : writeAnswer 1 (reach-on sludge-out Without 9 20 0 1 0 Absent Without ∷ []) 0 ≡ refused (refuse 5 1)
+  pub outlet-and-nitrification : writeAnswer 1 (reach-in nitrification-out Without Without 9 20 0 1 0 Absent Without ∷ []) 0 ≡ refused (refuse 5 1)
+  pub nitrification-and-room : writeAnswer 1 (reach-in nitrification-out (Given 0) (Given 760) 0 20 0 1 0 weir (Given 0) ∷ []) 0 ≡ refused (refuse 4 1)
   pub sludge-and-room : writeAnswer 1 (reach-on sludge-out (Given 760) 0 20 0 1 0 weir (Given 0) ∷ []) 0 ≡ refused (refuse 4 1)
   pub pressure-and-room : writeAnswer 1 (reach-at pressure-out 0 20 0 1 0 weir (Given 0) ∷ []) 0 ≡ refused (refuse 4 1)
   pub take-and-room : writeAnswer 1 (reach 0 20 0 1 0 weir take-out ∷ []) 0 ≡ refused (refuse 4 1)
@@ -129,6 +153,8 @@ pub record Flowing : Type 0 where
   pub load-and-rate : flowCheck (reach 0 20 346 1 1_001 Absent Without ∷ []) ≡ refused (refuse 10 1)
   pub load-and-take : flowCheck (reach 0 20 0 1 1_001 Absent (Given 1) ∷ []) ≡ refused (refuse 10 1)
   pub take-and-rate : flowCheck (reach 0 20 346 1 0 Absent (Given 1) ∷ []) ≡ refused (refuse 13 1)
+  pub nitrogenous-rate-and-bed : flowCheck (reach-in (Nitrifying 3_457 0 0) (Given 4_321) Without 0 20 100 1 0 Absent Without ∷ []) ≡ refused (refuse 11 1)
+  pub take-and-nitrogenous-rate : flowCheck (reach-in (Nitrifying 3_457 0 0) Without Without 0 20 100 1 0 Absent (Given 1) ∷ []) ≡ refused (refuse 13 1)
   pub rate-and-bed : flowCheck (reach-on (Given 4_321) Without 0 20 346 1 0 Absent Without ∷ []) ≡ refused (refuse 11 1)
   -- a take of Qm less 1 passes 13, and 11 goes by the flow that remains
   pub one-left : flowCheck (reach 0 20 345 2 0 Absent (Given 1) ∷ []) ≡ accepted (reach 0 20 345 2 0 Absent (Given 1) ∷ [])
@@ -144,7 +170,7 @@ pub record Flowing : Type 0 where
 
 -- THEOREM: whoever breaks two rules of reading gets the earlier one's number
 pub reading-order : Reading
-unfolding readFile readHeader readReaches readReach readOptionals readOptional cardAt countOk inRange outletOk damInRange amountInRange need after choose
+unfolding readFile readHeader readReaches readReach readOptionals readOptional cardAt countOk inRange outletOk damInRange amountInRange nitrificationInRange need after choose
 reading-order =
     record {
       cut-header = refl;
@@ -170,14 +196,21 @@ reading-order =
       cut-sludge = refl;
       sludge-then-pressure = refl;
       sludge-twice = refl;
+      outlet-and-nitrification = refl;
+      pressure-and-cut-nitrification = refl;
+      cut-sludge-and-nitrification = refl;
+      cut-nitrification = refl;
+      nitrification-then-sludge = refl;
+      nitrification-twice = refl;
       dam-and-more = refl;
       take-and-more = refl;
       pressure-and-more = refl;
+      nitrification-and-more = refl;
     }
 
 -- THEOREM: the same for writing and rewriting
 pub writing-order : Writing
-unfolding rewriteAnswer readFile readHeader writeAnswer checkFrom checkCard encode countOk inRange outletOk damInRange amountInRange optionalsInRange need after
+unfolding rewriteAnswer readFile readHeader writeAnswer checkFrom checkCard encode countOk inRange outletOk damInRange amountInRange nitrificationInRange optionalsInRange need after
 writing-order =
     record {
       count-and-range = refl;
@@ -186,6 +219,8 @@ writing-order =
       outlet-and-take = refl;
       outlet-and-pressure = refl;
       outlet-and-sludge = refl;
+      outlet-and-nitrification = refl;
+      nitrification-and-room = refl;
       sludge-and-room = refl;
       pressure-and-room = refl;
       take-and-room = refl;
@@ -204,6 +239,8 @@ flow-order =
       load-and-rate = refl;
       load-and-take = refl;
       take-and-rate = refl;
+      nitrogenous-rate-and-bed = refl;
+      take-and-nitrogenous-rate = refl;
       rate-and-bed = refl;
       one-left = refl;
       rate-by-the-rest = refl;

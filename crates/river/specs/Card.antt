@@ -13,6 +13,8 @@ use Rattle.river.specs.declared.card.Dam.the-variants.{Absent, Aerating}
 use Rattle.river.specs.declared.card.Amount.{Amount}
 use Rattle.river.specs.declared.card.Amount.the-variants.{Without, Given}
 use Rattle.river.specs.declared.card.Layout.{Layout}
+use Rattle.river.specs.declared.card.Nitrification.{Nitrification}
+use Rattle.river.specs.declared.card.Nitrification.the-variants.{Idle, Nitrifying}
 use Rattle.river.specs.Bytes.{Mark, mark, markBytes, twoBytes, fourBytes, twoAt, fourAt}
 use Rattle.river.specs.Optional.{Kind, Values, encodeOptionals, sizes}
 
@@ -42,6 +44,7 @@ blank =
       take = Without;
       pressure = Without;
       sludge = Without;
+      nitrification = Idle;
     }
 
 -- the ranges of an `RE` record's fields
@@ -81,6 +84,16 @@ abbrev pub LawfulAmount : Layout → Amount → Type 0
 LawfulAmount l Without = Unit
 LawfulAmount l (Given n) = (l .least ≤ n) × (n ≤ l .most)
 
+-- the ranges of an `NT` record's fields; any load that four bytes hold will do
+pub record NitrificationInRange (r c : ℕ) : Type 0 where
+  pub rate : r ≤ 20_000
+  pub concentration : c ≤ 1_000_000
+
+-- a nitrification is none, or has its numbers in range
+abbrev pub LawfulNitrification : Nitrification → Type 0
+LawfulNitrification Idle = Unit
+LawfulNitrification (Nitrifying r c l) = NitrificationInRange r c × (l < 4_294_967_296)
+
 -- the outlet of reach i of n: a larger number, at most n; 0 for the last reach and for no other
 unfoldable pub outletOk : ℕ → ℕ → ℕ → Bool
 outletOk n i o = cond (eqb i n) (eqb o 0) (ltb i o && leb o n)
@@ -94,6 +107,7 @@ pub record LawfulCard (n i : ℕ) (c : Card) : Type 0 where
   pub take : LawfulAmount takeLayout (c .take)
   pub pressure : LawfulAmount pressureLayout (c .pressure)
   pub sludge : LawfulAmount sludgeLayout (c .sludge)
+  pub nitrification : LawfulNitrification (c .nitrification)
 
 -- lawful cards of the reaches from i on, of n
 abbrev pub LawfulFrom : ℕ → ℕ → List Card → Type 0
@@ -118,6 +132,10 @@ inRange c =
 unfoldable pub damInRange : Dam → Bool
 damInRange Absent = true
 damInRange (Aerating s g) = leb s 1000 && leb g 100_000_000
+
+unfoldable pub nitrificationInRange : Nitrification → Bool
+nitrificationInRange Idle = true
+nitrificationInRange (Nitrifying r c l) = leb r 20_000 && (leb c 1_000_000 && ltb l 4_294_967_296)
 
 -- the test of a reach count
 unfoldable pub countOk : ℕ → Bool
@@ -208,13 +226,37 @@ pressureRecord = amountRecord pressureLayout
 abbrev pub sludgeRecord : Kind
 sludgeRecord = amountRecord sludgeLayout
 
+-- the `NT` record: mark; rate (2); concentration (4); load (4); four bytes of zeros, so that a nitrification has one record
+abbrev pub NT : Mark
+NT = mark (code "N") (code "T")
+
+abbrev pub nitrificationAt : List ℕ → Nitrification
+nitrificationAt s = Nitrifying (twoAt s 2) (fourAt s 4) (fourAt s 8)
+
+abbrev pub encodeNitrification : Nitrification → List ℕ
+encodeNitrification Idle = []
+encodeNitrification (Nitrifying r c l) = markBytes NT ++ twoBytes r ++ fourBytes c ++ fourBytes l ++ fourBytes 0
+
+abbrev pub nitrificationRecord : Kind
+nitrificationRecord =
+    record {
+      Value = Nitrification;
+      none = Idle;
+      mark = NT;
+      size = 16;
+      decode = nitrificationAt;
+      test = λ s. nitrificationInRange (nitrificationAt s) && eqb (fourAt s 12) 0;
+      encode = encodeNitrification;
+      inRange = nitrificationInRange;
+    }
+
 -- the records that may follow an `RE` record, in file order
 abbrev pub optional : List Kind
-optional = damRecord ∷ takeRecord ∷ pressureRecord ∷ sludgeRecord ∷ []
+optional = damRecord ∷ takeRecord ∷ pressureRecord ∷ sludgeRecord ∷ nitrificationRecord ∷ []
 
 -- what a card holds of them
 abbrev pub optionalOf : Card → Values optional
-optionalOf c = (c .dam, (c .take, (c .pressure, (c .sludge, tt))))
+optionalOf c = (c .dam, (c .take, (c .pressure, (c .sludge, (c .nitrification, tt)))))
 
 -- the length of a card's records, and that of the longest card's
 abbrev pub sizeOf : Card → ℕ

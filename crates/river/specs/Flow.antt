@@ -10,7 +10,8 @@ use Rattle.river.specs.declared.card.Dam.the-variants.{Absent, Aerating}
 use Rattle.river.specs.declared.card.Card.{Card}
 use Rattle.river.specs.Refusal.{Answer, accepted, need}
 use Rattle.river.specs.Card.{blank, amountOr}
-use Rattle.river.specs.Source.{bodSource, sourceMass}
+use Rattle.river.specs.declared.source.Demand.the-variants.{Bod, Nitrogenous}
+use Rattle.river.specs.Source.{sourceOf, rateOf, sourceMass}
 
 -- the most litres a second that a reach may carry
 abbrev pub flowLimit : ℕ
@@ -75,9 +76,9 @@ mixedFlow card up = flowOf up + card .inflow
 abbrev pub reachFlow : Card → Feeders → ℕ
 reachFlow card up = mixedFlow card up - takeOf card
 
--- the undecayed BOD that a reach itself takes in
+-- the undecayed BOD, of both demands, that a reach itself takes in
 abbrev pub ownMass : Card → ℕ
-ownMass card = sourceMass (bodSource card)
+ownMass card = sourceMass (sourceOf Bod card) + sourceMass (sourceOf Nitrogenous card)
 
 -- M after a take, by Qm and Mm before it: it falls by take × (Mm / Qm, rounded down), and is cut to 1,000,000 × remaining Q if larger
 abbrev pub remainingMass : (take Qm Mm : ℕ) → ℕ
@@ -150,10 +151,11 @@ loadRule Qm Mm i = need (leb Mm (massLimit * Qm)) 10 i
 unfoldable pub takeRule : (take Qm i : ℕ) → Checks
 takeRule take Qm i = need (ltb take Qm) 13 i
 
--- 11: k1 × volume or k2 × volume above 345,600 × Q
+-- 11: k1, k2 or the nitrogenous rate, each × volume, above 345,600 × Q
 unfoldable pub rateRules : Card → (Q i : ℕ) → Checks
 rateRules card Q i =
-    need (rateFits (card .k1) (card .volume) Q) 11 i then need (rateFits (card .k2) (card .volume) Q) 11 i
+    need (rateFits (card .k1) (card .volume) Q) 11 i then
+    need (rateFits (card .k2) (card .volume) Q) 11 i then need (rateFits (rateOf Nitrogenous card) (card .volume) Q) 11 i
 
 -- 14: sludge demand × volume above 432,000 × Q
 unfoldable pub bedRule : Card → (Q i : ℕ) → Checks
@@ -194,6 +196,7 @@ pub record ReachPasses (card : Card) (up : Feeders) : Type 0 where
   pub take-rule : takeOf card < mixedFlow card up
   pub decay-rule : card .k1 * card .volume ≤ rateLimit * reachFlow card up
   pub aeration-rule : card .k2 * card .volume ≤ rateLimit * reachFlow card up
+  pub nitrification-rule : rateOf Nitrogenous card * card .volume ≤ rateLimit * reachFlow card up
   pub bed-rule : sludgeOf card * card .volume ≤ bedLimit * reachFlow card up
 
 -- a river passes the flow rules: each of its reaches does

@@ -9,7 +9,6 @@ use Rattle.river.specs.declared.card.Dam.the-variants.{Absent, Aerating}
 use Rattle.river.specs.declared.card.Card.{Card}
 use Rattle.river.specs.declared.source.Source.{Source}
 use Rattle.river.specs.Saturation.{saturationOf}
-use Rattle.river.specs.Source.{bodSource}
 
 -- a signed number over a positive one, rounded down: −(n + 1) over d is −(n / d + 1)
 unfoldable pub floor : ℤ → ℕ → ℤ
@@ -50,9 +49,6 @@ mixedOxygen card Qu upstream =
 unfoldable pub headDemand : Source → (fed : Bool) (Qu sum : ℕ) → ℕ
 headDemand source fed Qu sum = mixedDemand source Qu (upstreamDemand fed Qu sum)
 
--- BOD and oxygen at the head of a reach, by its card, whether it has feeders, Qu, and the feeders' sums of Q × foot BOD and Q × foot oxygen
-abbrev pub headBod : Card → (fed : Bool) (Qu sum : ℕ) → ℕ
-headBod card = headDemand (bodSource card)
-
+-- oxygen at the head of a reach, by its card, whether it has feeders, Qu, and the feeders' sum of Q × foot oxygen
 unfoldable pub headOxygen : Card → (fed : Bool) (Qu : ℕ) (sum : ℤ) → ℤ
 headOxygen card fed Qu sum = mixedOxygen card Qu (belowDam card fed Qu (upstreamOxygen fed Qu sum))

@@ -3,20 +3,22 @@
 use mathlib.Core.Path.{_≡_}
 use mathlib.Core.Bool.{Bool, true}
 use mathlib.Core.List.{List}
-use Prim.Native.Nat.{ℕ, suc, _+_, _*_, _<_, _≤_}
-use lib.ListN.{length, getD, replicate}
+use Prim.Native.Nat.{ℕ, suc, _+_, _*_, _<_, _≤_, _^_}
+use lib.ListN.{length, getD, set, replicate}
 use Rattle.river.specs.declared.card.Dam.{Dam}
 use Rattle.river.specs.declared.card.Dam.the-variants.{Absent, Aerating}
 use Rattle.river.specs.declared.card.Card.{Card}
+use Rattle.river.specs.declared.source.Demand.the-variants.{Bod, Nitrogenous}
 use Rattle.river.specs.declared.source.Source.{Source}
 use Rattle.river.specs.declared.flow.FlowTable.{FlowTable}
+use Rattle.river.specs.declared.head.Brought.{Brought}
 use Rattle.river.specs.declared.head.FootTable.{FootTable}
 use Rattle.river.specs.declared.head.Head.{Head}
 use Rattle.river.specs.Card.{FieldsInRange, Lawful}
 use Rattle.river.specs.Saturation.{SaturationInRange}
-use Rattle.river.specs.Source.{sourceMass}
-use Rattle.river.specs.Flow.{flowLimit, massLimit, Flows, cardOf, above, fed, flowOf, flowAt, massAt}
-use Rattle.river.specs.Head.{headBod, headOxygen}
+use Rattle.river.specs.Source.{sourceOf, sourceMass}
+use Rattle.river.specs.Flow.{flowLimit, massLimit, Flows, ownMass, flowAt, massAt}
+use Rattle.river.specs.Head.{headDemand, headOxygen}
 use Rattle.river.specs.FlowTable.{feederSum, Tabled}
 use Rattle.river.specs.Stored.{storedLimit, oxygenOf, oxygenSumOf}
 
@@ -60,37 +62,70 @@ pub record OxygenReady (card : Card) (fed : Bool) (Qu sum : ℕ) : Type 0 where
 
 -- tables of no feet
 abbrev pub noFeet : FootTable
-noFeet = record { bod = replicate 128 0; oxygen = replicate 128 0 }
+noFeet = record { bod = replicate 128 0; nitrogenous = replicate 128 0; oxygen = replicate 128 0 }
 
--- tables of flow × foot BOD and flow × stored foot oxygen of the first n reaches, in the bounds that feet have
+-- what a foot brings: flow × each demand and flow × stored oxygen
+abbrev pub footOf : (flow bod nitrogenous oxygen : ℕ) → Brought
+footOf flow bod nitrogenous oxygen = record { bod = flow * bod; nitrogenous = flow * nitrogenous; oxygen = flow * oxygen }
+
+-- tables with the foot of reach i + 1 entered
+abbrev pub withFoot : FootTable → ℕ → Brought → FootTable
+withFoot feet i foot =
+    record {
+      bod = set (feet .bod) i (foot .bod);
+      nitrogenous = set (feet .nitrogenous) i (foot .nitrogenous);
+      oxygen = set (feet .oxygen) i (foot .oxygen);
+    }
+
+-- what the feeders of reach i + 1 bring, by tables of outlets and of what each foot brings
+abbrev pub broughtTo : (outlets of-bod of-nitrogenous of-oxygen : List ℕ) (i : ℕ) → Brought
+broughtTo outlets of-bod of-nitrogenous of-oxygen i =
+    record {
+      bod = feederSum outlets of-bod i;
+      nitrogenous = feederSum outlets of-nitrogenous i;
+      oxygen = feederSum outlets of-oxygen i;
+    }
+
+-- what these sums need: they fit eight bytes
+pub record BroughtFits (outlets of-bod of-nitrogenous of-oxygen : List ℕ) (i : ℕ) : Type 0 where
+  pub few : i < 128
+  pub bod : feederSum outlets of-bod i < 2 ^ 64
+  pub nitrogenous : feederSum outlets of-nitrogenous i < 2 ^ 64
+  pub oxygen : feederSum outlets of-oxygen i < 2 ^ 64
+
+-- what the head of a reach needs, by its card, whether it has feeders, Qu, and what the feeders bring
+pub record HeadInput (card : Card) (fed : Bool) (Qu : ℕ) (sums : Brought) : Type 0 where
+  pub ready : HeadReady card fed Qu
+  pub demands : sums .bod + sums .nitrogenous + 1_000 * ownMass card ≤ demandLimit * (Qu + card .inflow)
+  pub oxygen : sums .oxygen ≤ storedLimit * Qu
+
+-- the head: each demand, and oxygen
+pub record HeadOf (card : Card) (fed : Bool) (Qu : ℕ) (sums : Brought) (r : Head) : Type 0 where
+  pub bod : r .bod ≡ headDemand (sourceOf Bod card) fed Qu (sums .bod)
+  pub nitrogenous : r .nitrogenous ≡ headDemand (sourceOf Nitrogenous card) fed Qu (sums .nitrogenous)
+  pub oxygen : oxygenOf (r .oxygen) ≡ headOxygen card fed Qu (oxygenSumOf Qu (sums .oxygen))
+
+-- the bounds that the foot of reach i + 1 has: flow × both demands is at most 1,000 × M, and stored oxygen fits four bytes
+pub record FootWithin (cards : List Card) (i : ℕ) (foot : Brought) : Type 0 where
+  pub demands : foot .bod + foot .nitrogenous ≤ 1_000 * massAt cards (suc i)
+  pub oxygen : foot .oxygen ≤ storedLimit * flowAt cards (suc i)
+
+-- tables of 128 feet
+pub record FullFeet (feet : FootTable) : Type 0 where
+  pub bod : length (feet .bod) ≡ 128
+  pub nitrogenous : length (feet .nitrogenous) ≡ 128
+  pub oxygen : length (feet .oxygen) ≡ 128
+
+-- tables of what the feet of the first n reaches bring, in these bounds
 pub record Carried (cards : List Card) (feet : FootTable) (n : ℕ) : Type 0 where
-  pub bod : (j : ℕ) → j < n → getD (feet .bod) j 0 ≤ 1_000 * massAt cards (suc j)
+  pub full : FullFeet feet
+  pub demands : (j : ℕ) → j < n → getD (feet .bod) j 0 + getD (feet .nitrogenous) j 0 ≤ 1_000 * massAt cards (suc j)
   pub oxygen : (j : ℕ) → j < n → getD (feet .oxygen) j 0 ≤ storedLimit * flowAt cards (suc j)
 
--- what the head of reach i + 1 needs: an accepted river, its flows and the feet of the reaches before
-pub record HeadInput (cards : List Card) (flows : FlowTable) (feet : FootTable) (i : ℕ) : Type 0 where
+-- the tables before the head of reach i + 1: an accepted river, its flows and the feet of the reaches before
+pub record HeadTabled (cards : List Card) (flows : FlowTable) (feet : FootTable) (i : ℕ) : Type 0 where
   pub lawful : Lawful cards
   pub sound : Flows cards
   pub within : i < length cards
   pub tabled : Tabled cards (length cards) flows
   pub carried : Carried cards feet i
-
--- what a head needs that is handed the card of the reach and not all cards: a river with these tables, in which reach i + 1 has that card
-pub record HeadAt (card : Card) (flows : FlowTable) (feet : FootTable) (i : ℕ) : Type 0 where
-  pub cards : List Card
-  pub input : HeadInput cards flows feet i
-  pub own : card ≡ cardOf cards (suc i)
-
--- the head of reach i + 1: its BOD and oxygen, and that its BOD is at most the undecayed BOD, after the take too
-pub record HeadOf (cards : List Card) (flows : FlowTable) (feet : FootTable) (i : ℕ) (r : Head) : Type 0 where
-  pub bod :
-      r .bod ≡
-      headBod (cardOf cards (suc i)) (fed (above cards (suc i))) (flowOf (above cards (suc i))) (feederSum (flows .outlet) (feet .bod) i)
-  pub oxygen :
-      oxygenOf (r .oxygen) ≡
-      headOxygen (cardOf cards (suc i)) (fed (above cards (suc i))) (flowOf (above cards (suc i))) (oxygenSumOf (flowOf (above cards (suc i))) (feederSum (flows .outlet) (feet .oxygen) i))
-  pub mass : flowAt cards (suc i) * r .bod ≤ 1_000 * massAt cards (suc i)
-
--- for every such river the head is that of its reach i + 1
-abbrev pub HeadBy : Card → FlowTable → FootTable → ℕ → Head → Type 0
-HeadBy card flows feet i r = (here : HeadAt card flows feet i) → HeadOf (here .cards) flows feet i r

@@ -6,9 +6,11 @@ use lib.Dec.{leb, eqb}
 use Rattle.river.specs.declared.card.Card.{Card}
 use Rattle.river.specs.declared.card.Dam.{Dam}
 use Rattle.river.specs.declared.card.Amount.{Amount}
+use Rattle.river.specs.declared.card.Nitrification.{Nitrification}
 use Rattle.river.specs.declared.refusal.Refusal.{Refusal}
 use Rattle.river.specs.declared.read.DamRead.{DamRead}
 use Rattle.river.specs.declared.read.AmountRead.{AmountRead}
+use Rattle.river.specs.declared.read.NitrificationRead.{NitrificationRead}
 use Rattle.river.specs.declared.read.Header.{Header}
 use Rattle.river.specs.declared.read.Reach.{Reach}
 use Rattle.river.specs.Bytes.{byteAt, twoAt, fourAt, marked}
@@ -39,6 +41,7 @@ cardAt s vs =
       take = vs .1 .0;
       pressure = vs .1 .1 .0;
       sludge = vs .1 .1 .1 .0;
+      nitrification = vs .1 .1 .1 .1 .0;
     }
 
 -- reach i of n at the start of the bytes: 1, 2, 4, 5, then the records that follow its `RE` record, or its card
@@ -61,7 +64,7 @@ readReaches n i (suc m) s =
 unfoldable pub readFile : List ℕ → Answer (List Card)
 readFile s = after (readHeader s) (λ n. readReaches n 1 n (drop headerBytes s))
 
--- the answers of the program, case by case: the header's, a dam's, an amount's, and a reach's at a position
+-- the answers of the program, case by case: the header's, a dam's, an amount's, a nitrification's, and a reach's at a position
 abbrev pub headerOf : Answer ℕ → Header
 headerOf (accepted n) = Header.Count n headerBytes
 headerOf (refused r) = Header.Refused r
@@ -73,6 +76,10 @@ damOf (refused r) = DamRead.Refused r
 abbrev pub amountOf : Answer Amount → AmountRead
 amountOf (accepted a) = AmountRead.Found a
 amountOf (refused r) = AmountRead.Refused r
+
+abbrev pub nitrificationOf : Answer Nitrification → NitrificationRead
+nitrificationOf (accepted n) = NitrificationRead.Found n
+nitrificationOf (refused r) = NitrificationRead.Refused r
 
 abbrev pub reachOf : ℕ → Answer Card → Reach
 reachOf at (accepted c) = Reach.Read c (at + sizeOf c)
@@ -90,6 +97,10 @@ damRefusal (DamRead.Refused r) = r
 abbrev pub amountRefusal : AmountRead → Refusal
 amountRefusal (AmountRead.Found a) = refuse 0 0
 amountRefusal (AmountRead.Refused r) = r
+
+abbrev pub nitrificationRefusal : NitrificationRead → Refusal
+nitrificationRefusal (NitrificationRead.Found n) = refuse 0 0
+nitrificationRefusal (NitrificationRead.Refused r) = r
 
 abbrev pub reachRefusal : Reach → Refusal
 reachRefusal (Reach.Read c next) = refuse 0 0

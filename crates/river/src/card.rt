@@ -1,9 +1,9 @@
 // One reach of a river file.
 ghost use mathlib.Core.Path.{_≡_};
 ghost use lib.ListN.{length};
-ghost use Rattle.river.specs.Card.{blank, encodeDam, layoutSize, encodeAmount, amountOr, sizeOf, longestFile};
+ghost use Rattle.river.specs.Card.{blank, encodeDam, layoutSize, encodeAmount, amountOr, encodeNitrification, sizeOf, longestFile};
 
-// The lengths of the records `RV`, `RE`, `DM`, `WD`, `BP` and `SD`.
+// The lengths of the records `RV`, `RE`, `DM`, `WD`, `BP`, `SD` and `NT`.
 pub const HEADER_BYTES: usize = 4;
 
 pub const REACH_BYTES: usize = 26;
@@ -15,6 +15,8 @@ const TAKE_BYTES: usize = WIDE_BYTES;
 const PRESSURE_BYTES: usize = NARROW_BYTES;
 
 const SLUDGE_BYTES: usize = NARROW_BYTES;
+
+pub const NITRIFICATION_BYTES: usize = 16;
 
 // The lengths of a record of one number: a mark and four bytes, or two.
 const WIDE_BYTES: usize = 6;
@@ -32,7 +34,8 @@ pub const LONGEST_CARD: usize = REACH_BYTES
     + DAM_BYTES
     + TAKE_BYTES
     + PRESSURE_BYTES
-    + SLUDGE_BYTES;
+    + SLUDGE_BYTES
+    + NITRIFICATION_BYTES;
 
 pub const LONGEST_FILE: usize = HEADER_BYTES + REACHES * LONGEST_CARD;
 
@@ -40,6 +43,17 @@ pub const LONGEST_FILE: usize = HEADER_BYTES + REACHES * LONGEST_CARD;
 pub enum Dam {
     Absent,
     Aerating { share: u16, generating: u32 },
+}
+
+// The nitrification of a reach is either none or a rate, in thousandths per day, with the nitrogenous BOD of the inflow, in thousandths of
+// mg/L, and a load of it, in milligrams a second.
+pub enum Nitrification {
+    Idle,
+    Nitrifying {
+        rate: u16,
+        concentration: u32,
+        load: u32,
+    },
 }
 
 // A number that a card has or has not.
@@ -85,7 +99,7 @@ pub(crate) const SLUDGE: Layout = Layout {
 };
 
 // A reach card: the numbers of its `RE` record, the short ones first so that there is no padding between them, its dam, its take in litres a
-// second, its pressure in mm of mercury and the demand of its sludge bed, in thousandths of mg/L a day.
+// second, its pressure in mm of mercury, the demand of its sludge bed, in thousandths of mg/L a day, and its nitrification.
 pub struct Card {
     pub outlet: u8,
     pub temperature: u8,
@@ -100,6 +114,7 @@ pub struct Card {
     pub take: Amount,
     pub pressure: Amount,
     pub sludge: Amount,
+    pub nitrification: Nitrification,
 }
 
 // The cards of a river: the first `count` of them.
@@ -126,6 +141,7 @@ pub fn blank() -> Card
         take: Amount::Without,
         pressure: Amount::Without,
         sludge: Amount::Without,
+        nitrification: Nitrification::Idle,
     }
 }
 
@@ -139,6 +155,20 @@ pub fn dam_size(dam: Dam) -> usize
             share: _,
             generating: _,
         } => DAM_BYTES,
+    }
+}
+
+// The length of a nitrification's record, if there is one.
+pub(crate) fn nitrification_size(nitrification: Nitrification) -> usize
+    ensures { λ r. ⌜ r ≡ length (encodeNitrification nitrification) ⌝ }
+{
+    match nitrification {
+        Nitrification::Idle => 0,
+        Nitrification::Nitrifying {
+            rate: _,
+            concentration: _,
+            load: _,
+        } => NITRIFICATION_BYTES,
     }
 }
 
@@ -188,9 +218,11 @@ pub fn size_of(c: Card) -> usize
     let take = c.take;
     let pressure = c.pressure;
     let sludge = c.sludge;
+    let nitrification = c.nitrification;
     REACH_BYTES
         + dam_size(dam)
         + amount_size(TAKE, take)
         + amount_size(PRESSURE, pressure)
         + amount_size(SLUDGE, sludge)
+        + nitrification_size(nitrification)
 }

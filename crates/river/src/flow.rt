@@ -3,7 +3,8 @@ ghost use mathlib.Core.Path.{_≡_};
 ghost use Prim.Native.Nat.{_<_, _≤_, _^_, max};
 ghost use lib.Dec.{ltb};
 ghost use lib.ListN.{length};
-ghost use Rattle.river.specs.Card.{FieldsInRange, Lawful, river};
+ghost use Rattle.river.specs.Card.{Lawful, river};
+ghost use Rattle.river.specs.Source.{SourcesInRange};
 ghost use Rattle.river.specs.Flow.{flowLimit, takeOf, sludgeOf, ownMass, remainingMass, damFits, rateFits, flowRules, loadRule, takeRule, rateRules, bedRule, checksOf};
 ghost use Rattle.river.specs.FlowTable.{Decides, tableSum, tableMax, SumsFit, UpstreamOf, noFlows, Entered, Underway, CheckAt, NextBy, FlowChecked};
 use crate::card::Card;
@@ -13,8 +14,10 @@ use crate::card::REACHES;
 use crate::card::amount_or;
 use crate::refusal::Outcome;
 use crate::refusal::refuse;
-use crate::source::bod_source;
+use crate::source::Demand;
+use crate::source::rate_of;
 use crate::source::source_mass;
+use crate::source::source_of;
 
 // The most litres a second that a reach may carry.
 const FLOW_LIMIT: u64 = 100_000_000;
@@ -184,6 +187,9 @@ fn rate_rules(card: Card, flow: u64, reach: u8) -> Outcome
     if !rate_fits(card.k2, card.volume, flow) {
         return Outcome::Refused(refuse(11, reach));
     }
+    if !rate_fits(rate_of(Demand::Nitrogenous, card), card.volume, flow) {
+        return Outcome::Refused(refuse(11, reach));
+    }
     Outcome::Accepted
 }
 
@@ -241,12 +247,12 @@ fn check(card: Card, up: Upstream, flow: u64, mass: u64, reach: u8) -> Outcome
     bed_rule(card, left, reach)
 }
 
-// The undecayed BOD that a reach itself takes in.
+// The undecayed BOD, of both demands, that a reach itself takes in.
 fn own_mass(card: Card) -> u64
-    requires { ⌜ FieldsInRange card ⌝ }
+    requires { ⌜ SourcesInRange card ⌝ }
     ensures { λ r. ⌜ r ≡ ownMass card ⌝ }
 {
-    source_mass(bod_source(card))
+    source_mass(source_of(Demand::Bod, card)) + source_mass(source_of(Demand::Nitrogenous, card))
 }
 
 // The undecayed BOD after a take, by flow and undecayed BOD before it.

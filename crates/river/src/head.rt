@@ -1,24 +1,23 @@
 // Head of a reach: saturation, upstream means, the dam and mixing.
 ghost use mathlib.Core.Path.{_≡_};
 ghost use mathlib.Core.Bool.{true};
-ghost use Prim.Native.Nat.{_*_, _/_, _<_, _≤_};
-ghost use lib.ListN.{set};
+ghost use Prim.Native.Nat.{_+_, _-_, _*_, _/_, _<_, _≤_};
 ghost use lib.IntN.{pos, _+ℤ_, _-ℤ_, _*ℤ_};
 ghost use Rattle.river.specs.Saturation as Sat;
 ghost use Rattle.river.specs.Saturation.{saturationOf, pressureOf, ConditionsInRange, SaturationInRange};
-ghost use Rattle.river.specs.Flow.{flowLimit};
+ghost use Rattle.river.specs.Flow.{flowLimit, takeOf};
 ghost use Rattle.river.specs.Head.{floor, upstreamDemand, upstreamOxygen, belowDam, headDemand, headOxygen};
 ghost use Rattle.river.specs.Stored.{oxygenOf, oxygenSumOf};
-ghost use Rattle.river.specs.HeadTable.{PartOf, HeadReady, DemandReady, OxygenReady, noFeet, HeadAt, HeadBy};
+ghost use Rattle.river.specs.HeadTable.{PartOf, HeadReady, DemandReady, OxygenReady, noFeet, footOf, broughtTo, BroughtFits, HeadInput, HeadOf};
 use crate::card::Card;
 use crate::card::Dam;
 use crate::card::REACHES;
 use crate::card::amount_or;
-use crate::flow::FlowTable;
 use crate::flow::feeder_sum;
 use crate::flow::take_of;
+use crate::source::Demand;
 use crate::source::Source;
-use crate::source::bod_source;
+use crate::source::source_of;
 
 // The number that stores zero oxygen: oxygen is stored as its units plus 2^31.
 pub const STORED_ZERO: u32 = 2_147_483_648;
@@ -26,15 +25,24 @@ pub const STORED_ZERO: u32 = 2_147_483_648;
 // The same as a wide number.
 pub const STORED_ZERO_WIDE: u64 = STORED_ZERO as u64;
 
-// Tables of the reaches above: flow times foot BOD, and flow times stored foot oxygen.
+// Flow times a value at a foot, of each demand and of stored oxygen: of one foot, or summed over feeders.
+pub struct Brought {
+    pub bod: u64,
+    pub nitrogenous: u64,
+    pub oxygen: u64,
+}
+
+// Tables of what the feet of the reaches above bring.
 pub struct FootTable {
     pub bod: [u64; REACHES],
+    pub nitrogenous: [u64; REACHES],
     pub oxygen: [u64; REACHES],
 }
 
-// BOD and stored oxygen at the head of a reach.
+// Each demand and stored oxygen at the head of a reach.
 pub struct Head {
     pub bod: u32,
+    pub nitrogenous: u32,
     pub oxygen: u32,
 }
 
@@ -168,34 +176,66 @@ pub fn no_feet() -> FootTable
 {
     FootTable {
         bod: [0u64; REACHES],
+        nitrogenous: [0u64; REACHES],
         oxygen: [0u64; REACHES],
     }
 }
 
-// The tables with the foot of reach i + 1. The report has the flow of an accepted river's reach.
-pub fn put_foot(feet: FootTable, i: usize, flow: u64, bod: u32, oxygen: u32) -> FootTable
-    requires { ⌜ (i < 128) × (flow ≤ flowLimit) ⌝ }
-    ensures { λ r. ⌜ (r .bod ≡ set (feet .bod) i (flow * bod)) × (r .oxygen ≡ set (feet .oxygen) i (flow * oxygen)) ⌝ }
+// What a foot with these values brings. The report has the flow of an accepted river's reach.
+pub fn foot_of(flow: u64, bod: u32, nitrogenous: u32, oxygen: u32) -> Brought
+    requires { ⌜ flow ≤ flowLimit ⌝ }
+    ensures { λ r. ⌜ r ≡ footOf flow bod nitrogenous oxygen ⌝ }
 {
-    let mut next = feet;
-    next.bod[i] = flow * (bod as u64);
-    next.oxygen[i] = flow * (oxygen as u64);
-    next
+    Brought {
+        bod: flow * (bod as u64),
+        nitrogenous: flow * (nitrogenous as u64),
+        oxygen: flow * (oxygen as u64),
+    }
 }
 
-// The head of reach i + 1 of an accepted river, from its flows and the feet of the reaches before it. The report has the river from
-// `accept`, and the feet from `put_foot`.
-pub fn head_of(card: Card, flows: FlowTable, feet: FootTable, i: usize) -> Head
-    requires { ⌜ HeadAt card flows feet i ⌝ }
-    ensures { λ r. ⌜ HeadBy card flows feet i r ⌝ }
+// What the feeders of reach i + 1 bring, by tables of outlets and of what each foot brings.
+pub fn brought_to<'a>(
+    outlet: &'a [u8; REACHES],
+    bod: &'a [u64; REACHES],
+    nitrogenous: &'a [u64; REACHES],
+    oxygen: &'a [u64; REACHES],
+    i: usize,
+) -> Brought
+    requires { ⌜ BroughtFits (now outlet) (now bod) (now nitrogenous) (now oxygen) i ⌝ }
+    ensures { λ r. ⌜ r ≡ broughtTo (now (outlet .entry)) (now (bod .entry)) (now (nitrogenous .entry)) (now (oxygen .entry)) i ⌝ }
 {
     let reach = (i + 1) as u8;
-    let bod_sum = feeder_sum(&flows.outlet, &feet.bod, i, reach);
-    let oxygen_sum = feeder_sum(&flows.outlet, &feet.oxygen, i, reach);
-    let fed = 1 < flows.depth[i];
-    let qu = flows.flow[i] + take_of(card) - card.inflow as u64;
+    let bod = feeder_sum(outlet, bod, i, reach);
+    let nitrogenous = feeder_sum(outlet, nitrogenous, i, reach);
+    let oxygen = feeder_sum(outlet, oxygen, i, reach);
+    Brought {
+        bod,
+        nitrogenous,
+        oxygen,
+    }
+}
+
+// Qu of a reach, from its flow after the take. The report has the flow of an accepted river's reach.
+pub fn upstream_flow(card: Card, flow: u64) -> u64
+    requires { ⌜ (card .inflow ≤ flow + takeOf card) × (flow + takeOf card ≤ flowLimit) ⌝ }
+    ensures { λ r. ⌜ r ≡ flow + takeOf card - card .inflow ⌝ }
+{
+    flow + take_of(card) - card.inflow as u64
+}
+
+// The head of a reach, from whether it has feeders, Qu, and what the feeders bring. The report has these of an accepted river's reach.
+pub fn head_of(card: Card, fed: bool, qu: u64, sums: Brought) -> Head
+    requires { ⌜ HeadInput card fed qu sums ⌝ }
+    ensures { λ r. ⌜ HeadOf card fed qu sums r ⌝ }
+{
     Head {
-        bod: head_demand(bod_source(card), fed, qu, bod_sum),
-        oxygen: head_oxygen(card, fed, qu, oxygen_sum),
+        bod: head_demand(source_of(Demand::Bod, card), fed, qu, sums.bod),
+        nitrogenous: head_demand(
+            source_of(Demand::Nitrogenous, card),
+            fed,
+            qu,
+            sums.nitrogenous,
+        ),
+        oxygen: head_oxygen(card, fed, qu, sums.oxygen),
     }
 }

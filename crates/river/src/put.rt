@@ -3,7 +3,7 @@ ghost use Prim.Native.Nat.{_+_, _≤_};
 ghost use mathlib.Core.List.{_∷_, _++_};
 ghost use lib.ListN.{length};
 ghost use Rattle.river.specs.Bytes.{Put, markBytes, twoBytes, fourBytes};
-ghost use Rattle.river.specs.Card.{RE, headerBytes, reachBytes, encodeDam, encodeAmount, optional, optionalOf, sizeOf};
+ghost use Rattle.river.specs.Card.{RE, headerBytes, reachBytes, encodeDam, encodeAmount, encodeNitrification, optional, optionalOf, sizeOf};
 ghost use Rattle.river.specs.Optional.{encodeOptionals};
 ghost use Rattle.river.specs.Write.{encodeReach, encodeCard, encodeHeader};
 use crate::bytes::put_four;
@@ -13,6 +13,7 @@ use crate::card::Amount;
 use crate::card::Card;
 use crate::card::Dam;
 use crate::card::Layout;
+use crate::card::Nitrification;
 use crate::card::PRESSURE;
 use crate::card::SLUDGE;
 use crate::card::TAKE;
@@ -97,6 +98,26 @@ fn put_amount(out: &mut [u8], at: usize, layout: Layout, amount: Amount) -> usiz
     put_two(out, next, (n % TWO_BYTES) as u16)
 }
 
+// The `NT` record of a nitrification, if there is one.
+fn put_nitrification(out: &mut [u8], at: usize, nitrification: Nitrification) -> usize
+    requires { ⌜ at + length (encodeNitrification nitrification) ≤ length (now out) ⌝ }
+    ensures { λ r. ⌜ Put (now (out .entry)) at (encodeNitrification nitrification) (now (out .exit)) r ⌝ }
+{
+    let Nitrification::Nitrifying {
+        rate,
+        concentration,
+        load,
+    } = nitrification
+    else {
+        return at;
+    };
+    let next = put_pair(out, at, b'N', b'T');
+    let next = put_two(out, next, rate);
+    let next = put_four(out, next, concentration);
+    let next = put_four(out, next, load);
+    put_four(out, next, 0)
+}
+
 // The records of a card that follow its `RE` record.
 fn put_optionals(out: &mut [u8], at: usize, c: Card) -> usize
     requires { ⌜ at + length (encodeOptionals optional (optionalOf c)) ≤ length (now out) ⌝ }
@@ -106,10 +127,12 @@ fn put_optionals(out: &mut [u8], at: usize, c: Card) -> usize
     let take = c.take;
     let pressure = c.pressure;
     let sludge = c.sludge;
+    let nitrification = c.nitrification;
     let next = put_dam(out, at, dam);
     let next = put_amount(out, next, TAKE, take);
     let next = put_amount(out, next, PRESSURE, pressure);
-    put_amount(out, next, SLUDGE, sludge)
+    let next = put_amount(out, next, SLUDGE, sludge);
+    put_nitrification(out, next, nitrification)
 }
 
 // The records of a card.

@@ -1,18 +1,19 @@
 // The tests that reading and writing share: ranges, outlets and the reach count.
 ghost use mathlib.Core.Path.{_≡_};
-ghost use Rattle.river.specs.Card.{optional, optionalOf, inRange, damInRange, amountInRange, outletOk, countOk};
+ghost use Rattle.river.specs.Card.{optional, optionalOf, inRange, damInRange, amountInRange, nitrificationInRange, outletOk, countOk};
 ghost use Rattle.river.specs.Optional.{optionalsInRange};
 use crate::card::Amount;
 use crate::card::Card;
 use crate::card::Dam;
 use crate::card::FLOW_MOST;
 use crate::card::Layout;
+use crate::card::Nitrification;
 use crate::card::PRESSURE;
 use crate::card::REACHES;
 use crate::card::SLUDGE;
 use crate::card::TAKE;
 
-// The largest values of the fields of `RE` and `DM` records.
+// The largest values of the fields of `RE`, `DM` and `NT` records.
 const TEMPERATURE_MOST: u8 = 35;
 
 const RATE_MOST: u16 = 20_000;
@@ -76,6 +77,24 @@ pub(crate) fn amount_in_range(layout: Layout, amount: Amount) -> bool
     n <= layout.most
 }
 
+// Whether the fields of a nitrification's `NT` record are in range; any load is.
+pub(crate) fn nitrification_in_range(n: Nitrification) -> bool
+    ensures { λ r. ⌜ r ≡ nitrificationInRange n ⌝ }
+{
+    let Nitrification::Nitrifying {
+        rate,
+        concentration,
+        load: _,
+    } = n
+    else {
+        return true;
+    };
+    if RATE_MOST < rate {
+        return false;
+    }
+    concentration <= BOD_MOST
+}
+
 // Whether the fields of the records that follow a card's `RE` record are in range.
 pub fn optionals_in_range(c: Card) -> bool
     ensures { λ r. ⌜ r ≡ optionalsInRange optional (optionalOf c) ⌝ }
@@ -93,7 +112,11 @@ pub fn optionals_in_range(c: Card) -> bool
         return false;
     }
     let sludge = c.sludge;
-    amount_in_range(SLUDGE, sludge)
+    if !amount_in_range(SLUDGE, sludge) {
+        return false;
+    }
+    let nitrification = c.nitrification;
+    nitrification_in_range(nitrification)
 }
 
 // Whether reach i of n may have an outlet.

@@ -2,10 +2,10 @@
 ghost use mathlib.Core.Path.{_≡_};
 ghost use Prim.Native.Nat.{_<_, _^_};
 ghost use lib.ListN.{drop};
-ghost use Rattle.river.specs.Card.{reachBytes, damRecord, amountRecord, numberAt, optional};
+ghost use Rattle.river.specs.Card.{reachBytes, damRecord, amountRecord, numberAt, nitrificationRecord, optional};
 ghost use Rattle.river.specs.Optional.{readOptional, readOptionals};
 ghost use Rattle.river.specs.Refusal.{accepted, after};
-ghost use Rattle.river.specs.Read.{readHeader, headerOf, headerRefusal, cardAt, damOf, damRefusal, amountOf, amountRefusal, readReach, reachOf, reachRefusal};
+ghost use Rattle.river.specs.Read.{readHeader, headerOf, headerRefusal, cardAt, damOf, damRefusal, amountOf, amountRefusal, nitrificationOf, nitrificationRefusal, readReach, reachOf, reachRefusal};
 use crate::bytes::behind;
 use crate::bytes::byte_at;
 use crate::bytes::four_at;
@@ -17,6 +17,8 @@ use crate::card::DAM_BYTES;
 use crate::card::Dam;
 use crate::card::HEADER_BYTES;
 use crate::card::Layout;
+use crate::card::NITRIFICATION_BYTES;
+use crate::card::Nitrification;
 use crate::card::PRESSURE;
 use crate::card::REACH_BYTES;
 use crate::card::SLUDGE;
@@ -29,6 +31,7 @@ use crate::range::amount_in_range;
 use crate::range::count_ok;
 use crate::range::dam_in_range;
 use crate::range::in_range;
+use crate::range::nitrification_in_range;
 use crate::range::outlet_ok;
 use crate::refusal::Refusal;
 use crate::refusal::refuse;
@@ -48,6 +51,12 @@ pub enum DamRead {
 // What reading an amount finds: the amount, or a refusal.
 pub enum AmountRead {
     Found(Amount),
+    Refused(Refusal),
+}
+
+// What reading a nitrification finds: the nitrification, or a refusal.
+pub enum NitrificationRead {
+    Found(Nitrification),
     Refused(Refusal),
 }
 
@@ -77,9 +86,16 @@ pub fn read_header(file: &[u8]) -> Header
     }
 }
 
-// The card in an `RE` record, with a dam, a take, a pressure and a sludge bed.
-pub fn card_at(s: &[u8], dam: Dam, take: Amount, pressure: Amount, sludge: Amount) -> Card
-    ensures { λ r. ⌜ r ≡ cardAt (now (s .entry)) (dam, (take, (pressure, (sludge, tt)))) ⌝ }
+// The card in an `RE` record, with a dam, a take, a pressure, a sludge bed and a nitrification.
+pub fn card_at(
+    s: &[u8],
+    dam: Dam,
+    take: Amount,
+    pressure: Amount,
+    sludge: Amount,
+    nitrification: Nitrification,
+) -> Card
+    ensures { λ r. ⌜ r ≡ cardAt (now (s .entry)) (dam, (take, (pressure, (sludge, (nitrification, tt))))) ⌝ }
 {
     Card {
         outlet: byte_at(s, 2),
@@ -95,6 +111,7 @@ pub fn card_at(s: &[u8], dam: Dam, take: Amount, pressure: Amount, sludge: Amoun
         take,
         pressure,
         sludge,
+        nitrification,
     }
 }
 
@@ -146,6 +163,30 @@ pub(crate) fn read_amount(s: &[u8], reach: u8, layout: Layout) -> AmountRead
     AmountRead::Found(amount)
 }
 
+// The nitrification in the `NT` record at the start, if there is one: refusals 1 and 4, the latter also where its last four bytes are not all 0.
+pub fn read_nitrification(s: &[u8], reach: u8) -> NitrificationRead
+    ensures { λ r. ⌜ r ≡ nitrificationOf (readOptional nitrificationRecord reach (now (s .entry))) ⌝ }
+{
+    if !marked(s, b'N', b'T') {
+        return NitrificationRead::Found(Nitrification::Idle);
+    }
+    if s.len() < NITRIFICATION_BYTES {
+        return NitrificationRead::Refused(refuse(1, reach));
+    }
+    let nitrification = Nitrification::Nitrifying {
+        rate: two_at(s, 2),
+        concentration: four_at(s, 4),
+        load: four_at(s, 8),
+    };
+    if !nitrification_in_range(nitrification) {
+        return NitrificationRead::Refused(refuse(4, reach));
+    }
+    if four_at(s, 12) != 0 {
+        return NitrificationRead::Refused(refuse(4, reach));
+    }
+    NitrificationRead::Found(nitrification)
+}
+
 // The card at a position, whose `RE` record stands at the start, with the records that follow.
 fn read_card(s: &[u8], at: usize, reach: u8) -> Reach
     requires { ⌜ at < 2 ^ 63 ⌝ }
@@ -171,7 +212,12 @@ fn read_card(s: &[u8], at: usize, reach: u8) -> Reach
     let AmountRead::Found(sludge) = found else {
         return Reach::Refused(amount_refusal(found));
     };
-    let card = card_at(s, dam, take, pressure, sludge);
+    let rest = behind(rest, amount_size(SLUDGE, sludge));
+    let found = read_nitrification(rest, reach);
+    let NitrificationRead::Found(nitrification) = found else {
+        return Reach::Refused(nitrification_refusal(found));
+    };
+    let card = card_at(s, dam, take, pressure, sludge, nitrification);
     let next = at + size_of(card);
     Reach::Read { card, next }
 }
@@ -193,6 +239,7 @@ fn read_here(s: &[u8], at: usize, count: u8, reach: u8) -> Reach
         Amount::Without,
         Amount::Without,
         Amount::Without,
+        Nitrification::Idle,
     );
     if !in_range(card) {
         return Reach::Refused(refuse(4, reach));
@@ -240,6 +287,16 @@ fn amount_refusal(answer: AmountRead) -> Refusal
     match answer {
         AmountRead::Refused(r) => r,
         AmountRead::Found(_) => refuse(0, 0),
+    }
+}
+
+// The refusal in an answer about a nitrification.
+fn nitrification_refusal(answer: NitrificationRead) -> Refusal
+    ensures { λ r. ⌜ r ≡ nitrificationRefusal answer ⌝ }
+{
+    match answer {
+        NitrificationRead::Refused(r) => r,
+        NitrificationRead::Found(_) => refuse(0, 0),
     }
 }
 

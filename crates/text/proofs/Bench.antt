@@ -1,13 +1,16 @@
 -- Texts of the river file paper, computed from the definitions: both lines of the printing program's example, also with takes and a pressure, and its refusal;
--- and a few numbers.
+-- a line with nitrification and without; and a few numbers.
 use mathlib.Core.Path.{_≡_, refl}
+use mathlib.Core.Bool.{true, false}
 use lib.IntN.{pos, negsuc}
 use Rattle.river.specs.declared.card.Dam.the-variants.{Absent}
 use Rattle.river.specs.declared.card.Amount.the-variants.{Without, Given}
 use Rattle.river.specs.Refusal.{accepted, refused, refuse}
 use Rattle.river.proofs.Bench.{two, drawn, hilly}
 use Rattle.report.proofs.Bench.{bench}
-use Rattle.text.specs.Text.{ascii, digitsBy, decimal, number, signed, afterWord, line, numbersOf, linesOf, refusalLine, textOf}
+use Rattle.report.proofs.record.Bytes.{small}
+use Rattle.report.specs.Record.{nitrifies, isNitrified, hasNitrification}
+use Rattle.text.specs.Text.{ascii, digitsBy, decimal, number, signed, afterWord, line, numbersOf, reachLine, linesOf, refusalLine, textOf}
 
 pub record Rows : Type 0 where
   pub example :
@@ -18,6 +21,8 @@ pub record Rows : Type 0 where
       textOf (accepted (drawn Without (Given 1000))) ≡ ascii "1 1 3000 2000000 2000000 8000000 0 8000000 8000000\n2 2 3000 9000000 9000000 6500000 0 6500000 6500000\n"
   pub hilly-700 :
       textOf (accepted (hilly (Given 700))) ≡ ascii "1 1 3000 2000000 2000000 8000000 0 8000000 8000000\n2 2 4000 9000000 9000000 6577389 0 6577389 6577389\n"
+  pub without : reachLine false 7 small ≡ ascii "7 1 2 3 256 4 257 -1 -2\n"
+  pub nitrified : reachLine true 7 small ≡ ascii "7 1 2 3 256 4 257 -1 -2 65541 6\n"
   pub refusal : textOf (refused (refuse 5 2)) ≡ ascii "refused 5 reach 2\n"
   pub zero : signed (pos 0) ≡ ascii "0"
   pub ten : signed (pos 10) ≡ ascii "10"
@@ -26,13 +31,15 @@ pub record Rows : Type 0 where
 
 -- THEOREM: the worked example, a refusal and some numbers as they are printed, a row each
 pub text-bench : Rows
-unfolding textOf linesOf refusalLine line afterWord numbersOf signed number decimal digitsBy
+unfolding nitrifies isNitrified hasNitrification textOf linesOf refusalLine line afterWord numbersOf signed number decimal digitsBy
 text-bench =
     record {
       example = rw (bench .line-1, bench .line-2);
       drawn-1 = rw (bench .drawn-1-line-1, bench .drawn-1-line-2);
       drawn-2 = rw (bench .drawn-2-line-1, bench .drawn-2-line-2);
       hilly-700 = rw (bench .hilly-line-1, bench .hilly-line-2);
+      without = refl;
+      nitrified = refl;
       refusal = refl;
       zero = refl;
       ten = refl;

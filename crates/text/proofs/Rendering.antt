@@ -1,9 +1,11 @@
 -- What `render` puts is the text for its file, by the contract of reporting. Assumes nothing.
 use mathlib.Core.Path.{_≡_, refl, sym, ap, ap₂, _∙_}
+use mathlib.Core.Bool.{Bool, true, false}
 use mathlib.Core.List.{List, _++_}
 use Prim.Native.Nat.{ℕ, zero, suc, _*_, _/_, _%_, _≤_, _<_}
-use native.Mathlib.Nat.{div-add-mod', mul-comm, mul-le-mul-left}
+use native.Mathlib.Nat.{div-add-mod', mul-le-mul}
 use native.Mathlib.Omega.{arith}
+use lib.Dec.{ltb}
 use lib.ListN.{length, drop}
 use lib.Seq.{length-take-le}
 use Rattle.io.specs.Counts.{Counts}
@@ -15,18 +17,26 @@ use Rattle.river.specs.Refusal.{Answer, accepted, refused, refuse}
 use Rattle.river.specs.Write.{encode}
 use Rattle.river.proofs.Acceptance.{accepts-exactly}
 use Rattle.river.proofs.Answers.{after-refused}
+use Rattle.river.proofs.Files.{reads-lawful}
 use Rattle.river.proofs.bytes.Puts.{put-at-start}
 use Rattle.report.specs.Program.{figuresAt}
-use Rattle.report.specs.Record.{Figures, recordSize}
-use Rattle.report.specs.Report.{reportAnswer, Reports}
+use Rattle.report.specs.Record.{hasNitrification, Figures, plainBytes, recordBytes}
+use Rattle.report.specs.Report.{reportAnswer, Reports, TellsSize}
+use Rattle.report.proofs.record.Encoding.{record-bounds}
 use Rattle.text.specs.Text.{reachLine, linesOf, refusalLine, textOf, Renders}
 use Rattle.text.specs.Held.{recorded, PutWithin}
 
 -- equal figures have equal lines
-same-lines : (f g : ℕ → Figures) (n : ℕ) → ((i : ℕ) → i < n → f (suc i) ≡ g (suc i)) → linesOf f n ≡ linesOf g n
+same-lines : (nitrified : Bool) (f g : ℕ → Figures) (n : ℕ) → ((i : ℕ) → i < n → f (suc i) ≡ g (suc i)) → linesOf nitrified f n ≡ linesOf nitrified g n
 unfolding linesOf
-same-lines f g zero h = refl
-same-lines f g (suc n) h = ap₂ _++_ (same-lines f g n (λ i l. h i (omega arith))) (ap (reachLine (suc n)) (h n (omega arith)))
+same-lines nitrified f g zero h = refl
+same-lines nitrified f g (suc n) h =
+    ap₂ _++_ (same-lines nitrified f g n (λ i l. h i (omega arith))) (ap (reachLine nitrified (suc n)) (h n (omega arith)))
+
+-- the size of records tells whether their river has nitrification
+told : (nitrified : Bool) → ltb plainBytes (recordBytes nitrified) ≡ nitrified
+told true = refl
+told false = refl
 
 module _ {file : List ℕ} (bytes : AreBytes file) where
   -- the reach count of an accepted river stands in its file, and is at most 128
@@ -36,21 +46,28 @@ module _ {file : List ℕ} (bytes : AreBytes file) where
       let a = accepts-exactly file cards bytes .0 e in
       (ap (λ (s : List ℕ). twoAt s 2) (a .bytes) ∙ div-add-mod' (length cards) 256, a .lawful .few)
 
-  module _ {before after : List ℕ} {result size : ℕ} (sized : (cards : List Card) → recordSize cards ≡ size) (long : length before ≡ 128 * size) (reports : Reports file before after result) where
+  -- and its size of records tells whether it has nitrification
+  pub nitrified-is : {cards : List Card} {size : ℕ} → acceptFile file ≡ accepted cards → TellsSize file size → ltb plainBytes size ≡ hasNitrification cards
+  nitrified-is {cards} e tells =
+      let a = accepts-exactly file cards bytes .0 e in
+      ap (ltb plainBytes) (tells .size cards (rw (a .bytes) (reads-lawful cards (a .lawful)))) ∙ told (hasNitrification cards)
+
+  module _ {before after : List ℕ} {result : ℕ} (long : length before ≡ 39 * 128) (reports : Reports file before after result) where
     -- a result of 0: the lines of the records are those of the river
-    pub lines-are : result ≡ 0 → linesOf (recorded size after) (twoAt file 2) ≡ textOf (acceptFile file)
+    pub lines-are : {size : ℕ} → TellsSize file size → result ≡ 0 → linesOf (ltb plainBytes size) (recorded (ltb plainBytes size) after) (twoAt file 2) ≡ textOf (acceptFile file)
     unfolding textOf
-    lines-are z =
+    lines-are tells z =
         let river = reports .accepts z in
-        ap (linesOf (recorded size after)) (counted (river .passes) .0)
-        ∙ same-lines (recorded size after) (figuresAt (river .cards)) (length (river .cards)) (rw (sized (river .cards)) at (reports .figures river))
-        ∙ sym (ap textOf (river .passes))
+        let nitrified = hasNitrification (river .cards) in
+        rw (nitrified-is (river .passes) tells, counted (river .passes) .0)
+        (same-lines nitrified (recorded nitrified after) (figuresAt (river .cards)) (length (river .cards)) (reports .figures river)
+        ∙ sym (ap textOf (river .passes)))
 
     -- any other: its number and reach are the refusal's
     refusal-of : (x : Answer (List Card)) → acceptFile file ≡ x → (result ≡ 0 → ⊥) → refusalLine (result % 256) (result / 256) ≡ textOf x
     unfolding textOf reportAnswer
     refusal-of (accepted cards) e h =
-        absurd (h (reports .zero (record { cards = cards; passes = e; holds = rw (sized cards, long, mul-comm 128 size) (mul-le-mul-left size (counted e .1)) })))
+        absurd (h (reports .zero (record { cards = cards; passes = e; holds = rw long (mul-le-mul (record-bounds (hasNitrification cards) .1) (counted e .1)) })))
     refusal-of (refused r) e h =
         let same : refuse (result % 256) (result / 256) ≡ r = cc (reports .refuses h, after-refused (acceptFile file) _ e) in
         ap (λ (x : Refusal). refusalLine (x .number) (x .reach)) same

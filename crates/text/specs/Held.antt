@@ -1,11 +1,12 @@
 -- How the program holds what it prints on the way to a text: numbers stored as oxygen is, the figures in the records of a report,
 -- and words put into a buffer. `Renders` names none of this.
+use mathlib.Core.Bool.{Bool, cond}
 use mathlib.Core.List.{List, map}
 use Prim.Native.Nat.{ℕ, pred, _+_, _≤_}
 use lib.ListN.{getD}
 use Rattle.river.specs.Bytes.{Put}
 use Rattle.river.specs.Stored.{oxygenOf}
-use Rattle.report.specs.Record.{Figures, recordAt, readRecord}
+use Rattle.report.specs.Record.{Figures, recordBytes, recordAt, readRecord}
 use Rattle.text.specs.Text.{signed}
 
 -- the word of stored number i, and all words of some stored numbers
@@ -15,13 +16,17 @@ wordAt numbers i = signed (oxygenOf (getD numbers i 0))
 abbrev pub wordsOf : List ℕ → List (List ℕ)
 wordsOf numbers = map signed (map oxygenOf numbers)
 
--- the bytes of a reach's line at most: 22 for each of nine numbers, which are 20 digits, a sign and what stands after the word
-abbrev pub longestLine : ℕ
-longestLine = 198
+-- how many numbers the line of a reach has, by whether its river has nitrification
+abbrev pub numberCount : (nitrified : Bool) → ℕ
+numberCount nitrified = cond nitrified 11 9
 
--- the figures of reach i in a report whose records have this size
-abbrev pub recorded : (size : ℕ) → List ℕ → ℕ → Figures
-recorded size report i = readRecord (recordAt size report (pred i))
+-- the bytes of a reach's line at most: 22 for each of eleven numbers, which are 20 digits, a sign and what stands after the word
+abbrev pub longestLine : ℕ
+longestLine = 242
+
+-- the figures of reach i in a report, by whether its river has nitrification
+abbrev pub recorded : (nitrified : Bool) → List ℕ → ℕ → Figures
+recorded nitrified report i = readRecord nitrified (recordAt (recordBytes nitrified) report (pred i))
 
 -- a word of at most so many bytes is put at a place of a buffer, and the rest of it is kept; the next place is behind the word
 pub record PutWithin (most : ℕ) (before : List ℕ) (at : ℕ) (word left : List ℕ) (next : ℕ) : Type 0 where

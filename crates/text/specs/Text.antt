@@ -1,5 +1,5 @@
 -- "The printing program" of the river file paper: the text of a river's report, or of its refusal, as ASCII codes.
-use mathlib.Core.Bool.{Bool, true, false}
+use mathlib.Core.Bool.{Bool, true, false, cond}
 use mathlib.Core.List.{List, [], _∷_, _++_, map}
 use mathlib.Core.Path.{_≡_}
 use Prim.Native.Nat.{ℕ, zero, suc, _+_, _/_, _%_}
@@ -12,7 +12,7 @@ use Rattle.river.specs.declared.card.Card.{Card}
 use Rattle.river.specs.Refusal.{Answer, accepted, refused}
 use Rattle.river.specs.Accept.{acceptFile}
 use Rattle.report.specs.Program.{figuresAt}
-use Rattle.report.specs.Record.{Figures}
+use Rattle.report.specs.Record.{hasNitrification, Figures}
 
 -- the characters of a text
 abbrev pub ascii : String → List ℕ
@@ -52,24 +52,27 @@ unfoldable pub line : List (List ℕ) → List ℕ
 line [] = []
 line (w ∷ ws) = w ++ (afterWord ws ++ line ws)
 
--- the numbers in the line of a reach: reach, depth, Q, head BOD, foot BOD, head oxygen, critical instant, critical oxygen, foot oxygen
-unfoldable pub numbersOf : (reach : ℕ) → Figures → List ℤ
-numbersOf reach f =
+-- the numbers in the line of a reach: reach, depth, Q, head BOD, foot BOD, head oxygen, critical instant, critical oxygen, foot oxygen;
+-- and in a river with nitrification head and foot nitrogenous BOD
+unfoldable pub numbersOf : (nitrified : Bool) (reach : ℕ) → Figures → List ℤ
+numbersOf nitrified reach f =
     pos reach ∷
     pos (f .depth) ∷
     pos (f .flow) ∷
     pos (f .head-bod) ∷
     pos (f .foot-bod) ∷
-    f .head-oxygen ∷ pos (f .critical-instant) ∷ f .critical-oxygen ∷ f .foot-oxygen ∷ []
+    f .head-oxygen ∷
+    pos (f .critical-instant) ∷
+    f .critical-oxygen ∷ f .foot-oxygen ∷ cond nitrified (pos (f .head-nitrogenous) ∷ pos (f .foot-nitrogenous) ∷ []) []
 
 -- the line of a reach
-abbrev pub reachLine : (reach : ℕ) → Figures → List ℕ
-reachLine reach f = line (map signed (numbersOf reach f))
+abbrev pub reachLine : (nitrified : Bool) (reach : ℕ) → Figures → List ℕ
+reachLine nitrified reach f = line (map signed (numbersOf nitrified reach f))
 
 -- the lines of the first n reaches, whose figures are given by reach number
-unfoldable pub linesOf : (ℕ → Figures) → ℕ → List ℕ
-linesOf figures zero = []
-linesOf figures (suc n) = linesOf figures n ++ reachLine (suc n) (figures (suc n))
+unfoldable pub linesOf : (nitrified : Bool) → (ℕ → Figures) → ℕ → List ℕ
+linesOf nitrified figures zero = []
+linesOf nitrified figures (suc n) = linesOf nitrified figures n ++ reachLine nitrified (suc n) (figures (suc n))
 
 -- the line of a refusal
 unfoldable pub refusalLine : (number reach : ℕ) → List ℕ
@@ -77,7 +80,7 @@ refusalLine n reach = line (ascii "refused" ∷ number n ∷ ascii "reach" ∷ n
 
 -- the text for a river file, by the answer of reading and flow check: one line a reach, or the refusal
 unfoldable pub textOf : Answer (List Card) → List ℕ
-textOf (accepted cards) = linesOf (figuresAt cards) (length cards)
+textOf (accepted cards) = linesOf (hasNitrification cards) (figuresAt cards) (length cards)
 textOf (refused r) = refusalLine (r .number) (r .reach)
 
 -- a call on a river file, with the buffer before and after: it returns the length of the text, which stands at the buffer's start,

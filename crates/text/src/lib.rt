@@ -2,19 +2,24 @@
 mod line;
 mod put;
 
+use line::NUMBERS;
+use line::number_count;
 use line::numbers_of;
 use put::put_line;
 use put::put_number;
 use put::put_word;
+use report::record::Line;
+use report::record::RN_SIZE;
 use report::record::RP_SIZE;
 use report::record::read_record;
 use river::bytes::two_at;
 use river::card::LONGEST_FILE;
 use river::card::REACHES;
-ghost use Prim.Native.Nat.{_*_, _≤_};
+ghost use Prim.Native.Nat.{_+_, _*_, _≤_};
 ghost use lib.ListN.{length};
 ghost use Rattle.io.specs.Counts.{Counts};
-ghost use Rattle.text.specs.Text.{linesOf, refusalLine, Renders};
+ghost use Rattle.report.specs.Record.{recordBytes, figuresIn};
+ghost use Rattle.text.specs.Text.{reachLine, linesOf, refusalLine, Renders};
 ghost use Rattle.text.specs.Held.{longestLine, recorded, PutWithin};
 
 // One byte past the longest lawful file, so that a longer one is seen to be too long.
@@ -23,24 +28,33 @@ pub const FILE: usize = LONGEST_FILE + 1;
 // Where the reach count stands in a file: behind the header's mark.
 const COUNT_AT: usize = 2;
 
-// The longest report: 128 records.
-const REPORT: usize = REACHES * RP_SIZE;
+// The longest report: the records of 128 reaches, each of both kinds.
+const REPORT: usize = REACHES * (RP_SIZE + RN_SIZE);
 
-// Room for the longest text: 128 lines of nine numbers, of 22 bytes at most with a sign and what stands after the number.
-pub const TEXT: usize = REACHES * 9 * 22;
+// Room for the longest text: 128 lines of eleven numbers, of 22 bytes at most with a sign and what stands after the number.
+pub const TEXT: usize = REACHES * NUMBERS * 22;
 
-// Puts the lines of the first reaches of a report whose records have this size.
-fn put_lines(out: &mut [u8], report: &[u8], size: usize, count: usize) -> usize
-    requires { ⌜ (count ≤ 128) × (size * count ≤ length (now report)) × (longestLine * count ≤ length (now out)) ⌝ }
-    ensures { λ r. ⌜ PutWithin (longestLine * count) (now (out .entry)) 0 (linesOf (recorded size (now (report .entry))) count) (now (out .exit)) r ⌝ }
+// Puts the line of a reach with these figures, by whether its river has nitrification.
+fn put_reach(out: &mut [u8], at: usize, nitrified: bool, reach: u32, line: Line) -> usize
+    requires { ⌜ at + longestLine ≤ length (now out) ⌝ }
+    ensures { λ r. ⌜ PutWithin longestLine (now (out .entry)) at (reachLine nitrified reach (figuresIn line)) (now (out .exit)) r ⌝ }
+{
+    let numbers = numbers_of(reach, line);
+    let count = number_count(nitrified);
+    put_line(out, at, &numbers[..count])
+}
+
+// Puts the lines of the first reaches of a report, by whether its river has nitrification.
+fn put_lines(out: &mut [u8], report: &[u8], nitrified: bool, count: usize) -> usize
+    requires { ⌜ (count ≤ 128) × (recordBytes nitrified * count ≤ length (now report)) × (longestLine * count ≤ length (now out)) ⌝ }
+    ensures { λ r. ⌜ PutWithin (longestLine * count) (now (out .entry)) 0 (linesOf nitrified (recorded nitrified (now (report .entry))) count) (now (out .exit)) r ⌝ }
 {
     let mut next: usize = 0;
     let mut i: usize = 0;
     while i < count {
-        let line = read_record(report, size, i);
+        let line = read_record(report, nitrified, i);
         i = i + 1;
-        let numbers = numbers_of(i as u32, line);
-        next = put_line(out, next, &numbers);
+        next = put_reach(out, next, nitrified, i as u32, line);
     }
     next
 }
@@ -65,7 +79,8 @@ pub fn render(file: &[u8], out: &mut [u8; TEXT]) -> usize
     let mut report = [0u8; REPORT];
     let result = report::xylandreo_report(file, &mut report);
     if result == 0 {
-        put_lines(out, &report, RP_SIZE, two_at(file, COUNT_AT) as usize)
+        let nitrified = RP_SIZE < report::xylandreo_record_size(file) as usize;
+        put_lines(out, &report, nitrified, two_at(file, COUNT_AT) as usize)
     } else {
         put_refusal(
             out,

@@ -4,13 +4,14 @@ use Prim.Native.Nat.{ℕ, _+_, _-_, _≤_}
 use native.Mathlib.Nat.{sub-add-cancel}
 use Rattle.decay.specs.Fraction.{Fraction, ofℕ, _+ᶠ_, -ᶠ_, _-ᶠ_, _*ᶠ_, _≈_}
 use Rattle.decay.specs.Fixed.{product}
-use Rattle.decay.specs.Factors.{SoundStep, nextFactors}
+use Rattle.decay.specs.Factors.{SoundStep, nextDemand, nextFactors}
 use Rattle.decay.specs.Promise.{share}
 use Rattle.decay.specs.declared.step.Step.{Step}
+use Rattle.decay.specs.declared.factors.DemandFactors.{DemandFactors}
 use Rattle.decay.specs.declared.factors.Factors.{Factors}
 use Rattle.decay.proofs.Algebra.{≈-sym, ≈-trans, quote, slack, _⊞_, multiple, certify}
 use Rattle.decay.proofs.Algebra.{Within}
-use Rattle.decay.proofs.factors.Instants.{moved}
+use Rattle.decay.proofs.factors.Instants.{moved, filled-kept}
 use Rattle.decay.proofs.Accuracy.Units.{eps, eps-nonneg, share-sum, share-equal, Floor, product-floor}
 
 -- less q, where q is a floor of x
@@ -42,23 +43,21 @@ change A A' B Q X R Z whole more h k =
 share-less : (a q : ℕ) → q ≤ a → share (a - q) +ᶠ share q ≈ share a
 share-less a q h = ≈-trans (≈-sym (share-sum (a - q) q)) (share-equal (sub-add-cancel h))
 
-module _ (s : Step) (f : Factors) (h : SoundStep s) where
-  pub left-moves : Within (share ((nextFactors s f) .left)) (share (f .left) -ᶠ share (f .left) *ᶠ share (s .lost)) eps
-  unfolding nextFactors
+module _ (s : Step) (d : DemandFactors) (h : SoundStep s) where
+  pub left-moves : Within (share ((nextDemand s d) .left)) (share (d .left) -ᶠ share (d .left) *ᶠ share (s .lost)) eps
   left-moves =
-      let q = product (f .left) (s .lost) in
-      lessen (share (f .left)) (share (f .left - q)) (share q) (share (f .left) *ᶠ share (s .lost)) (share-less (f .left) q (moved f h .lost-left)) (product-floor (f .left) (s .lost))
-
-  pub kept-moves : Within (share ((nextFactors s f) .kept)) (share (f .kept) -ᶠ share (f .kept) *ᶠ share (s .filled)) eps
-  unfolding nextFactors
-  kept-moves =
-      let q = product (f .kept) (s .filled) in
-      lessen (share (f .kept)) (share (f .kept - q)) (share q) (share (f .kept) *ᶠ share (s .filled)) (share-less (f .kept) q (moved f h .filled-kept)) (product-floor (f .kept) (s .filled))
+      let q = product (d .left) (s .lost) in
+      lessen (share (d .left)) (share (d .left - q)) (share q) (share (d .left) *ᶠ share (s .lost)) (share-less (d .left) q (moved d h .lost-left)) (product-floor (d .left) (s .lost))
 
   pub turned-moves :
-      Within (share ((nextFactors s f) .turned)) (share (f .turned) -ᶠ share (f .turned) *ᶠ share (s .filled) +ᶠ share (f .left) *ᶠ share (s .used)) eps
-  unfolding nextFactors
+      Within (share ((nextDemand s d) .turned)) (share (d .turned) -ᶠ share (d .turned) *ᶠ share (s .filled) +ᶠ share (d .left) *ᶠ share (s .used)) eps
   turned-moves =
-      let q = product (f .turned) (s .filled) in
-      let r = product (f .left) (s .used) in
-      change (share (f .turned)) (share (f .turned - q)) (share (f .turned - q + r)) (share q) (share (f .turned) *ᶠ share (s .filled)) (share r) (share (f .left) *ᶠ share (s .used)) (share-less (f .turned) q (moved f h .filled-turned)) (share-sum (f .turned - q) r) (product-floor (f .turned) (s .filled)) (product-floor (f .left) (s .used))
+      let q = product (d .turned) (s .filled) in
+      let r = product (d .left) (s .used) in
+      change (share (d .turned)) (share (d .turned - q)) (share (d .turned - q + r)) (share q) (share (d .turned) *ᶠ share (s .filled)) (share r) (share (d .left) *ᶠ share (s .used)) (share-less (d .turned) q (moved d h .filled-turned)) (share-sum (d .turned - q) r) (product-floor (d .turned) (s .filled)) (product-floor (d .left) (s .used))
+
+pub kept-moves : (s : Step) (f : Factors) → SoundStep s → Within (share ((nextFactors s f) .kept)) (share (f .kept) -ᶠ share (f .kept) *ᶠ share (s .filled)) eps
+unfolding nextFactors
+kept-moves s f h =
+    let q = product (f .kept) (s .filled) in
+    lessen (share (f .kept)) (share (f .kept - q)) (share q) (share (f .kept) *ᶠ share (s .filled)) (share-less (f .kept) q (filled-kept (f .kept) h)) (product-floor (f .kept) (s .filled))

@@ -48,6 +48,11 @@ pub share-below : (a b : ℕ) → a ≤ one → product a b ≤ b
 unfolding product
 share-below a b h = div-le-of-le-mul one (mul-le-mul-right b h)
 
+-- and so are two shares that together are at most one
+pub shares-below : (a b c : ℕ) → a + b ≤ one → product a c + product b c ≤ c
+unfolding product
+shares-below a b c h = omega (arith, mul-le-mul-right c h, div-add-mod' (a * c) one, div-add-mod' (b * c) one)
+
 -- a product is at most its first factor, 1/256 of it where the second is small
 pub product-small : (a b : ℕ) → b ≤ small → 256 * product a b ≤ a
 unfolding product

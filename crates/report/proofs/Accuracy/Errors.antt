@@ -2,30 +2,34 @@
 use mathlib.Core.List.{[], _∷_}
 use Prim.Native.Nat.{ℕ}
 use Rattle.decay.specs.Fraction.{Fraction, _≈_, _≼_, ofℕ, _+ᶠ_, -ᶠ_, _-ᶠ_, _*ᶠ_, _÷_}
-use Rattle.decay.proofs.Algebra.{quote, ring, certify, certify-by, certify-over, slack, number, Nonneg, _⊞_, _⊠_, multiple, _⋅_, _&_, none as no-equations, ≈-sym, ≼-trans, Positive, positive-nonneg, ÷-cancel-pos, Small, Within, small, near, sized, _⊞ˢ_, _⊠ˢ_, small-minus, small-by, bound-nonneg}
+use Rattle.decay.proofs.Algebra.{quote, ring, certify, certify-by, certify-over, slack, number, Nonneg, _⊞_, _⊠_, multiple, _⋅_, _&_, none as no-equations, ≈-refl, ≈-sym, *ᶠ-comm, within-by, ≼-trans, Positive, positive-nonneg, ÷-cancel-pos, Small, Within, small, near, sized, _⊞ˢ_, _⊠ˢ_, small-minus, small-by, bound-nonneg}
 use Rattle.report.proofs.Facts.Floor.{Rounded}
 use Rattle.report.proofs.Facts.Head.{Dammed}
-use Rattle.report.proofs.Facts.Instant.{Floored, Shares}
+use Rattle.report.proofs.Facts.Instant.{Floored}
 
--- a head adds 5 units of rounding: two for BOD (mean, mixing) and three for oxygen (mean, dam with saturation, mixing)
+-- a head adds 7 units of rounding: two for each demand (mean, mixing) and three for oxygen (mean, dam with saturation, mixing)
 abbrev pub headUnits : ℕ
-headUnits = 5
+headUnits = 7
 
--- an instant adds 5 units (three roundings, saturation at both ends of the formula) and what the factors are off by
+-- an instant adds 7 units (two roundings of each demand, one of the deficit, saturation at both ends of the formula) and what the factors are
+-- off by
 abbrev pub instantUnits : ℕ
-instantUnits = 5
+instantUnits = 7
 
--- what a reach adds in all: to those ten the factors, off by 2^-28 and 2^-31 at most, add 4.51 units, and a bed 32.52
+-- what a reach adds in all: to those 14 the factors, off by 2^-28 and 2^-31 at most, add 4.51 units, nitrogenous BOD, off by 2^-30 of 2^30 units,
+-- one more, and a bed 32.52
 abbrev pub addedUnits : ℕ
-addedUnits = 48
+addedUnits = 53
 
--- two figures b and o lie near exact ones, with errors that together are at most e
-pub record Near (b bx o ox e : Fraction) : Type 0 where
+-- three figures b, n and o, two demands and oxygen, lie near exact ones, with errors that together are at most e
+pub record Near (b bx n nx o ox e : Fraction) : Type 0 where
   pub bod-error : Fraction
+  pub nitrogenous-error : Fraction
   pub oxygen-error : Fraction
   pub bod-near : Within b bx bod-error
+  pub nitrogenous-near : Within n nx nitrogenous-error
   pub oxygen-near : Within o ox oxygen-error
-  pub together : bod-error +ᶠ oxygen-error ≼ e
+  pub together : bod-error +ᶠ nitrogenous-error +ᶠ oxygen-error ≼ e
 
 -- ---- to a head
 
@@ -58,37 +62,60 @@ over-flow Q a b e p n =
       low = certify-over Q p (Q ∷ a ∷ b ∷ e ∷ (e ÷ Q) ∷ []) (ofℕ 1 ⋅ ÷-cancel-pos e p & no-equations) (slack (n .low)) (search quote depth 40 fits 9999) tt;
     }
 
--- the steps of a head, reported and exact; Qm is the flow before the take
-pub record HeadSteps (Qu Qm inflow s t u v w h c sx tx ux vx wx hx cx W₁ W₂ W₃ cs csx σ : Fraction) : Type 0 where
+-- the water at a head: Qm is the flow before the take
+pub record HeadWater (Qu Qm inflow : Fraction) : Type 0 where
   pub flowing : Positive Qm
   pub inflowing : Nonneg inflow
   pub upstream : Nonneg Qu
   pub flows : Qm ≈ Qu +ᶠ inflow
+
+-- the steps of a demand to a head, reported and exact: the feeders' sum s, its mean u and the head value h
+pub record DemandHead (Qu Qm s u h sx ux hx W₁ W₂ : Fraction) : Type 0 where
+  pub mean : Rounded Qu u s
+  pub mixed : Rounded Qm h (Qu *ᶠ u +ᶠ W₁ +ᶠ W₂)
+  pub exact-mean : Qu *ᶠ ux ≈ sx
+  pub exact-mixed : Qm *ᶠ hx ≈ Qu *ᶠ ux +ᶠ W₁ +ᶠ W₂
+
+-- the steps of oxygen likewise, with the dam between
+pub record OxygenHead (Qu Qm t v w c tx vx wx cx W₃ cs csx σ : Fraction) : Type 0 where
   pub saturation-low : cs ≼ csx
   pub saturation-high : csx ≼ cs +ᶠ ofℕ 1
-  pub bod-mean : Rounded Qu u s
-  pub oxygen-mean : Rounded Qu v t
+  pub mean : Rounded Qu v t
   pub dam : Dammed v cs σ w
-  pub bod-mixed : Rounded Qm h (Qu *ᶠ u +ᶠ W₁ +ᶠ W₂)
-  pub oxygen-mixed : Rounded Qm c (Qu *ᶠ w +ᶠ W₃)
-  pub exact-bod-mean : Qu *ᶠ ux ≈ sx
-  pub exact-oxygen-mean : Qu *ᶠ vx ≈ tx
+  pub mixed : Rounded Qm c (Qu *ᶠ w +ᶠ W₃)
+  pub exact-mean : Qu *ᶠ vx ≈ tx
   pub exact-dam : wx ≈ vx +ᶠ (csx -ᶠ vx) *ᶠ σ
-  pub exact-bod-mixed : Qm *ᶠ hx ≈ Qu *ᶠ ux +ᶠ W₁ +ᶠ W₂
-  pub exact-oxygen-mixed : Qm *ᶠ cx ≈ Qu *ᶠ wx +ᶠ W₃
+  pub exact-mixed : Qm *ᶠ cx ≈ Qu *ᶠ wx +ᶠ W₃
+
+-- what a demand at a head is off by, from what the feeders' sum is off by
+abbrev demandOff : (Qu Qm d : Fraction) → Fraction
+demandOff Qu Qm d = (d +ᶠ Qu +ᶠ Qm) ÷ Qm
+
+abbrev oxygenOff : (Qu Qm d : Fraction) → Fraction
+oxygenOff Qu Qm d = (d +ᶠ Qu +ᶠ Qu +ᶠ Qm) ÷ Qm
+
+demand-head-near : {Qu Qm inflow s u h sx ux hx W₁ W₂ d : Fraction} → HeadWater Qu Qm inflow → DemandHead Qu Qm s u h sx ux hx W₁ W₂ → Within s sx d → Within h hx (demandOff Qu Qm d)
+demand-head-near {Qu} {Qm} {inflow} {s} {u} {h} {sx} {ux} {hx} {W₁} {W₂} {d} q k n =
+    over-flow Qm h hx (d +ᶠ Qu +ᶠ Qm) (q .flowing) (rounded-near Qm h (Qu *ᶠ u +ᶠ W₁ +ᶠ W₂) hx (Qu *ᶠ ux +ᶠ W₁ +ᶠ W₂) (d +ᶠ Qu) (positive-nonneg (q .flowing)) (plus-same (Qu *ᶠ u +ᶠ W₁) (Qu *ᶠ ux +ᶠ W₁) W₂ (d +ᶠ Qu) (plus-same (Qu *ᶠ u) (Qu *ᶠ ux) W₁ (d +ᶠ Qu) (rounded-near Qu u s ux sx d (q .upstream) n (k .mean) (k .exact-mean)))) (k .mixed) (k .exact-mixed))
+
+oxygen-head-near : {Qu Qm inflow t v w c tx vx wx cx W₃ cs csx σ d : Fraction} → HeadWater Qu Qm inflow → OxygenHead Qu Qm t v w c tx vx wx cx W₃ cs csx σ → Within t tx d → Within c cx (oxygenOff Qu Qm d)
+oxygen-head-near {Qu} {Qm} {inflow} {t} {v} {w} {c} {tx} {vx} {wx} {cx} {W₃} {cs} {csx} {σ} {d} q k n =
+    over-flow Qm c cx (d +ᶠ Qu +ᶠ Qu +ᶠ Qm) (q .flowing) (rounded-near Qm c (Qu *ᶠ w +ᶠ W₃) cx (Qu *ᶠ wx +ᶠ W₃) (d +ᶠ Qu +ᶠ Qu) (positive-nonneg (q .flowing)) (plus-same (Qu *ᶠ w) (Qu *ᶠ wx) W₃ (d +ᶠ Qu +ᶠ Qu) (dam-near Qu v vx cs csx σ w wx d (q .upstream) (bound-nonneg (small n)) (k .saturation-low) (k .saturation-high) (k .dam) (k .exact-dam) (rounded-near Qu v t vx tx d (q .upstream) n (k .mean) (k .exact-mean)))) (k .mixed) (k .exact-mixed))
 
 -- from the feeders' feet, off by b together, to the head, off by b / Qm and what a head adds
-pub head-near : {Qu Qm inflow s t u v w h c sx tx ux vx wx hx cx W₁ W₂ W₃ cs csx σ b : Fraction} → HeadSteps Qu Qm inflow s t u v w h c sx tx ux vx wx hx cx W₁ W₂ W₃ cs csx σ → Near s sx t tx b → Near h hx c cx (b ÷ Qm +ᶠ ofℕ headUnits)
-head-near {Qu} {Qm} {inflow} {s} {t} {u} {v} {w} {h} {c} {sx} {tx} {ux} {vx} {wx} {hx} {cx} {W₁} {W₂} {W₃} {cs} {csx} {σ} {b} k n =
+pub head-near : {Qu Qm inflow s u h sx ux hx W₁ W₂ s′ u′ h′ sx′ ux′ hx′ W₁′ W₂′ t v w c tx vx wx cx W₃ cs csx σ b : Fraction} → HeadWater Qu Qm inflow → DemandHead Qu Qm s u h sx ux hx W₁ W₂ → DemandHead Qu Qm s′ u′ h′ sx′ ux′ hx′ W₁′ W₂′ → OxygenHead Qu Qm t v w c tx vx wx cx W₃ cs csx σ → Near s sx s′ sx′ t tx b → Near h hx h′ hx′ c cx (b ÷ Qm +ᶠ ofℕ headUnits)
+head-near {Qu} {Qm} {inflow} {b = b} q bod nitrogenous oxygen n =
     let d = n .bod-error in
+    let f = n .nitrogenous-error in
     let e = n .oxygen-error in
-    let Qm≥0 = positive-nonneg (k .flowing) in
     record {
-      bod-error = (d +ᶠ Qu +ᶠ Qm) ÷ Qm;
-      oxygen-error = (e +ᶠ Qu +ᶠ Qu +ᶠ Qm) ÷ Qm;
-      bod-near = over-flow Qm h hx (d +ᶠ Qu +ᶠ Qm) (k .flowing) (rounded-near Qm h (Qu *ᶠ u +ᶠ W₁ +ᶠ W₂) hx (Qu *ᶠ ux +ᶠ W₁ +ᶠ W₂) (d +ᶠ Qu) Qm≥0 (plus-same (Qu *ᶠ u +ᶠ W₁) (Qu *ᶠ ux +ᶠ W₁) W₂ (d +ᶠ Qu) (plus-same (Qu *ᶠ u) (Qu *ᶠ ux) W₁ (d +ᶠ Qu) (rounded-near Qu u s ux sx d (k .upstream) (n .bod-near) (k .bod-mean) (k .exact-bod-mean)))) (k .bod-mixed) (k .exact-bod-mixed));
-      oxygen-near = over-flow Qm c cx (e +ᶠ Qu +ᶠ Qu +ᶠ Qm) (k .flowing) (rounded-near Qm c (Qu *ᶠ w +ᶠ W₃) cx (Qu *ᶠ wx +ᶠ W₃) (e +ᶠ Qu +ᶠ Qu) Qm≥0 (plus-same (Qu *ᶠ w) (Qu *ᶠ wx) W₃ (e +ᶠ Qu +ᶠ Qu) (dam-near Qu v vx cs csx σ w wx e (k .upstream) (bound-nonneg (small (n .oxygen-near))) (k .saturation-low) (k .saturation-high) (k .dam) (k .exact-dam) (rounded-near Qu v t vx tx e (k .upstream) (n .oxygen-near) (k .oxygen-mean) (k .exact-oxygen-mean)))) (k .oxygen-mixed) (k .exact-oxygen-mixed));
-      together = certify-over Qm (k .flowing) (Qm ∷ Qu ∷ inflow ∷ b ∷ d ∷ e ∷ (b ÷ Qm) ∷ ((d +ᶠ Qu +ᶠ Qm) ÷ Qm) ∷ ((e +ᶠ Qu +ᶠ Qu +ᶠ Qm) ÷ Qm) ∷ []) (ofℕ 1 ⋅ ÷-cancel-pos b (k .flowing) & ofℕ 1 ⋅ ÷-cancel-pos (d +ᶠ Qu +ᶠ Qm) (k .flowing) & ofℕ 1 ⋅ ÷-cancel-pos (e +ᶠ Qu +ᶠ Qu +ᶠ Qm) (k .flowing) & ofℕ 3 ⋅ k .flows & no-equations) (slack (n .together) ⊞ number 3 ⊠ k .inflowing) (search quote depth 40 fits 9999) tt;
+      bod-error = demandOff Qu Qm d;
+      nitrogenous-error = demandOff Qu Qm f;
+      oxygen-error = oxygenOff Qu Qm e;
+      bod-near = demand-head-near q bod (n .bod-near);
+      nitrogenous-near = demand-head-near q nitrogenous (n .nitrogenous-near);
+      oxygen-near = oxygen-head-near q oxygen (n .oxygen-near);
+      together = certify-over Qm (q .flowing) (Qm ∷ Qu ∷ inflow ∷ b ∷ d ∷ f ∷ e ∷ (b ÷ Qm) ∷ demandOff Qu Qm d ∷ demandOff Qu Qm f ∷ oxygenOff Qu Qm e ∷ []) (ofℕ 1 ⋅ ÷-cancel-pos b (q .flowing) & ofℕ 1 ⋅ ÷-cancel-pos (d +ᶠ Qu +ᶠ Qm) (q .flowing) & ofℕ 1 ⋅ ÷-cancel-pos (f +ᶠ Qu +ᶠ Qm) (q .flowing) & ofℕ 1 ⋅ ÷-cancel-pos (e +ᶠ Qu +ᶠ Qu +ᶠ Qm) (q .flowing) & ofℕ 4 ⋅ q .flows & no-equations) (slack (n .together) ⊞ number 4 ⊠ q .inflowing) (search quote depth 40 fits 9999) tt;
     }
 
 -- ---- along a reach
@@ -105,35 +132,74 @@ share-small : {p S e : Fraction} → Nonneg p → Within p S e → Small S (p +�
 share-small {p} {S} {e} h w =
     small-by (ring (p ∷ S ∷ []) (search quote depth 40 fits 9999) tt) (sized h ⊞ˢ small-minus (small w))
 
--- an instant, reported and exact: shares, exact shares and their distances, head figures, the three rounded parts, and the loss to a bed
-pub record InstantSteps (p g r S₁ F S₂ e₁ e₂ ε δ L c cs csx B G R D T Tx τ : Fraction) : Type 0 where
-  pub shares : Shares p g r
-  pub left-near : Within p S₁ e₁
+-- A demand at an instant, reported and exact: its shares left and turned, near the exact ones; what is left and what has turned of its head
+-- value L in the program's digits, x and y, off by h₁ and h₂; and these rounded down, B and G.
+pub record DemandInstant (p g S F e₁ e₂ ε L x y h₁ h₂ η B G : Fraction) : Type 0 where
+  pub left-part : Nonneg p
+  pub turned-part : Nonneg g
+  pub part-of-one : p +ᶠ g ≼ ofℕ 1
+  pub left-near : Within p S e₁
   pub turned-near : Within g F e₂
+  pub factors-near : e₁ +ᶠ e₂ ≼ ε
+  pub left-value : Within x (S *ᶠ L) h₁
+  pub turned-value : Within y (F *ᶠ L) h₂
+  pub values-near : h₁ +ᶠ h₂ ≼ η
+  pub left-floored : Floored B x
+  pub turned-floored : Floored G y
+
+-- the deficit of the head and the loss to a bed likewise
+pub record OxygenInstant (r S₂ δ ε c cs csx R D T Tx τ : Fraction) : Type 0 where
+  pub kept-part : Nonneg r
+  pub kept-of-one : r ≼ ofℕ 1
   pub kept-near : Within r S₂ δ
   pub sharper : δ ≼ ε
-  pub factors-near : e₁ +ᶠ e₂ ≼ ε
-  pub bod-floored : Floored B (p *ᶠ L)
-  pub turned-floored : Floored G (g *ᶠ L)
   pub kept-floored : Floored R (r *ᶠ (cs -ᶠ c))
-  pub head-bod : Nonneg L
   pub head-deficit : Small (cs -ᶠ c) D
   pub saturation-near : Within cs csx (ofℕ 1)
   pub loss-near : Within T Tx τ
 
+-- a part of a figure L that is off by d, rounded down, against the exact share of the exact figure
+abbrev partOff : (p e h d : Fraction) → Fraction
+partOff p e h d = ofℕ 1 +ᶠ h +ᶠ (p +ᶠ e) *ᶠ d
+
+part-near : {p S e L Lx x h B d : Fraction} → Nonneg p → Within p S e → Within x (S *ᶠ L) h → Floored B x → Within L Lx d → Within B (S *ᶠ Lx) (partOff p e h d)
+part-near {p} {S} {e} {L} {Lx} {x} {h} {B} {d} pp n v f w =
+    near (p ∷ S ∷ e ∷ L ∷ Lx ∷ x ∷ h ∷ B ∷ d ∷ []) no-equations (floored-small f ⊞ˢ small v ⊞ˢ share-small pp n ⊠ˢ small w) (number 0) (search quote depth 40 fits 9999) tt (search quote depth 40 fits 9999) tt
+
+-- the deficit kept likewise: head oxygen is off by e, and saturation by a unit
+abbrev keptOff : (r δ D e : Fraction) → Fraction
+keptOff r δ D e = ofℕ 1 +ᶠ δ *ᶠ D +ᶠ (r +ᶠ δ) *ᶠ (ofℕ 1 +ᶠ e)
+
+kept-deficit-near : {r S₂ δ ε c cx cs csx R D T Tx τ e : Fraction} → OxygenInstant r S₂ δ ε c cs csx R D T Tx τ → Within c cx e → Within R (S₂ *ᶠ (csx -ᶠ cx)) (keptOff r δ D e)
+kept-deficit-near {r} {S₂} {δ} {ε} {c} {cx} {cs} {csx} {R} {D} {T} {Tx} {τ} {e} o n =
+    near (r ∷ S₂ ∷ δ ∷ c ∷ cx ∷ cs ∷ csx ∷ R ∷ D ∷ e ∷ []) no-equations (floored-small (o .kept-floored) ⊞ˢ small (o .kept-near) ⊠ˢ o .head-deficit ⊞ˢ share-small (o .kept-part) (o .kept-near) ⊠ˢ (small (o .saturation-near) ⊞ˢ small-minus (small n))) (number 0) (search quote depth 40 fits 9999) tt (search quote depth 40 fits 9999) tt
+
+-- saturation less four parts that are each near
+less-near : {cs csx σ G Gx a H Hx b R Rx k T Tx τ : Fraction} → Within cs csx σ → Within G Gx a → Within H Hx b → Within R Rx k → Within T Tx τ → Within (cs -ᶠ G -ᶠ R -ᶠ H -ᶠ T) (csx -ᶠ Gx -ᶠ Hx -ᶠ Rx -ᶠ Tx) (σ +ᶠ a +ᶠ b +ᶠ k +ᶠ τ)
+less-near {cs} {csx} {σ} {G} {Gx} {a} {H} {Hx} {b} {R} {Rx} {k} {T} {Tx} {τ} w g h r t =
+    near (cs ∷ csx ∷ σ ∷ G ∷ Gx ∷ a ∷ H ∷ Hx ∷ b ∷ R ∷ Rx ∷ k ∷ T ∷ Tx ∷ τ ∷ []) no-equations (small w ⊞ˢ small-minus (small g) ⊞ˢ small-minus (small h) ⊞ˢ small-minus (small r) ⊞ˢ small-minus (small t)) (number 0) (search quote depth 40 fits 9999) tt (search quote depth 40 fits 9999) tt
+
+-- both parts of a demand together are off by no more than the program's digits are, and its head value
+demand-room : {p g S F e₁ e₂ ε L x y h₁ h₂ η B G Lx d : Fraction} → DemandInstant p g S F e₁ e₂ ε L x y h₁ h₂ η B G → Within L Lx d → Nonneg (ofℕ 2 +ᶠ η +ᶠ (ofℕ 1 +ᶠ ε) *ᶠ d -ᶠ (partOff p e₁ h₁ d +ᶠ partOff g e₂ h₂ d))
+demand-room {p} {g} {S} {F} {e₁} {e₂} {ε} {L} {x} {y} {h₁} {h₂} {η} {B} {G} {Lx} {d} j w =
+    certify (p ∷ g ∷ e₁ ∷ e₂ ∷ ε ∷ h₁ ∷ h₂ ∷ η ∷ d ∷ []) (slack (j .values-near) ⊞ slack (j .factors-near) ⊠ bound-nonneg (small w) ⊞ slack (j .part-of-one) ⊠ bound-nonneg (small w)) (search quote depth 40 fits 9999) tt
+
 -- from a head whose figures are off by `off` together
-pub instant-near : {p g r S₁ F S₂ e₁ e₂ ε δ L c cs csx B G R D T Tx τ : Fraction} (Lx cx off : Fraction) → InstantSteps p g r S₁ F S₂ e₁ e₂ ε δ L c cs csx B G R D T Tx τ → Near L Lx c cx off
-    → Near B (Lx *ᶠ S₁) (cs -ᶠ G -ᶠ R -ᶠ T) (csx -ᶠ F *ᶠ Lx -ᶠ S₂ *ᶠ (csx -ᶠ cx) -ᶠ Tx) (ofℕ instantUnits +ᶠ δ +ᶠ ε *ᶠ L +ᶠ δ *ᶠ D +ᶠ τ +ᶠ (ofℕ 1 +ᶠ ε) *ᶠ off)
-instant-near {p} {g} {r} {S₁} {F} {S₂} {e₁} {e₂} {ε} {δ} {L} {c} {cs} {csx} {B} {G} {R} {D} {T} {Tx} {τ} Lx cx off k n =
+pub instant-near : {p g S F e₁ e₂ ε L x y h₁ h₂ η B G p′ g′ S′ F′ e₁′ e₂′ L′ x′ y′ h₁′ h₂′ η′ B′ G′ r S₂ δ c cs csx R D T Tx τ : Fraction} (Lx Lx′ cx off : Fraction) → DemandInstant p g S F e₁ e₂ ε L x y h₁ h₂ η B G → DemandInstant p′ g′ S′ F′ e₁′ e₂′ ε L′ x′ y′ h₁′ h₂′ η′ B′ G′ → OxygenInstant r S₂ δ ε c cs csx R D T Tx τ → Near L Lx L′ Lx′ c cx off
+    → Near B (Lx *ᶠ S) B′ (Lx′ *ᶠ S′) (cs -ᶠ G -ᶠ R -ᶠ G′ -ᶠ T) (csx -ᶠ F *ᶠ Lx -ᶠ F′ *ᶠ Lx′ -ᶠ S₂ *ᶠ (csx -ᶠ cx) -ᶠ Tx) (ofℕ instantUnits +ᶠ δ +ᶠ (η +ᶠ η′) +ᶠ δ *ᶠ D +ᶠ τ +ᶠ (ofℕ 1 +ᶠ ε) *ᶠ off)
+instant-near {p} {g} {S} {F} {e₁} {e₂} {ε} {L} {x} {y} {h₁} {h₂} {η} {B} {G} {p′} {g′} {S′} {F′} {e₁′} {e₂′} {L′} {x′} {y′} {h₁′} {h₂′} {η′} {B′} {G′} {r} {S₂} {δ} {c} {cs} {csx} {R} {D} {T} {Tx} {τ} Lx Lx′ cx off j k o n =
     let d = n .bod-error in
+    let d′ = n .nitrogenous-error in
     let e = n .oxygen-error in
-    let pε = ≼-trans (bound-nonneg (small (k .kept-near))) (k .sharper) in
+    let pε = ≼-trans (bound-nonneg (small (o .kept-near))) (o .sharper) in
     record {
-      bod-error = ofℕ 1 +ᶠ e₁ *ᶠ L +ᶠ (p +ᶠ e₁) *ᶠ d;
-      oxygen-error = ofℕ 1 +ᶠ ofℕ 1 +ᶠ e₂ *ᶠ L +ᶠ (g +ᶠ e₂) *ᶠ d +ᶠ ofℕ 1 +ᶠ δ *ᶠ D +ᶠ (r +ᶠ δ) *ᶠ (ofℕ 1 +ᶠ e) +ᶠ τ;
-      bod-near = near (p ∷ S₁ ∷ e₁ ∷ L ∷ Lx ∷ B ∷ d ∷ []) no-equations (floored-small (k .bod-floored) ⊞ˢ small (k .left-near) ⊠ˢ sized (k .head-bod) ⊞ˢ share-small (k .shares .left-part) (k .left-near) ⊠ˢ small (n .bod-near)) (number 0) (search quote depth 40 fits 9999) tt (search quote depth 40 fits 9999) tt;
-      oxygen-near = near (g ∷ r ∷ F ∷ S₂ ∷ e₂ ∷ δ ∷ L ∷ Lx ∷ c ∷ cx ∷ cs ∷ csx ∷ G ∷ R ∷ D ∷ d ∷ e ∷ T ∷ Tx ∷ τ ∷ []) no-equations (small (k .saturation-near) ⊞ˢ small-minus (floored-small (k .turned-floored)) ⊞ˢ small-minus (small (k .turned-near)) ⊠ˢ sized (k .head-bod) ⊞ˢ small-minus (share-small (k .shares .turned-part) (k .turned-near)) ⊠ˢ small (n .bod-near) ⊞ˢ small-minus (floored-small (k .kept-floored)) ⊞ˢ small-minus (small (k .kept-near)) ⊠ˢ k .head-deficit ⊞ˢ small-minus (share-small (k .shares .kept-part) (k .kept-near)) ⊠ˢ (small (k .saturation-near) ⊞ˢ small-minus (small (n .oxygen-near))) ⊞ˢ small-minus (small (k .loss-near))) (number 0) (search quote depth 40 fits 9999) tt (search quote depth 40 fits 9999) tt;
-      together = certify (p ∷ g ∷ r ∷ e₁ ∷ e₂ ∷ ε ∷ δ ∷ L ∷ D ∷ τ ∷ d ∷ e ∷ off ∷ []) (slack (k .shares .kept-of-one) ⊠ (number 1 ⊞ bound-nonneg (small (n .oxygen-near))) ⊞ slack (k .sharper) ⊠ bound-nonneg (small (n .oxygen-near)) ⊞ slack (k .factors-near) ⊠ (k .head-bod ⊞ bound-nonneg (small (n .bod-near))) ⊞ slack (k .shares .bod-of-one) ⊠ bound-nonneg (small (n .bod-near)) ⊞ (number 1 ⊞ pε) ⊠ slack (n .together)) (search quote depth 40 fits 9999) tt;
+      bod-error = partOff p e₁ h₁ d;
+      nitrogenous-error = partOff p′ e₁′ h₁′ d′;
+      oxygen-error = ofℕ 1 +ᶠ partOff g e₂ h₂ d +ᶠ partOff g′ e₂′ h₂′ d′ +ᶠ keptOff r δ D e +ᶠ τ;
+      bod-near = within-by (≈-refl B) (*ᶠ-comm Lx S) (part-near (j .left-part) (j .left-near) (j .left-value) (j .left-floored) (n .bod-near));
+      nitrogenous-near = within-by (≈-refl B′) (*ᶠ-comm Lx′ S′) (part-near (k .left-part) (k .left-near) (k .left-value) (k .left-floored) (n .nitrogenous-near));
+      oxygen-near = less-near (o .saturation-near) (part-near (j .turned-part) (j .turned-near) (j .turned-value) (j .turned-floored) (n .bod-near)) (part-near (k .turned-part) (k .turned-near) (k .turned-value) (k .turned-floored) (n .nitrogenous-near)) (kept-deficit-near o (n .oxygen-near)) (o .loss-near);
+      together = certify (p ∷ g ∷ e₁ ∷ e₂ ∷ h₁ ∷ h₂ ∷ η ∷ d ∷ p′ ∷ g′ ∷ e₁′ ∷ e₂′ ∷ h₁′ ∷ h₂′ ∷ η′ ∷ d′ ∷ r ∷ ε ∷ δ ∷ D ∷ τ ∷ e ∷ off ∷ []) (slack (o .kept-of-one) ⊠ (number 1 ⊞ bound-nonneg (small (n .oxygen-near))) ⊞ slack (o .sharper) ⊠ bound-nonneg (small (n .oxygen-near)) ⊞ demand-room j (n .bod-near) ⊞ demand-room k (n .nitrogenous-near) ⊞ (number 1 ⊞ pε) ⊠ slack (n .together)) (search quote depth 40 fits 9999) tt;
     }
 
 -- a bed's share of its loss in the end, off by δ as the deficit left is, against the exact one: that loss is rounded down, and so is its share
@@ -152,8 +218,8 @@ linear-near {a} {t} {tx} {T} pa a1 ft fT =
 -- units that cover what a reach adds to the error a that is carried to it: at its head, and at an instant while a is at most 1 mg/L
 pub head-adds : (a units : Fraction) → ofℕ addedUnits ≼ units → a +ᶠ ofℕ headUnits ≼ units +ᶠ a
 head-adds a units h =
-    certify (a ∷ units ∷ []) (slack h ⊞ number 43) (search quote depth 40 fits 9999) tt
+    certify (a ∷ units ∷ []) (slack h ⊞ number 46) (search quote depth 40 fits 9999) tt
 
-pub reach-adds : (ε δ L τ a units : Fraction) → Nonneg δ → ofℕ 2_147_483_648 *ᶠ δ ≈ ofℕ 1 → ε ≈ ofℕ 8 *ᶠ δ → L ≼ ofℕ 1_000_000_000 → τ ≼ ofℕ 2 +ᶠ δ *ᶠ ofℕ 65_535_000_001 → a ≼ ofℕ 1_000_000 → ofℕ addedUnits ≼ units → ofℕ instantUnits +ᶠ δ +ᶠ ε *ᶠ L +ᶠ δ *ᶠ ofℕ 1_660_000_000 +ᶠ τ +ᶠ (ofℕ 1 +ᶠ ε) *ᶠ (a +ᶠ ofℕ headUnits) ≼ units +ᶠ a
+pub reach-adds : (ε δ L τ a units : Fraction) → Nonneg δ → ofℕ 2_147_483_648 *ᶠ δ ≈ ofℕ 1 → ε ≈ ofℕ 8 *ᶠ δ → L ≼ ofℕ 1_000_000_000 → τ ≼ ofℕ 2 +ᶠ δ *ᶠ ofℕ 65_535_000_001 → a ≼ ofℕ 1_000_000 → ofℕ addedUnits ≼ units → ofℕ instantUnits +ᶠ δ +ᶠ (ε *ᶠ L +ᶠ ofℕ 1) +ᶠ δ *ᶠ ofℕ 1_660_000_000 +ᶠ τ +ᶠ (ofℕ 1 +ᶠ ε) *ᶠ (a +ᶠ ofℕ headUnits) ≼ units +ᶠ a
 reach-adds ε δ L τ a units p e e′ hL hτ ha hu =
-    certify-by (ε ∷ δ ∷ L ∷ τ ∷ a ∷ units ∷ []) (ofℕ 36 ⋅ e & (L +ᶠ a +ᶠ ofℕ headUnits) ⋅ e′ & no-equations) (slack hu ⊞ slack hτ ⊞ p ⊠ (number 8 ⊠ (slack hL ⊞ slack ha) ⊞ number 2_106_411_286)) (search quote depth 40 fits 9999) tt
+    certify-by (ε ∷ δ ∷ L ∷ τ ∷ a ∷ units ∷ []) (ofℕ 36 ⋅ e & (L +ᶠ a +ᶠ ofℕ headUnits) ⋅ e′ & no-equations) (slack hu ⊞ slack hτ ⊞ p ⊠ (number 8 ⊠ (slack hL ⊞ slack ha) ⊞ number 2_106_411_270)) (search quote depth 40 fits 9999) tt

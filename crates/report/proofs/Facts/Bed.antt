@@ -17,6 +17,7 @@ use Rattle.decay.proofs.Accuracy.{accuracy}
 use Rattle.decay.proofs.Algebra.{quote, ring-by, certify, certify-over, number, _⋅_, _&_, none as no-equations, ≈-refl, ≈-sym, ≈-trans, +ᶠ-cong, *ᶠ-cong, ≼-of-≈, ≼-antisym, ofℕ-≈, ofℕ-sub, ofℕ-+, ofℕ-*, positive-whole, ÷-cancel-pos, ÷-reciprocal, ÷-nonneg, ÷-cong, floor-low, floor-high, Within, within-by, within-weaken, within→distance, distance→within}
 use Rattle.river.specs.declared.card.Card.{Card}
 use Rattle.river.specs.Flow.{Feeders, sludgeOf, reachFlow}
+use Rattle.river.specs.declared.source.Demand.the-variants.{Bod}
 use Rattle.river.proofs.flow.Take.{flow-remains}
 use Rattle.report.specs.Bed.{bedBy, bedOf, lossWith}
 use Rattle.report.specs.Program.{factorsAlong, lossAlong}
@@ -84,9 +85,9 @@ eventual-loss s k kept S₂ p h n =
     (≼-of-≈ (+ᶠ-cong (≈-refl (ofℕ 2)) (*ᶠ-cong (≈-refl deficitDistance) (≈-sym (ofℕ-+ c 1)))))
 
 module _ {N : ℕ} (long : 40 ≤ N) {card : Card} {up : Feeders} (own : AcceptedReach card up) where
-  exact-kept : (m : ℕ) → m ≤ foot → distance (share ((factorsAlong card (reachFlow card up) m) .kept)) (S N (exponent (card .k2) (card .volume) (reachFlow card up) m)) ≼ deficitDistance
+  pub kept-accurate : (m : ℕ) → m ≤ foot → distance (share ((factorsAlong card (reachFlow card up) m) .kept)) (S N (exponent (card .k2) (card .volume) (reachFlow card up) m)) ≼ deficitDistance
   unfolding factorsAlong
-  exact-kept m l = accuracy long l (rates-pass own) .deficit-near
+  kept-accurate m l = accuracy long l (rates-pass own Bod) .deficit-near
 
   -- at every instant the loss to a bed is near the exact one
   pub loss-is-near : (m : ℕ) → m ≤ foot → Within (ofℕ (lossAlong card (reachFlow card up) m)) (exactLoss N card (reachFlow card up) m) (lossDistance card (reachFlow card up))
@@ -109,7 +110,7 @@ module _ {N : ℕ} (long : 40 ≤ N) {card : Card} {up : Feeders} (own : Accepte
       S₂ = S N (exponent (card .k2) (card .volume) Q m)
 
       near-deficit : distance (share kept) S₂ ≼ deficitDistance
-      near-deficit = exact-kept m l
+      near-deficit = kept-accurate m l
 
       by-case : (t : Bool) → eqb (card .k2) 0 ≡ t → Within (ofℕ (product (one - kept) (bed t .eventual) + bed t .linear * m / foot)) (ofℕ 1_000_000 *ᶠ cond t (ofℕ (s * card .volume * m) ÷ ofℕ (86_400 * 1_024 * Q)) (ofℕ s *ᶠ (ofℕ 1 -ᶠ S₂) ÷ ofℕ (card .k2))) (ofℕ 2 +ᶠ deficitDistance *ᶠ ofℕ (bed t .eventual + 1))
       by-case true e =

@@ -1,4 +1,5 @@
 -- The exact recurrence as equations of fractions: each mean, the dam and each mixing times the flow that it is divided by.
+use mathlib.Core.Path.{_≡_}
 use mathlib.Core.Bool.{Bool, true, false}
 use mathlib.Core.List.{[], _∷_}
 use Prim.Native.Nat.{ℕ, _+_, _*_, _-_, _<_}
@@ -8,10 +9,11 @@ use Rattle.decay.proofs.Algebra.{ring, ring-by, quote, _⋅_, _&_, none as no-e
 use Rattle.river.specs.declared.card.Dam.{Dam}
 use Rattle.river.specs.declared.card.Dam.the-variants.{Absent, Aerating}
 use Rattle.river.specs.declared.card.Card.{Card}
+use Rattle.river.specs.declared.source.Demand.{Demand}
 use Rattle.river.specs.declared.source.Source.{Source}
 use Rattle.river.specs.Flow.{Feeders, more, fed, flowOf}
 use Rattle.river.specs.Saturation.{saturation, saturationThousandths, pressureOf, saturationOf}
-use Rattle.report.specs.Recurrence.{exactSaturation, exactMean, exactAerated, exactBelowDam, exactMixedDemand, exactMixedOxygen, exactBodSum, exactOxygenSum}
+use Rattle.report.specs.Recurrence.{exactSaturation, exactMean, exactAerated, exactBelowDam, exactMixedDemand, exactMixedOxygen, exactDemandSum, exactOxygenSum}
 use Rattle.report.proofs.Forest.{AllAccepted, no-more, one-more}
 use Rattle.report.proofs.Facts.Head.{feeders-flow, damPart}
 
@@ -34,11 +36,11 @@ unfolding exactMean
 mean-fed Qu sum p = times sum Qu p
 
 module _ (N : ℕ) where
-  pub exact-bod-mean : {up : Feeders} → AllAccepted up → ofℕ (flowOf up) *ᶠ exactMean (fed up) (flowOf up) (exactBodSum N up) ≈ exactBodSum N up
-  unfolding fed flowOf exactMean exactBodSum
-  exact-bod-mean no-more = ring [] (search quote depth 40 fits 9999) tt
-  exact-bod-mean (one-more {card} {up} {rest} own above others) =
-      mean-fed (flowOf (more card up rest)) (exactBodSum N (more card up rest)) (feeders-flow (one-more own above others))
+  pub exact-demand-mean : (d : Demand) {up : Feeders} → AllAccepted up → ofℕ (flowOf up) *ᶠ exactMean (fed up) (flowOf up) (exactDemandSum N d up) ≈ exactDemandSum N d up
+  unfolding fed flowOf exactMean exactDemandSum
+  exact-demand-mean d no-more = ring [] (search quote depth 40 fits 9999) tt
+  exact-demand-mean d (one-more {card} {up} {rest} own above others) =
+      mean-fed (flowOf (more card up rest)) (exactDemandSum N d (more card up rest)) (feeders-flow (one-more own above others))
 
   pub exact-oxygen-mean : {up : Feeders} → AllAccepted up → ofℕ (flowOf up) *ᶠ exactMean (fed up) (flowOf up) (exactOxygenSum N up) ≈ exactOxygenSum N up
   unfolding fed flowOf exactMean exactOxygenSum
@@ -65,9 +67,9 @@ exact-below-dam card false Qu C =
 exact-below-dam card true Qu C = exact-aerated (card .dam) (exactSaturation card) Qu C
 
 -- mixing times Qm
-pub exact-demand-mixed : (source : Source) (Qu : ℕ) (upstream : Fraction) → 0 < Qu + source .inflow → ofℕ (Qu + source .inflow) *ᶠ exactMixedDemand source Qu upstream ≈ ofℕ Qu *ᶠ upstream +ᶠ ofℕ (1000 * source .inflow * source .concentration) +ᶠ ofℕ (1000000 * source .load)
+pub exact-demand-mixed : (source : Source) (Qu : ℕ) (upstream : Fraction) {Qm : ℕ} → Qm ≡ Qu + source .inflow → 0 < Qm → ofℕ Qm *ᶠ exactMixedDemand source Qu upstream ≈ ofℕ Qu *ᶠ upstream +ᶠ ofℕ (1000 * source .inflow * source .concentration) +ᶠ ofℕ (1000000 * source .load)
 unfolding exactMixedDemand
-exact-demand-mixed source Qu upstream p = times (ofℕ Qu *ᶠ upstream +ᶠ ofℕ (1000 * source .inflow * source .concentration) +ᶠ ofℕ (1000000 * source .load)) (Qu + source .inflow) p
+exact-demand-mixed source Qu upstream e p = rw e (times (ofℕ Qu *ᶠ upstream +ᶠ ofℕ (1000 * source .inflow * source .concentration) +ᶠ ofℕ (1000000 * source .load)) (Qu + source .inflow) (rw e at p))
 
 pub exact-oxygen-mixed : (card : Card) (Qu : ℕ) (upstream : Fraction) → 0 < Qu + card .inflow → ofℕ (Qu + card .inflow) *ᶠ exactMixedOxygen card Qu upstream ≈ ofℕ Qu *ᶠ upstream +ᶠ ofℕ (1000 * card .inflow * card .«inflow_oxygen»)
 unfolding exactMixedOxygen

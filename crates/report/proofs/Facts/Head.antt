@@ -1,4 +1,5 @@
 -- The head of an accepted reach as inequalities of fractions: each mean, the dam and each mixing is a quotient rounded down.
+use mathlib.Core.Path.{_≡_, sym, ap}
 use mathlib.Core.Bool.{Bool, true, false}
 use mathlib.Core.List.{List, [], _∷_}
 use Prim.Native.Nat.{ℕ, _+_, _*_, _-_, _≤_, _<_}
@@ -10,13 +11,16 @@ use Rattle.decay.proofs.Algebra.{Nonneg, quote, slack, number, _⊞_, multiple,
 use Rattle.river.specs.declared.card.Dam.{Dam}
 use Rattle.river.specs.declared.card.Dam.the-variants.{Absent, Aerating}
 use Rattle.river.specs.declared.card.Card.{Card}
+use Rattle.river.specs.declared.source.Demand.{Demand}
 use Rattle.river.specs.declared.source.Source.{Source}
 use Rattle.river.specs.Card.{LawfulDam}
 use Rattle.river.specs.Flow.{Feeders, more, fed, flowOf}
 use Rattle.river.proofs.flow.Take.{flow-remains}
+use Rattle.river.specs.Source.{sourceOf}
+use Rattle.river.proofs.source.Ranges.{source-inflow}
 use Rattle.river.specs.Saturation.{saturationOf}
 use Rattle.river.specs.Head.{floor, upstreamDemand, upstreamOxygen, aerated, belowDam, mixedDemand, mixedOxygen}
-use Rattle.report.specs.Program.{bodSum, oxygenSum}
+use Rattle.report.specs.Program.{demandSum, oxygenSum}
 use Rattle.report.proofs.Facts.Floor.{Rounded, floor-rounded, ofℤ-sub}
 use Rattle.report.proofs.Forest.{AllAccepted, no-more, one-more}
 
@@ -40,15 +44,15 @@ unfolding flowOf
 feeders-flow (one-more own above others) = omega (arith, flow-remains (own .flows))
 
 -- the means of the feeders' feet
-bod-mean-fed : (Qu sum : ℕ) → 0 < Qu → Rounded (ofℕ Qu) (ofℕ (upstreamDemand true Qu sum)) (ofℕ sum)
+demand-mean-fed : (Qu sum : ℕ) → 0 < Qu → Rounded (ofℕ Qu) (ofℕ (upstreamDemand true Qu sum)) (ofℕ sum)
 unfolding upstreamDemand floor
-bod-mean-fed Qu sum p = floor-rounded (pos sum) Qu p
+demand-mean-fed Qu sum p = floor-rounded (pos sum) Qu p
 
-pub bod-mean : {up : Feeders} → AllAccepted up → Rounded (ofℕ (flowOf up)) (ofℕ (upstreamDemand (fed up) (flowOf up) (bodSum up))) (ofℕ (bodSum up))
-unfolding fed flowOf bodSum upstreamDemand
-bod-mean no-more = zero-rounded
-bod-mean (one-more {card} {up} {rest} own above others) =
-    bod-mean-fed (flowOf (more card up rest)) (bodSum (more card up rest)) (feeders-flow (one-more own above others))
+pub demand-mean : (d : Demand) {up : Feeders} → AllAccepted up → Rounded (ofℕ (flowOf up)) (ofℕ (upstreamDemand (fed up) (flowOf up) (demandSum d up))) (ofℕ (demandSum d up))
+unfolding fed flowOf demandSum upstreamDemand
+demand-mean d no-more = zero-rounded
+demand-mean d (one-more {card} {up} {rest} own above others) =
+    demand-mean-fed (flowOf (more card up rest)) (demandSum d (more card up rest)) (feeders-flow (one-more own above others))
 
 oxygen-mean-fed : (Qu : ℕ) (sum : ℤ) → 0 < Qu → Rounded (ofℕ Qu) (ofℤ (upstreamOxygen true Qu sum)) (ofℤ sum)
 unfolding upstreamOxygen
@@ -137,13 +141,17 @@ rounded-by {flow} {quotient} {a} {b} e r =
       high = ≼-trans (≼-of-≈ (≈-sym e)) (r .high);
     }
 
+-- every demand comes in with the inflow of the reach
+pub source-flow : (d : Demand) (card : Card) (Qu : ℕ) → Qu + card .inflow ≡ Qu + sourceOf d card .inflow
+source-flow d card Qu = ap (λ (n : ℕ). Qu + n) (sym (source-inflow d card))
+
 -- mixing with inflow and load
-pub demand-mixed : (source : Source) (Qu upstream : ℕ) → 0 < Qu + source .inflow → Rounded (ofℕ (Qu + source .inflow)) (ofℕ (mixedDemand source Qu upstream)) (ofℕ Qu *ᶠ ofℕ upstream +ᶠ ofℕ (1000 * source .inflow * source .concentration) +ᶠ ofℕ (1000000 * source .load))
+pub demand-mixed : (source : Source) (Qu upstream : ℕ) {Qm : ℕ} → Qm ≡ Qu + source .inflow → 0 < Qm → Rounded (ofℕ Qm) (ofℕ (mixedDemand source Qu upstream)) (ofℕ Qu *ᶠ ofℕ upstream +ᶠ ofℕ (1000 * source .inflow * source .concentration) +ᶠ ofℕ (1000000 * source .load))
 unfolding floor
-demand-mixed source Qu upstream p =
+demand-mixed source Qu upstream e p =
     let a = 1000 * source .inflow * source .concentration in
     let b = 1000000 * source .load in
-    rounded-by (≈-trans (ofℕ-+₃ (Qu * upstream) a b) (+ᶠ-cong (+ᶠ-cong (ofℕ-* Qu upstream) (≈-refl (ofℕ a))) (≈-refl (ofℕ b)))) (floor-rounded (pos (Qu * upstream + a + b)) (Qu + source .inflow) p)
+    rw e (rounded-by (≈-trans (ofℕ-+₃ (Qu * upstream) a b) (+ᶠ-cong (+ᶠ-cong (ofℕ-* Qu upstream) (≈-refl (ofℕ a))) (≈-refl (ofℕ b)))) (floor-rounded (pos (Qu * upstream + a + b)) (Qu + source .inflow) (rw e at p)))
 
 pub oxygen-mixed : (card : Card) (Qu : ℕ) (upstream : ℤ) → 0 < Qu + card .inflow → Rounded (ofℕ (Qu + card .inflow)) (ofℤ (mixedOxygen card Qu upstream)) (ofℕ Qu *ᶠ ofℤ upstream +ᶠ ofℕ (1000 * card .inflow * card .«inflow_oxygen»))
 oxygen-mixed card Qu upstream p =

@@ -8,17 +8,18 @@ use Rattle.decay.specs.Fraction.{_≈_, _≼_, ofℕ, ofℤ, _+ᶠ_, -ᶠ_, _*�
 use Rattle.decay.specs.Exact.{foot, exponent, power, factorial, term, sum, S, F}
 use Rattle.decay.specs.Fixed.{one, product, quotient}
 use Rattle.decay.specs.Step.{exponentOf, termOf, nextTerms, termsAt, termAt, withTerm, sumOf, countFrom, seriesOf, stepOf}
-use Rattle.decay.specs.Factors.{headFactors, nextFactors, factorsAt}
+use Rattle.decay.specs.Factors.{demandFrom, headFactors, nextFactors, factorsAt}
 use Rattle.decay.specs.declared.factors.Factors.{Factors}
 use Rattle.river.specs.declared.card.Card.{Card}
 use Rattle.river.specs.declared.card.Dam.the-variants.{Absent}
+use Rattle.river.specs.declared.card.Nitrification.the-variants.{Idle}
 use Rattle.river.specs.declared.card.Amount.the-variants.{Without, Given}
 use Rattle.river.specs.Flow.{none, fed, flowOf, reachFlow}
 use Rattle.river.specs.Saturation.{saturation, saturationThousandths, saturationOf}
 use Rattle.river.specs.Head.{floor, upstreamDemand, upstreamOxygen, belowDam, headDemand, headOxygen}
 use Rattle.report.specs.Bed.{bedBy, bedOf, lossWith}
-use Rattle.report.specs.Program.{oxygenWith, factorsAlong, lossAlong, oxygenAlong, bodSum, oxygenSum, bodAtHead, oxygenAtHead, oxygenAt}
-use Rattle.report.specs.Recurrence.{exactSaturation, exactMean, exactBelowDam, exactMixedDemand, exactMixedOxygen, exactHeadDemand, exactHeadOxygen, exactLoss, exactOxygenAlong, exactBodSum, exactOxygenSum, exactBodAtHead, exactOxygenAtHead, exactOxygenAt}
+use Rattle.report.specs.Program.{oxygenWith, factorsAlong, partsAlong, lossAlong, turnedAlong, oxygenAlong, demandSum, oxygenSum, demandAtHead, oxygenAtHead, oxygenAt}
+use Rattle.report.specs.Recurrence.{exactSaturation, exactMean, exactBelowDam, exactMixedDemand, exactMixedOxygen, exactHeadDemand, exactHeadOxygen, exactLoss, exactTurnedAlong, exactOxygenAlong, exactDemandSum, exactOxygenSum, exactDemandAtHead, exactOxygenAtHead, exactOxygenAt}
 
 -- the reach, by its rate k2; no BOD comes into it, and its oxygen is 14 mg/L
 abbrev reach : (k2 : ℕ) → Card
@@ -37,6 +38,7 @@ reach k2 =
       take = Given 10_000;
       pressure = Without;
       sludge = Given 2_000;
+      nitrification = Idle;
     }
 
 abbrev flow : (k2 : ℕ) → ℕ
@@ -64,7 +66,7 @@ pub record Rows : Type 0 where
 
 -- THEOREM: these losses, a row each
 pub rows : Rows
-unfolding bedBy bedOf lossWith lossAlong factorsAlong factorsAt nextFactors headFactors stepOf exponentOf quotient product termOf nextTerms termsAt termAt withTerm sumOf countFrom seriesOf oxygenAt oxygenAlong oxygenWith bodAtHead oxygenAtHead headDemand headOxygen upstreamDemand upstreamOxygen belowDam floor bodSum oxygenSum saturationOf saturation saturationThousandths flowOf fed exactLoss ofℤ _+ᶠ_ -ᶠ_ _*ᶠ_ _÷_ over exponent power factorial term sum S F exactSaturation exactMean exactBelowDam exactMixedDemand exactMixedOxygen exactHeadDemand exactHeadOxygen exactOxygenAlong exactBodSum exactOxygenSum exactBodAtHead exactOxygenAtHead exactOxygenAt
+unfolding bedBy bedOf lossWith lossAlong factorsAlong factorsAt nextFactors headFactors demandFrom stepOf exponentOf quotient product termOf nextTerms termsAt termAt withTerm sumOf countFrom seriesOf oxygenAt oxygenAlong oxygenWith turnedAlong partsAlong demandAtHead oxygenAtHead headDemand headOxygen upstreamDemand upstreamOxygen belowDam floor demandSum oxygenSum saturationOf saturation saturationThousandths flowOf fed exactLoss ofℤ _+ᶠ_ -ᶠ_ _*ᶠ_ _÷_ over exponent power factorial term sum S F exactSaturation exactMean exactBelowDam exactMixedDemand exactMixedOxygen exactHeadDemand exactHeadOxygen exactTurnedAlong exactOxygenAlong exactDemandSum exactOxygenSum exactDemandAtHead exactOxygenAtHead exactOxygenAt
 rows =
     record {
       linear-bed = refl;

@@ -1,42 +1,47 @@
--- The head, the line and the foot of reach i + 1 of an accepted river, from the tables of flows and feet.
+-- The head, the line and the foot of a reach of an accepted river, from the tables of flows and feet and from what is handed on of them.
 -- Assumes nothing.
-use mathlib.Core.Path.{_≡_, refl, sym, ap, ap₂, _∙_, subst}
+use mathlib.Core.Path.{_≡_, refl, sym, ap, _∙_, subst}
 use mathlib.Core.List.{List, [], _∷_}
 use Prim.Native.Nat.{ℕ, suc, _+_, _-_, _*_, _≤_, _<_}
-use native.Mathlib.Nat.{le-refl, le-trans, not-suc-le-zero, mul-le-mul-left}
+use native.Mathlib.Nat.{le-refl, not-suc-le-zero}
 use native.Mathlib.Numerals.{add-one}
 use native.Mathlib.Omega.{arith}
 use native.Mathlib.Decide.{decLe}
-use lib.Dec.{leb→le}
+use lib.Dec.{ltb, leb→le}
 use lib.IntN.{ℤ, pos, negsuc, subℕ}
 use lib.Signed.{_≤ℤ_}
-use lib.ListN.{length, getD, set}
+use lib.ListN.{length, getD}
+use lib.Seq.{sets}
 use Rattle.decay.specs.Fraction.{_≼_, ofℕ, ofℤ, _+ᶠ_}
-use Rattle.decay.specs.Step.{RatesPass}
 use Rattle.decay.proofs.Algebra.{quote, certify, slack, number, _⊞_, multiple, ≈-trans, ofℤ-≈, ofℕ-reflect}
 use Rattle.river.specs.declared.card.Card.{Card}
 use Rattle.river.specs.declared.flow.FlowTable.{FlowTable}
+use Rattle.river.specs.declared.head.Brought.{Brought}
 use Rattle.river.specs.declared.head.FootTable.{FootTable}
 use Rattle.river.specs.declared.head.Head.{Head}
-use Rattle.river.specs.Saturation.{SaturationInRange}
-use Rattle.river.specs.Card.{Lawful, blank}
-use Rattle.river.specs.Flow.{feedersAmong, fed, flowOf, reachFlow, flowAt, massAt, depthAt, Flows}
-use Rattle.river.specs.Head.{headBod, headOxygen}
+use Rattle.river.specs.declared.source.Demand.{Demand}
+use Rattle.river.specs.declared.source.Demand.the-variants.{Bod, Nitrogenous}
+use Rattle.river.specs.Card.{blank}
+use Rattle.river.specs.Source.{sourceOf}
+use Rattle.river.specs.Flow.{Feeders, flowLimit, takeOf, cardOf, above, feedersAmong, fed, flowOf, reachFlow, flowAt, depthAt}
+use Rattle.river.specs.FlowTable.{feederSum}
+use Rattle.river.specs.Head.{headDemand, headOxygen}
+use Rattle.river.specs.HeadTable.{noFeet, footOf, withFoot, HeadInput, HeadOf, FootWithin, HeadTabled}
+use Rattle.river.specs.Stored.{storedZero, oxygenOf, storedOf}
 use Rattle.river.proofs.head.Offset.{sub-pos, sub-neg, minus}
-use Rattle.river.proofs.flow.Take.{flow-within}
 use Rattle.river.proofs.flow.Table.{entered, Adds, TableOf, sum-of-feeders}
-use Rattle.river.proofs.head.Feet.{AddsFlowTimes, StoredTable, oxygen-of-feeders, carried-none, carried-next}
-use Rattle.report.specs.Bed.{BedPasses, lossLimit}
-use Rattle.report.specs.Program.{bodSum, oxygenSum, bodAtHead, oxygenAtHead, bodAt, oxygenAt, figuresBelow, figuresOf, figuresAt, foot}
-use Rattle.report.specs.Record.{figuresIn, Figures}
+use Rattle.river.proofs.head.Feet.{AddsFlowTimes, StoredTable, oxygen-of-feeders, foot-within, carried-none, carried-next}
+use Rattle.river.proofs.head.Heads.{fedBy, quBy, sumsBy, flow-bounded, fed-here, flow-asked, qu-here, head-input, head-within}
+use Rattle.report.specs.Bed.{lossLimit}
+use Rattle.report.specs.Program.{demandSum, oxygenSum, demandAtHead, oxygenAtHead, demandAt, oxygenAt, figuresBelow, figuresOf, figuresAt, foot}
+use Rattle.report.specs.Ties.{footFigure}
+use Rattle.report.specs.Record.{hasNitrification, encodeRecord, figuresIn, Figures}
 use Rattle.report.specs.declared.record.Line.{Line}
-use Rattle.report.specs.Lines.{Ready, FeetOf, LineOf, LineAt}
+use Rattle.report.specs.Lines.{LineReady, HeadFits, footBy, Ready, FeetOf, LineOf, LineAt, ReachReported}
 use Rattle.report.proofs.Facts.Floor.{ofℤ-sub}
 use Rattle.report.proofs.Bounds.{mostBelow}
 use Rattle.report.proofs.Forest.{rates-pass, bed-passes, reach-accepted}
 use Rattle.report.proofs.River.{IsRiver, head-in-range, instant-in-range, reach-tied}
-use Rattle.river.specs.Stored.{storedZero, oxygenOf, storedOf}
-use Rattle.river.specs.HeadTable.{demandLimit, HeadInput, HeadAt, HeadOf}
 
 -- stored oxygen is back where it was
 pub stored-back : (z : ℤ) → negsuc 1_640_000_383 ≤ℤ z → oxygenOf (storedOf z) ≡ z
@@ -54,29 +59,35 @@ stored-of n = by-sign (decLe storedZero n)
     by-sign (yes h) = ap storedOf (sub-pos n storedZero h) ∙ omega arith
     by-sign (no h) = ap storedOf (sub-neg n storedZero (omega arith)) ∙ omega arith
 
--- oxygen in range is stored as a number that is at least BOD and what a bed may take
-stored-low : (bod n : ℕ) → ofℕ bod ≼ ofℤ (oxygenOf n) +ᶠ ofℕ mostBelow → bod + lossLimit ≤ n
+-- oxygen in range is stored as a number that is at least the demands and what a bed may take
+stored-low : (demands n : ℕ) → ofℕ demands ≼ ofℤ (oxygenOf n) +ᶠ ofℕ mostBelow → demands + lossLimit ≤ n
 unfolding oxygenOf
-stored-low bod n h =
-    ofℕ-reflect (bod + lossLimit) n
-    (certify (ofℕ bod ∷ ofℕ n ∷ ofℤ (subℕ n storedZero) ∷ []) (slack h ⊞ number 502_483_264 ⊞ multiple (ofℕ 1) (≈-trans (ofℤ-≈ (sym (minus n storedZero))) (ofℤ-sub (pos n) (pos storedZero)))) (search quote depth 40 fits 9999) tt)
+stored-low demands n h =
+    ofℕ-reflect (demands + lossLimit) n
+    (certify (ofℕ demands ∷ ofℕ n ∷ ofℤ (subℕ n storedZero) ∷ []) (slack h ⊞ number 502_483_264 ⊞ multiple (ofℕ 1) (≈-trans (ofℤ-≈ (sym (minus n storedZero))) (ofℤ-sub (pos n) (pos storedZero)))) (search quote depth 40 fits 9999) tt)
 
 -- the river of flows that are ready
 is-river : {cards : List Card} {flows : FlowTable} → Ready cards flows → IsRiver cards
 is-river ready = record { lawful = ready .lawful; flows = ready .sound }
 
 -- the sums of the feeders
-bod-adds : Adds bodSum (λ card up. reachFlow card up * bodAt card up foot)
-unfolding bodSum bodAt bodAtHead
-bod-adds = record { nothing = refl; plus = λ card up rest. refl }
+demand-adds : (d : Demand) → Adds (demandSum d) (λ card up. reachFlow card up * demandAt d card up foot)
+unfolding demandSum demandAt demandAtHead
+demand-adds d = record { nothing = refl; plus = λ card up rest. refl }
 
 oxygen-adds : AddsFlowTimes oxygenSum (λ card up. oxygenAt card up foot)
-unfolding oxygenSum oxygenAt bodAtHead oxygenAtHead
+unfolding oxygenSum oxygenAt oxygenAtHead
 oxygen-adds = record { nothing = refl; plus = λ card up rest. refl }
 
+-- a demand in the figures of a reach
+foot-figure : (d : Demand) (card : Card) (up : Feeders) → footFigure d (figuresOf card up) ≡ demandAt d card up foot
+unfolding figuresOf demandAt
+foot-figure Bod card up = refl
+foot-figure Nitrogenous card up = refl
+
 module _ {cards : List Card} {flows : FlowTable} {feet : FootTable} {i : ℕ} (ready : Ready cards flows) (f : FeetOf cards feet i) (l : i < length cards) where
-  pub head-input : HeadInput cards flows feet i
-  head-input =
+  pub head-tabled : HeadTabled cards flows feet i
+  head-tabled =
       record {
         lawful = ready .lawful;
         sound = ready .sound;
@@ -85,9 +96,16 @@ module _ {cards : List Card} {flows : FlowTable} {feet : FootTable} {i : ℕ} (r
         carried = f .carried;
       }
 
-  bod-table : TableOf cards (λ card up. reachFlow card up * bodAt card up foot) (flows .outlet) (feet .bod) i
-  unfolding figuresOf bodAt
-  bod-table = record { outlet = λ j k. ready .tabled .outlet j (omega arith); value = f .bod }
+  -- the tables add up to the sums of the feeders
+  demand-table : (d : Demand) (values : List ℕ) → ((j : ℕ) → j < i → getD values j 0 ≡ flowAt cards (suc j) * footFigure d (figuresAt cards (suc j))) → feederSum (flows .outlet) values i ≡ demandSum d (above cards (suc i))
+  demand-table d values h = sum-of-feeders (demand-adds d) table (suc i)
+    where
+      table : TableOf cards (λ card up. reachFlow card up * demandAt d card up foot) (flows .outlet) values i
+      table =
+          record {
+            outlet = λ j k. ready .tabled .outlet j (omega arith);
+            value = λ j k. h j k ∙ ap (λ (n : ℕ). flowAt cards (suc j) * n) (foot-figure d (getD cards j blank) (feedersAmong cards j (suc j)));
+          }
 
   oxygen-table : StoredTable cards (λ card up. oxygenAt card up foot) (λ j. storedOf (figuresAt cards (suc j) .foot-oxygen)) (flows .outlet) (feet .oxygen) i
   unfolding figuresOf oxygenAt
@@ -98,114 +116,121 @@ module _ {cards : List Card} {flows : FlowTable} {feet : FootTable} {i : ℕ} (r
         oxygen = λ j k. stored-back _ (instant-in-range (is-river ready) j (omega arith) foot (le-refl foot) .oxygen-low);
       }
 
-  module _ {h : Head} (of : HeadOf cards flows feet i h) where
-    pub head-bod-is : h .bod ≡ bodAtHead (getD cards i blank) (feedersAmong cards i (suc i))
-    unfolding bodAtHead
-    head-bod-is =
-        of .bod
-        ∙ ap (headBod (getD cards i blank) (fed (feedersAmong cards i (suc i))) (flowOf (feedersAmong cards i (suc i)))) (sum-of-feeders bod-adds bod-table (suc i))
+  -- the head that these make is that of the reach
+  pub record HeadIs (h : Head) : Type 0 where
+    pub bod : h .bod ≡ demandAtHead Bod (cardOf cards (suc i)) (above cards (suc i))
+    pub nitrogenous : h .nitrogenous ≡ demandAtHead Nitrogenous (cardOf cards (suc i)) (above cards (suc i))
+    pub oxygen : oxygenOf (h .oxygen) ≡ oxygenAtHead (cardOf cards (suc i)) (above cards (suc i))
 
-    pub head-oxygen-is : oxygenOf (h .oxygen) ≡ oxygenAtHead (getD cards i blank) (feedersAmong cards i (suc i))
-    unfolding oxygenAtHead
-    head-oxygen-is =
-        of .oxygen
-        ∙ ap (headOxygen (getD cards i blank) (fed (feedersAmong cards i (suc i))) (flowOf (feedersAmong cards i (suc i))))
-        (oxygen-of-feeders oxygen-adds oxygen-table (suc i))
+  pub head-is : {h : Head} → HeadOf (cardOf cards (suc i)) (fed (above cards (suc i))) (flowOf (above cards (suc i))) (sumsBy flows feet i) h → HeadIs h
+  unfolding demandAtHead oxygenAtHead
+  head-is of =
+      record {
+        bod = of .bod ∙ ap (headDemand (sourceOf Bod (cardOf cards (suc i))) (fed (above cards (suc i))) (flowOf (above cards (suc i)))) (demand-table Bod (feet .bod) (f .bod));
+        nitrogenous = of .nitrogenous ∙ ap (headDemand (sourceOf Nitrogenous (cardOf cards (suc i))) (fed (above cards (suc i))) (flowOf (above cards (suc i)))) (demand-table Nitrogenous (feet .nitrogenous) (f .nitrogenous));
+        oxygen = of .oxygen ∙ ap (headOxygen (cardOf cards (suc i)) (fed (above cards (suc i))) (flowOf (above cards (suc i)))) (oxygen-of-feeders oxygen-adds oxygen-table (suc i));
+      }
 
-    -- the head is in the ranges that a profile asks
-    pub head-small : h .bod ≤ demandLimit
-    head-small = rw head-bod-is (head-in-range (is-river ready) i l .bod-range)
+  -- it is in the ranges that a profile asks
+  pub head-fits : {h : Head} → HeadIs h → HeadFits h
+  head-fits {h} is =
+      let r = head-in-range (is-river ready) i l in
+      record {
+        demands = rw (is .bod, is .nitrogenous) (r .demands-range);
+        low = stored-low (h .bod + h .nitrogenous) (h .oxygen) (subst (λ (z : ℤ). ofℕ (h .bod + h .nitrogenous) ≼ ofℤ z +ᶠ ofℕ mostBelow) (sym (is .oxygen)) (rw (is .bod, is .nitrogenous) (r .demands-below)));
+      }
 
-    pub head-low : h .bod + lossLimit ≤ h .oxygen
-    head-low =
-        stored-low (h .bod) (h .oxygen)
-        (subst (λ (z : ℤ). ofℕ (h .bod) ≼ ofℤ z +ᶠ ofℕ mostBelow) (sym head-oxygen-is) (rw head-bod-is (head-in-range (is-river ready) i l .bod-below)))
+-- what is handed on of a reach
+module _ {card : Card} {flow depth : ℕ} {sums : Brought} (p : LineAt card flow depth sums) where
+  tabled : HeadTabled (p .cards) (p .flows) (p .feet) (p .i)
+  tabled = head-tabled (p .ready) (p .feet-are) (p .within)
 
-    -- the line below this head is that of the reach
-    pub line-of-reach :
-        (line : Line) {card : Card} {depth flow : ℕ} →
-        card ≡ getD cards i blank →
-        depth ≡ depthAt cards (suc i) →
-        flow ≡ flowAt cards (suc i) →
-        figuresIn line ≡ figuresBelow card depth flow (h .bod) (oxygenOf (h .oxygen)) →
-        LineOf cards i line
-    unfolding figuresOf
-    line-of-reach line ec ed ef e =
+  flow-here : flow ≡ flowAt (p .cards) (suc (p .i))
+  flow-here = p .flow-is ∙ p .ready .tabled .flow (p .i) (p .within)
+
+  depth-here : depth ≡ depthAt (p .cards) (suc (p .i))
+  depth-here = p .depth-is ∙ p .ready .tabled .depth (p .i) (p .within)
+
+  pub flow-small : flow ≤ flowLimit
+  flow-small = rw (p .flow-is) (flow-bounded tabled)
+
+  -- what its upstream flow and its head ask
+  pub upstream-asked : (card .inflow ≤ flow + takeOf card) × (flow + takeOf card ≤ flowLimit)
+  upstream-asked = rw (p .flow-is) (flow-asked tabled (p .own))
+
+  module _ {Qu : ℕ} (e : Qu ≡ flow + takeOf card - card .inflow) where
+    qu-is : Qu ≡ quBy (p .flows) (p .i) card
+    qu-is = e ∙ ap (λ (n : ℕ). n + takeOf card - card .inflow) (p .flow-is)
+
+    pub head-asked : HeadInput card (ltb 1 depth) Qu sums
+    head-asked = rw (p .depth-is) (head-input tabled (p .own) qu-is (p .sums-are))
+
+    module _ {h : Head} (of : HeadOf card (ltb 1 depth) Qu sums h) where
+      at-tables : HeadOf card (fedBy (p .flows) (p .i)) Qu sums h
+      at-tables = rw (p .depth-is) at of
+
+      here : HeadIs (p .ready) (p .feet-are) (p .within) h
+      here = head-is (p .ready) (p .feet-are) (p .within) (rw (p .sums-are, qu-is, qu-here tabled (p .own), fed-here tabled, p .own) at at-tables)
+
+      -- what the line below it asks
+      pub line-fits : HeadFits h
+      line-fits = head-fits (p .ready) (p .feet-are) (p .within) here
+
+      -- that line is that of the reach
+      pub line-of-reach : (line : Line) → figuresIn line ≡ figuresBelow card depth flow (h .bod) (h .nitrogenous) (oxygenOf (h .oxygen)) → LineOf (p .cards) (p .i) line
+      unfolding figuresOf
+      line-of-reach line e =
+          record {
+            figures = e ∙ rw (p .own, depth-here, flow-here, here .bod, here .nitrogenous, here .oxygen);
+            mass = rw (ap (λ (f : Figures). f .head-bod) e, ap (λ (f : Figures). f .head-nitrogenous) e) (head-within tabled (p .own) qu-is (p .sums-are) at-tables);
+          }
+
+  pub line-ready : LineReady card flow
+  line-ready =
+      let own = reach-accepted (p .cards) (p .ready .lawful) (p .ready .sound) (p .i) (p .within) in
+      rw (p .own, flow-here) record { rates = rates-pass own; saturation = own .saturation; bed = bed-passes own }
+
+  -- what a line says of its reach
+  module _ {line : Line} (of : LineOf (p .cards) (p .i) line) where
+    brings : footOf flow (line .«foot_bod») (line .«foot_nitrogenous») (line .«foot_oxygen») ≡ footBy (flowAt (p .cards) (suc (p .i))) (figuresAt (p .cards) (suc (p .i)))
+    brings =
+        ap (λ (n : ℕ). footOf n (line .«foot_bod») (line .«foot_nitrogenous») (line .«foot_oxygen»)) flow-here
+        ∙ ap (λ (n : ℕ). footOf (flowAt (p .cards) (suc (p .i))) (line .«foot_bod») (line .«foot_nitrogenous») n) (sym (stored-of (line .«foot_oxygen»)))
+        ∙ ap (footBy (flowAt (p .cards) (suc (p .i)))) (of .figures)
+
+    falls : line .«foot_bod» + line .«foot_nitrogenous» ≤ line .«head_bod» + line .«head_nitrogenous»
+    falls =
+        let t = reach-tied (is-river (p .ready)) (p .i) (p .within) .foot-demand in
+        let b : line .«foot_bod» ≤ line .«head_bod» = rw (ap (λ (f : Figures). f .foot-bod) (of .figures), ap (λ (f : Figures). f .head-bod) (of .figures)) (t Bod) in
+        let n : line .«foot_nitrogenous» ≤ line .«head_nitrogenous» = rw (ap (λ (f : Figures). f .foot-nitrogenous) (of .figures), ap (λ (f : Figures). f .head-nitrogenous) (of .figures)) (t Nitrogenous) in
+        omega (arith, b, n)
+
+    -- its foot and its record
+    pub reach-reported : (at : ℕ) (before after : List ℕ) {foot : Brought} → foot ≡ footOf flow (line .«foot_bod») (line .«foot_nitrogenous») (line .«foot_oxygen») → line .«foot_oxygen» < 4_294_967_296 → after ≡ sets before at (encodeRecord (hasNitrification (p .cards)) (figuresIn line)) → ReachReported (p .cards) (p .i) at before after foot
+    reach-reported at before after e fits r =
         record {
-          figures = e ∙ rw (ec, ed, ef, head-bod-is, head-oxygen-is);
-          mass = subst (λ (b : ℕ). flowAt cards (suc i) * b ≤ 1000 * massAt cards (suc i)) (sym (ap (λ (x : Figures). x .head-bod) e)) (of .mass);
+          brings = e ∙ brings;
+          within = rw e (foot-within (line .«head_bod» + line .«head_nitrogenous») (line .«foot_bod») (line .«foot_nitrogenous») flow-here falls (of .mass) (omega arith));
+          report = rw (of .figures) at r;
         }
 
-  -- what the step of the reach asks
-  pub reach-passed : {card : Card} {flow : ℕ} → card ≡ getD cards i blank → flow ≡ flowAt cards (suc i) → RatesPass (card .k1) (card .k2) (card .volume) flow
-  reach-passed ec ef = rw (ec, ef) (rates-pass (reach-accepted cards (ready .lawful) (ready .sound) i l))
-
-  pub reach-saturation : {card : Card} → card ≡ getD cards i blank → SaturationInRange card
-  reach-saturation ec = rw ec (reach-accepted cards (ready .lawful) (ready .sound) i l .saturation)
-
-  pub reach-bed : {card : Card} {flow : ℕ} → card ≡ getD cards i blank → flow ≡ flowAt cards (suc i) → BedPasses card flow
-  reach-bed ec ef = rw (ec, ef) (bed-passes (reach-accepted cards (ready .lawful) (ready .sound) i l))
-
-  pub reach-flow-small : flowAt cards (suc i) ≤ 100_000_000
-  reach-flow-small = flow-within (ready .sound .each i l)
-
--- the head of a reach that is handed on by its card
-abbrev pub head-at : {card : Card} {flows : FlowTable} {feet : FootTable} {i : ℕ} → LineAt card flows feet i → HeadAt card flows feet i
-head-at p = record { cards = p .cards; input = head-input (p .ready) (p .feet-are) (p .within); own = p .own }
-
--- what a line says of its reach
-module _ {cards : List Card} {i : ℕ} {line : Line} (of : LineOf cards i line) where
-  pub line-flow : line .flow ≡ flowAt cards (suc i)
-  unfolding figuresOf
-  line-flow = ap (λ (f : Figures). f .flow) (of .figures)
-
-  pub line-foot-bod : line .«foot_bod» ≡ figuresAt cards (suc i) .foot-bod
-  line-foot-bod = ap (λ (f : Figures). f .foot-bod) (of .figures)
-
-  pub line-foot-oxygen : line .«foot_oxygen» ≡ storedOf (figuresAt cards (suc i) .foot-oxygen)
-  line-foot-oxygen = sym (stored-of (line .«foot_oxygen»)) ∙ ap (λ (f : Figures). storedOf (f .foot-oxygen)) (of .figures)
-
-  -- foot BOD is at most head BOD
-  line-falls : Lawful cards → Flows cards → i < length cards → line .«foot_bod» ≤ line .«head_bod»
-  unfolding figuresOf
-  line-falls lawful sound l =
-      rw (line-foot-bod, ap (λ (f : Figures). f .head-bod) (of .figures)) (reach-tied (record { lawful = lawful; flows = sound }) i l .foot-bod)
-
 -- the feet with that of one more reach
-pub feet-next :
-    {cards : List Card} {flows : FlowTable} {feet : FootTable} {i : ℕ} (line : Line) (next : FootTable) →
-    Ready cards flows →
-    FeetOf cards feet i →
-    i < length cards →
-    LineOf cards i line →
-    line .«foot_oxygen» < 4_294_967_296 →
-    i < length (feet .bod) →
-    i < length (feet .oxygen) →
-    next .bod ≡ set (feet .bod) i (line .flow * line .«foot_bod») →
-    next .oxygen ≡ set (feet .oxygen) i (line .flow * line .«foot_oxygen») →
-    FeetOf cards next (i + 1)
-feet-next {cards} {flows} {feet} {i} line next ready f l of fits lb lo eb eo =
+pub feet-next : {cards : List Card} {feet : FootTable} {i : ℕ} {foot : Brought} → i < 128 → FeetOf cards feet i → foot ≡ footBy (flowAt cards (suc i)) (figuresAt cards (suc i)) → FootWithin cards i foot → FeetOf cards (withFoot feet i foot) (i + 1)
+feet-next {cards} {feet} {i} {foot} few f e within =
+    rw add-one
     record {
-      bod =
-          rw (eb, add-one)
-          (entered (feet .bod) i (line .flow * line .«foot_bod») (λ j x. x ≡ flowAt cards (suc j) * figuresAt cards (suc j) .foot-bod) lb
-          (ap₂ _*_ (line-flow of) (line-foot-bod of)) (f .bod));
-      oxygen =
-          rw (eo, add-one)
-          (entered (feet .oxygen) i (line .flow * line .«foot_oxygen») (λ j x. x ≡ flowAt cards (suc j) * storedOf (figuresAt cards (suc j) .foot-oxygen)) lo
-          (ap₂ _*_ (line-flow of) (line-foot-oxygen of)) (f .oxygen));
-      carried =
-          rw add-one
-          (carried-next (line .«foot_bod») (f .carried) lb lo (eb, eo) (line-flow of)
-          (rw (line-flow of) (le-trans (mul-le-mul-left (flowAt cards (suc i)) (line-falls of (ready .lawful) (ready .sound) l)) (of .mass)))
-          (omega arith));
+      bod = entered (feet .bod) i (foot .bod) (λ j x. x ≡ footBy (flowAt cards (suc j)) (figuresAt cards (suc j)) .bod) (rw (f .carried .full .bod) few) (ap (λ (b : Brought). b .bod) e) (f .bod);
+      nitrogenous = entered (feet .nitrogenous) i (foot .nitrogenous) (λ j x. x ≡ footBy (flowAt cards (suc j)) (figuresAt cards (suc j)) .nitrogenous) (rw (f .carried .full .nitrogenous) few) (ap (λ (b : Brought). b .nitrogenous) e) (f .nitrogenous);
+      oxygen = entered (feet .oxygen) i (foot .oxygen) (λ j x. x ≡ footBy (flowAt cards (suc j)) (figuresAt cards (suc j)) .oxygen) (rw (f .carried .full .oxygen) few) (ap (λ (b : Brought). b .oxygen) e) (f .oxygen);
+      carried = carried-next (f .carried) few within;
     }
 
 -- no foot is entered yet
-pub no-feet-yet : (cards : List Card) (feet : FootTable) → FeetOf cards feet 0
-no-feet-yet cards feet =
+pub no-feet-yet : (cards : List Card) → FeetOf cards noFeet 0
+no-feet-yet cards =
     record {
       bod = λ j l. absurd (not-suc-le-zero l);
+      nitrogenous = λ j l. absurd (not-suc-le-zero l);
       oxygen = λ j l. absurd (not-suc-le-zero l);
-      carried = carried-none cards feet;
+      carried = carried-none cards;
     }

@@ -1,18 +1,19 @@
 -- Oxygen along a reach, stored with the offset 2^31: what the program computes in natural numbers is the signed definition.
 -- Assumes nothing.
-use mathlib.Core.Path.{_≡_, sym, ap, _∙_}
-use Prim.Native.Nat.{ℕ, suc, _+_, _-_, _*_, _≤_, _<_}
-use native.Mathlib.Nat.{add-mul}
+use mathlib.Core.Path.{_≡_, refl, sym, ap, _∙_}
+use Prim.Native.Nat.{ℕ, suc, _+_, _-_, _*_, _/_, _≤_, _<_}
+use native.Mathlib.Nat.{add-mul, div-le-of-le-mul}
 use native.Mathlib.Omega.{arith}
 use lib.IntN.{ℤ, pos, negℤ, negℤ-negℤ, _-ℤ_, _*ℤ_}
 use Rattle.river.specs.Head.{floor}
 use Rattle.river.proofs.head.Offset.{sub-pos, sub-neg, sub-eq, minus, sub-plus}
 use Rattle.decay.specs.Fixed.{one, product}
 use Rattle.decay.specs.Factors.{AreShares}
+use Rattle.decay.specs.declared.factors.DemandFactors.{DemandFactors}
 use Rattle.decay.specs.declared.factors.Factors.{Factors}
 use Rattle.decay.proofs.fixed.Digits.{share-below}
 use Rattle.report.specs.Bed.{lossLimit}
-use Rattle.report.specs.Program.{oxygenWith}
+use Rattle.report.specs.Program.{unitParts, oxygenWith}
 use Rattle.report.specs.Profile.{StartInRange}
 use Rattle.report.specs.declared.profile.Start.{Start}
 use Rattle.report.proofs.bed.Loss.{less-nothing}
@@ -86,7 +87,7 @@ oxygen-over f Cs L c h k l =
     lost : ℕ
     lost = product (one - f .kept) (c - (Cs + storedZero))
 
--- what the program returns, from the products that it was given; a bed may take its most of it
+-- what the program returns, from the products that it was given; the nitrogenous demand and a bed may take their most of it
 module _ (f : Factors) (h : Start) (s : AreShares f) (r : StartInRange h) where
   pub turned-below : product (f .turned) (h .bod) ≤ h .bod
   turned-below = share-below (f .turned) (h .bod) (omega arith)
@@ -96,7 +97,7 @@ module _ (f : Factors) (h : Start) (s : AreShares f) (r : StartInRange h) where
       g ≡ product (f .turned) (h .bod) →
       h .oxygen ≤ h .saturation + storedZero →
       left ≡ product (f .kept) (h .saturation + storedZero - h .oxygen) →
-      Stores (h .saturation + storedZero - g - left) (oxygenWith f (h .saturation) (h .bod) (oxygenOf (h .oxygen))) × (lossLimit ≤ h .saturation + storedZero - g - left)
+      Stores (h .saturation + storedZero - g - left) (oxygenWith f (h .saturation) (h .bod) (oxygenOf (h .oxygen))) × (h .nitrogenous + lossLimit ≤ h .saturation + storedZero - g - left)
   holds-under g left eg k el =
       let kept = share-below (f .kept) (h .saturation + storedZero - h .oxygen) (s .deficit) in (
         record {
@@ -111,7 +112,7 @@ module _ (f : Factors) (h : Start) (s : AreShares f) (r : StartInRange h) where
       g ≡ product (f .turned) (h .bod) →
       h .saturation + storedZero < h .oxygen →
       lost ≡ product (one - f .kept) (h .oxygen - (h .saturation + storedZero)) →
-      Stores (h .saturation + storedZero - g + (h .oxygen - (h .saturation + storedZero)) - lost) (oxygenWith f (h .saturation) (h .bod) (oxygenOf (h .oxygen))) × (lossLimit ≤ h .saturation + storedZero - g + (h .oxygen - (h .saturation + storedZero)) - lost)
+      Stores (h .saturation + storedZero - g + (h .oxygen - (h .saturation + storedZero)) - lost) (oxygenWith f (h .saturation) (h .bod) (oxygenOf (h .oxygen))) × (h .nitrogenous + lossLimit ≤ h .saturation + storedZero - g + (h .oxygen - (h .saturation + storedZero)) - lost)
   holds-over g lost eg k el = (
     record {
       is =
@@ -122,7 +123,7 @@ module _ (f : Factors) (h : Start) (s : AreShares f) (r : StartInRange h) where
     omega (arith, turned-below, share-below (one - f .kept) (h .oxygen - (h .saturation + storedZero)) (omega arith)),
   )
 
--- stored oxygen less what a bed takes
+-- stored oxygen less what something else takes
 pub less-stored : {o : ℕ} {z : ℤ} (loss : ℕ) → Stores o z → loss ≤ o → Stores (o - loss) (z -ℤ pos loss)
 unfolding oxygenOf
 less-stored {o} loss s h =
@@ -134,3 +135,11 @@ less-stored {o} loss s h =
 -- and less nothing
 pub nothing-less : {o loss : ℕ} {z : ℤ} → loss ≡ 0 → Stores o z → Stores o (z -ℤ pos loss)
 nothing-less {z = z} e s = rw (less-nothing {z = z} e) s
+
+-- no part makes no unit
+pub no-parts : 0 / unitParts ≡ 0
+no-parts = refl
+
+-- of parts that are at most those of L units there turn at most L units
+pub turned-at-most : (d : DemandFactors) (L : ℕ) → d .left + d .turned ≤ unitParts * L → d .turned / unitParts ≤ L
+turned-at-most d L h = div-le-of-le-mul unitParts (omega arith)

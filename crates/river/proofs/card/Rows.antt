@@ -9,8 +9,9 @@ use native.Mathlib.Nat.{div-add-mod', mod-eq-of-lt}
 use native.Mathlib.Omega.{arith}
 use lib.Dec.{lit<}
 use lib.ListN.{length}
-use Rattle.river.specs.Bytes.{AreBytes, Mark, markBytes, twoBytes}
-use Rattle.river.specs.Card.{damRecord, damInRange, layoutSize, numberAt, numberBytes, encodeAmount, amountRecord, amountInRange, takeLayout, pressureLayout, sludgeLayout, optional, optionalOf, sizeOf, longestCard}
+use borrow.Author.Tests.{eqb-true}
+use Rattle.river.specs.Bytes.{AreBytes, Mark, markBytes, twoBytes, fourBytes}
+use Rattle.river.specs.Card.{damRecord, damInRange, layoutSize, numberAt, numberBytes, encodeAmount, amountRecord, amountInRange, takeLayout, pressureLayout, sludgeLayout, nitrificationAt, nitrificationRecord, nitrificationInRange, optional, optionalOf, sizeOf, longestCard}
 use Rattle.river.specs.Write.{encodeCard}
 use Rattle.river.specs.declared.card.Amount.{Amount}
 use Rattle.river.specs.declared.card.Amount.the-variants.{Without, Given}
@@ -18,6 +19,9 @@ use Rattle.river.specs.declared.card.Card.{Card}
 use Rattle.river.specs.declared.card.Dam.{Dam}
 use Rattle.river.specs.declared.card.Dam.the-variants.{Absent, Aerating}
 use Rattle.river.specs.declared.card.Layout.{Layout}
+use Rattle.river.specs.declared.card.Nitrification.{Nitrification}
+use Rattle.river.specs.declared.card.Nitrification.the-variants.{Idle, Nitrifying}
+use Rattle.river.proofs.Answers.{both, both-true}
 use Rattle.river.proofs.bytes.Numbers.{HasMark, twoAt-below, twoBytes-twoAt, fourBytes-fourAt, bytesFrom}
 use Rattle.river.proofs.range.Ranges.{true-amountInRange}
 use Rattle.river.proofs.card.Optional.{Present, Sound, AllSound, optionals-small}
@@ -99,9 +103,37 @@ module _ (l : Layout) (f : Fits l) where
         spells = λ s h m r. number-spelled (l .wide) s h m;
       }
 
+-- Nitrifications.
+
+cases-nitrification : (n : Nitrification) → (n ≡ Idle) ⊎ Present nitrificationRecord n
+cases-nitrification Idle = inl refl
+cases-nitrification (Nitrifying r c l) =
+    inr
+    (record {
+      marks = λ post. record { first = refl; second = refl };
+      long = refl;
+      passes = λ post e. simp div-add-mod' (both e refl);
+      back = λ post e. simp div-add-mod';
+    })
+
+-- the bytes at the end of a record that passes are those of 0, which are the only ones
+zeros-spelled : (s : List ℕ) → AreBytes s → nitrificationRecord .test s ≡ true → fourBytes 0 ≡ bytesFrom s 4 12
+zeros-spelled s h r = ap fourBytes (sym (eqb-true _ _ (both-true {a = nitrificationInRange (nitrificationAt s)} r .right))) ∙ fourBytes-fourAt s 12 h
+
+sound-nitrification : Sound nitrificationRecord
+unfolding nitrificationInRange
+sound-nitrification =
+    record {
+      none-empty = refl;
+      none-in-range = refl;
+      cases = cases-nitrification;
+      in-range = λ s r. both-true r .left;
+      spells = λ s h m r i. sym (m .first) i ∷ sym (m .second) i ∷ twoBytes-twoAt s 2 h i ++ fourBytes-fourAt s 4 h i ++ fourBytes-fourAt s 8 h i ++ zeros-spelled s h r i;
+    }
+
 pub sound-optional : AllSound optional
 sound-optional =
-    (sound-dam, (sound-amount takeLayout tt, (sound-amount pressureLayout (lit< tt), (sound-amount sludgeLayout (lit< tt), tt))))
+    (sound-dam, (sound-amount takeLayout tt, (sound-amount pressureLayout (lit< tt), (sound-amount sludgeLayout (lit< tt), (sound-nitrification, tt)))))
 
 pub length-encodeCard : (c : Card) → length (encodeCard c) ≡ sizeOf c
 length-encodeCard c = omega arith

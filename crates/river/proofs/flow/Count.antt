@@ -2,15 +2,17 @@
 use mathlib.Core.Path.{_≡_, sym}
 use mathlib.Core.List.{List}
 use Prim.Native.Nat.{ℕ, _<_, _≤_}
-use native.Mathlib.Nat.{mul-le-mul}
 use native.Mathlib.Omega.{arith}
 use lib.ListN.{length, getD, length-take}
 use lib.Seq.{getD-take}
 use Rattle.river.specs.declared.card.Card.{Card}
 use Rattle.river.specs.declared.card.Cards.{Cards}
 use Rattle.river.specs.Card.{Lawful, FieldsInRange, river, blank}
+use Rattle.river.specs.declared.source.Demand.the-variants.{Bod, Nitrogenous}
+use Rattle.river.specs.Source.{SourcesInRange}
 use Rattle.river.specs.Flow.{ownMass}
 use Rattle.river.proofs.range.Ranges.{lawful-at}
+use Rattle.river.proofs.source.Ranges.{sources-in-range, source-mass-small}
 
 module _ (cs : Cards) (full : length (cs .at) ≡ 128) where
   pub all-reaches : 128 < cs .count → 128 ≡ length (river cs)
@@ -25,12 +27,15 @@ card-of-river cs i h =
     let k : i < cs .count = omega (arith, rw length-take at h) in
     sym (getD-take (cs .count) (cs .at) i blank k)
 
--- the card of a reach is in range
-pub card-in-range : {card : Card} {cards : List Card} {i : ℕ} → card ≡ getD cards i blank → Lawful cards → i < length cards → FieldsInRange card
-card-in-range {i = i} own h l = rw own (lawful-at h i l .in-range)
+module _ {card : Card} {cards : List Card} {i : ℕ} (own : card ≡ getD cards i blank) (h : Lawful cards) (l : i < length cards) where
+  -- the card of a reach and its sources are in range
+  pub card-in-range : FieldsInRange card
+  card-in-range = rw own (lawful-at h i l .in-range)
 
--- what a reach itself takes in is bounded
-pub own-mass-few : {card : Card} {cards : List Card} {i : ℕ} → card ≡ getD cards i blank → Lawful cards → i < length cards → {mass : ℕ} → mass ≡ ownMass card → mass ≤ 104_294_967_296_000
-own-mass-few {i = i} own h l e =
-    let k = lawful-at h i l in
-    rw (e, own) (omega (arith, mul-le-mul (k .in-range .inflow) (k .in-range .inflow-bod), k .load))
+  pub card-sources : SourcesInRange card
+  card-sources = rw own (sources-in-range (lawful-at h i l))
+
+  -- what a reach itself takes in is bounded
+  pub own-mass-few : {mass : ℕ} → mass ≡ ownMass card → mass ≤ 208_589_934_592_000
+  own-mass-few e =
+      rw e (omega (arith, source-mass-small (card-sources .each Bod), source-mass-small (card-sources .each Nitrogenous)))

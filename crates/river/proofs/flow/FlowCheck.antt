@@ -43,7 +43,7 @@ reach-asks card up i =
     record {
       on =
           λ s. groups .on
-          ((s .flowing, (s .bounded, dam-rule-true (card .dam) up (s .dam-rule))), (s .mass-rule, (s .take-rule, ((s .decay-rule, s .aeration-rule), s .bed-rule))));
+          ((s .flowing, (s .bounded, dam-rule-true (card .dam) up (s .dam-rule))), (s .mass-rule, (s .take-rule, ((s .decay-rule, (s .aeration-rule, s .nitrification-rule)), s .bed-rule))));
       told =
           λ e. let k = groups .told e in
           let flow = k .0 .0 in
@@ -55,7 +55,8 @@ reach-asks card up i =
               mass-rule = k .0 .1 .0;
               take-rule = k .0 .1 .1 .0;
               decay-rule = left .0 .0;
-              aeration-rule = left .0 .1;
+              aeration-rule = left .0 .1 .0;
+              nitrification-rule = left .0 .1 .1;
               bed-rule = left .1;
             },
             k .1,

@@ -9,8 +9,10 @@ use Rattle.river.specs.declared.card.Card.{Card}
 use Rattle.river.specs.declared.card.Dam.{Dam}
 use Rattle.river.specs.declared.refusal.Outcome.{Outcome}
 use Rattle.river.specs.declared.refusal.Refusal.{Refusal}
+use Rattle.river.specs.declared.source.Demand.the-variants.{Nitrogenous}
 use Rattle.river.specs.Refusal.{Answer, accepted, need, goOn}
-use Rattle.river.specs.Flow.{flowLimit, massLimit, rateLimit, bedLimit, takeOf, sludgeOf, damFits, Checks, _then_, flowRules, loadRule, takeRule, rateRules, bedRule, checksOf}
+use Rattle.river.specs.Source.{rateOf}
+use Rattle.river.specs.Flow.{flowLimit, massLimit, rateLimit, bedLimit, takeOf, sludgeOf, damFits, rateFits, Checks, _then_, flowRules, loadRule, takeRule, rateRules, bedRule, checksOf}
 use Rattle.river.specs.FlowTable.{Decides}
 use Rattle.river.proofs.Answers.{need-true, passed}
 
@@ -53,17 +55,24 @@ pub take-rule-asks : (take Qm i : ℕ) → Asks (takeRule take Qm i) (take < Qm)
 unfolding takeRule
 take-rule-asks take Qm i = ask _ 13 i (lt-ltb take Qm) (ltb-true take Qm)
 
-pub rate-rules-ask : (card : Card) (Q i : ℕ) → Asks (rateRules card Q i) ((card .k1 * card .volume ≤ rateLimit * Q) × (card .k2 * card .volume ≤ rateLimit * Q))
+-- each rate, × volume, is at most 345,600 × Q
+abbrev RatesFit : Card → (Q : ℕ) → Type 0
+RatesFit card Q =
+    (card .k1 * card .volume ≤ rateLimit * Q) × ((card .k2 * card .volume ≤ rateLimit * Q) × (rateOf Nitrogenous card * card .volume ≤ rateLimit * Q))
+
+pub rate-rules-ask : (card : Card) (Q i : ℕ) → Asks (rateRules card Q i) (RatesFit card Q)
 unfolding rateRules
-rate-rules-ask card Q i =
-    asks-both (ask-most (card .k1 * card .volume) (rateLimit * Q) 11 i) (ask-most (card .k2 * card .volume) (rateLimit * Q) 11 i)
+rate-rules-ask card Q i = asks-both (fits (card .k1)) (asks-both (fits (card .k2)) (fits (rateOf Nitrogenous card)))
+  where
+    fits : (rate : ℕ) → Asks (need (rateFits rate (card .volume) Q) 11 i) (rate * card .volume ≤ rateLimit * Q)
+    fits rate = ask-most (rate * card .volume) (rateLimit * Q) 11 i
 
 pub bed-rule-asks : (card : Card) (Q i : ℕ) → Asks (bedRule card Q i) (sludgeOf card * card .volume ≤ bedLimit * Q)
 unfolding bedRule
 bed-rule-asks card Q i = ask-most (sludgeOf card * card .volume) (bedLimit * Q) 14 i
 
 -- what the checks of a reach ask for, group by group
-pub checks-ask : (card : Card) (fed : Bool) (Qu Qm Mm i : ℕ) → Asks (checksOf card fed Qu Qm Mm i) (((0 < Qm) × ((Qm ≤ flowLimit) × (damFits (card .dam) fed Qu ≡ true))) × ((Mm ≤ massLimit * Qm) × ((takeOf card < Qm) × (((card .k1 * card .volume ≤ rateLimit * (Qm - takeOf card)) × (card .k2 * card .volume ≤ rateLimit * (Qm - takeOf card))) × (sludgeOf card * card .volume ≤ bedLimit * (Qm - takeOf card))))))
+pub checks-ask : (card : Card) (fed : Bool) (Qu Qm Mm i : ℕ) → Asks (checksOf card fed Qu Qm Mm i) (((0 < Qm) × ((Qm ≤ flowLimit) × (damFits (card .dam) fed Qu ≡ true))) × ((Mm ≤ massLimit * Qm) × ((takeOf card < Qm) × (RatesFit card (Qm - takeOf card) × (sludgeOf card * card .volume ≤ bedLimit * (Qm - takeOf card))))))
 unfolding checksOf
 checks-ask card fed Qu Qm Mm i =
     asks-both (flow-rules-ask (card .dam) fed Qu Qm i)

@@ -2,10 +2,10 @@
 -- and that over the tables of a river they are the three-clause functions on the feeders.
 use mathlib.Core.Path.{_≡_, refl, sym, ap}
 use mathlib.Core.Bool.{Bool, true, false}
-use mathlib.Core.List.{List}
+use mathlib.Core.List.{List, []}
 use Prim.Native.Nat.{ℕ, zero, suc, _+_, _*_, _<_, _≤_, max, zero-le}
 use mathlib.Core.Logic.{⊎-elim}
-use native.Mathlib.Nat.{le-trans, le-refl, le-suc-iff, le-add-left, le-of-suc-le-suc, eq-or-lt-of-le, not-suc-le-zero}
+use native.Mathlib.Nat.{le-trans, le-refl, le-suc-iff, le-add-left, le-add-right, le-of-suc-le-suc, eq-or-lt-of-le, not-suc-le-zero}
 use native.Mathlib.Numerals.{add-one}
 use native.Mathlib.Omega.{arith}
 use lib.ListN.{length, getD, set}
@@ -54,16 +54,21 @@ sum-grows outlets values i (suc k) zero h = absurd (not-suc-le-zero h)
 sum-grows outlets values i k (suc n) h =
     ⊎-elim (λ (l : k ≤ n). le-trans (sum-grows outlets values i k n l) (le-add-left _ _)) (λ (e : k ≡ suc n). rw e (le-refl _)) (le-suc-iff .0 h)
 
--- values of at most k times a weight sum to at most k times the weights' sum
-pub sum-scaled : (outlets values weights : List ℕ) (k n i : ℕ) → ((j : ℕ) → j < n → getD values j 0 ≤ k * getD weights j 0) → tableSum outlets values n i ≤ k * tableSum outlets weights n i
+-- two values together of at most k times a weight sum together to at most k times the weights' sum
+pub sums-scaled : (outlets a b weights : List ℕ) (k n i : ℕ) → ((j : ℕ) → j < n → getD a j 0 + getD b j 0 ≤ k * getD weights j 0) → tableSum outlets a n i + tableSum outlets b n i ≤ k * tableSum outlets weights n i
 unfolding tableSum onlyIf
-sum-scaled outlets values weights k zero i h = zero-le
-sum-scaled outlets values weights k (suc n) i h =
-    step (eqb (getD outlets n 0) i) (getD values n 0) (getD weights n 0) (tableSum outlets values n i) (tableSum outlets weights n i) (h n (le-refl (suc n))) (sum-scaled outlets values weights k n i (λ j l. h j (lower l)))
+sums-scaled outlets a b weights k zero i h = zero-le
+sums-scaled outlets a b weights k (suc n) i h =
+    step (eqb (getD outlets n 0) i) (getD a n 0) (getD b n 0) (getD weights n 0) (tableSum outlets a n i) (tableSum outlets b n i) (tableSum outlets weights n i) (h n (le-refl (suc n))) (sums-scaled outlets a b weights k n i (λ j l. h j (lower l)))
   where
-    step : (t : Bool) (v w s u : ℕ) → v ≤ k * w → s ≤ k * u → onlyIf t v + s ≤ k * (onlyIf t w + u)
-    step true v w s u p q = omega arith
-    step false v w s u p q = omega arith
+    step : (t : Bool) (v x w s y u : ℕ) → v + x ≤ k * w → s + y ≤ k * u → onlyIf t v + s + (onlyIf t x + y) ≤ k * (onlyIf t w + u)
+    step true v x w s y u p q = omega arith
+    step false v x w s y u p q = omega arith
+
+-- and so one value does
+pub sum-scaled : (outlets values weights : List ℕ) (k n i : ℕ) → ((j : ℕ) → j < n → getD values j 0 ≤ k * getD weights j 0) → tableSum outlets values n i ≤ k * tableSum outlets weights n i
+sum-scaled outlets values weights k n i h =
+    le-trans (le-add-right _ _) (sums-scaled outlets values [] weights k n i (λ j l. omega (arith, h j l)))
 
 -- values of at most b sum to at most n * b
 pub sum-bounded : (outlets values : List ℕ) (b n i : ℕ) → ((j : ℕ) → j < n → getD values j 0 ≤ b) → tableSum outlets values n i ≤ n * b

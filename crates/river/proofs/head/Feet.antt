@@ -1,42 +1,63 @@
 -- Tables of feet: one more foot stays in bounds, and the sum of flow × stored oxygen over the feeders stands for that of flow × oxygen.
-use mathlib.Core.Path.{_≡_, sym, ap, ap₂, _∙_}
+use mathlib.Core.Path.{_≡_, refl, sym, ap, ap₂, _∙_}
 use mathlib.Core.Bool.{Bool, true, false}
 use mathlib.Core.List.{List}
-use Prim.Native.Nat.{ℕ, zero, suc, _+_, _*_, _^_, _<_, _≤_}
-use native.Mathlib.Nat.{le-refl, le-trans, not-suc-le-zero, mul-le-mul-left, mul-comm}
+use Prim.Native.Nat.{ℕ, zero, suc, _+_, _*_, _<_, _≤_}
+use native.Mathlib.Nat.{le-refl, not-suc-le-zero, mul-le-mul-left}
 use native.Mathlib.Omega.{arith}
-use lib.ListN.{length, getD, set}
+use lib.ListN.{getD, set, length-set}
+use lib.Seq.{getD-set-same, getD-set-other}
 use lib.Dec.{eqb}
 use lib.IntN.{ℤ, pos, subℕ, _+ℤ_, _*ℤ_}
 use Rattle.river.specs.declared.card.Card.{Card}
-use Rattle.river.specs.declared.flow.FlowTable.{FlowTable}
+use Rattle.river.specs.declared.head.Brought.{Brought}
 use Rattle.river.specs.declared.head.FootTable.{FootTable}
-use Rattle.river.specs.declared.head.Head.{Head}
-use Rattle.river.specs.Flow.{flowLimit, Feeders, none, more, feedersAmong, joinedIf, flowOf, reachFlow, flowAt, massAt}
+use Rattle.river.specs.Flow.{Feeders, none, more, feedersAmong, joinedIf, flowOf, reachFlow, flowAt, massAt}
 use Rattle.river.proofs.flow.Table.{entered}
-use Rattle.river.proofs.flow.Take.{flow-within}
-use Rattle.river.proofs.head.Heads.{reach-few}
 use Rattle.river.proofs.head.Offset.{sub-add, times-sub}
 use Rattle.river.specs.FlowTable.{onlyIf, tableSum}
 use Rattle.river.specs.Stored.{storedZero, storedLimit, oxygenOf, oxygenSumOf}
-use Rattle.river.specs.HeadTable.{Carried, HeadInput, HeadOf}
+use Rattle.river.specs.HeadTable.{noFeet, footOf, withFoot, FootWithin, FullFeet, Carried}
 use Rattle.river.specs.Card.{blank}
 
--- no feet are in bounds
-pub carried-none : (cards : List Card) (feet : FootTable) → Carried cards feet 0
-carried-none cards feet =
-    record { bod = λ j l. absurd (not-suc-le-zero l); oxygen = λ j l. absurd (not-suc-le-zero l) }
-
--- one more foot whose flow × BOD is at most 1,000 × M stays in bounds
-pub carried-next : (bod : ℕ) {cards : List Card} {feet next : FootTable} {i flow oxygen : ℕ} → Carried cards feet i → i < length (feet .bod) → i < length (feet .oxygen) → (next .bod ≡ set (feet .bod) i (flow * bod)) × (next .oxygen ≡ set (feet .oxygen) i (flow * oxygen)) → flow ≡ flowAt cards (suc i) → flow * bod ≤ 1000 * massAt cards (suc i) → oxygen ≤ storedLimit → Carried cards next (suc i)
-carried-next bod {cards} {feet} {next} {i} {flow} {oxygen} h p q e f m o =
+-- a foot whose demands together are at most a head's is in bounds
+pub foot-within : {cards : List Card} {i flow oxygen : ℕ} (head bod nitrogenous : ℕ) → flow ≡ flowAt cards (suc i) → bod + nitrogenous ≤ head → flowAt cards (suc i) * head ≤ 1000 * massAt cards (suc i) → oxygen ≤ storedLimit → FootWithin cards i (footOf flow bod nitrogenous oxygen)
+foot-within {cards} {i} head bod nitrogenous e falls mass small =
+    rw e
     record {
-      bod = λ j l. rw (e .0) (entered (feet .bod) i (flow * bod) (λ k x. x ≤ 1000 * massAt cards (suc k)) p m (h .bod) j l);
-      oxygen =
-          λ j l. rw (e .1)
-          (entered (feet .oxygen) i (flow * oxygen) (λ k x. x ≤ storedLimit * flowAt cards (suc k)) q
-          (rw (← f, mul-comm storedLimit flow) (mul-le-mul-left flow o)) (h .oxygen) j l);
+      demands = omega (arith, mul-le-mul-left (flowAt cards (suc i)) falls, mass);
+      oxygen = omega (arith, mul-le-mul-left (flowAt cards (suc i)) small);
     }
+
+-- no feet are in bounds
+pub carried-none : (cards : List Card) → Carried cards noFeet 0
+carried-none cards =
+    record {
+      full = record { bod = refl; nitrogenous = refl; oxygen = refl };
+      demands = λ j l. absurd (not-suc-le-zero l);
+      oxygen = λ j l. absurd (not-suc-le-zero l);
+    }
+
+-- one more foot in bounds
+pub carried-next : {cards : List Card} {feet : FootTable} {i : ℕ} {foot : Brought} → Carried cards feet i → i < 128 → FootWithin cards i foot → Carried cards (withFoot feet i foot) (suc i)
+carried-next {cards} {feet} {i} {foot} h few within =
+    record {
+      full =
+          record {
+            bod = length-set (feet .bod) i (foot .bod) ∙ full .bod;
+            nitrogenous = length-set (feet .nitrogenous) i (foot .nitrogenous) ∙ full .nitrogenous;
+            oxygen = length-set (feet .oxygen) i (foot .oxygen) ∙ full .oxygen;
+          };
+      demands =
+          entered (feet .bod) i (foot .bod) (λ j x. x + getD (set (feet .nitrogenous) i (foot .nitrogenous)) j 0 ≤ 1000 * massAt cards (suc j)) (rw (full .bod) few)
+          (rw (getD-set-same (feet .nitrogenous) i (foot .nitrogenous) 0 (rw (full .nitrogenous) few)) (within .demands))
+          (λ j l. rw (getD-set-other (feet .nitrogenous) i j (foot .nitrogenous) 0 (λ (q : j ≡ i). omega arith)) (h .demands j l));
+      oxygen =
+          entered (feet .oxygen) i (foot .oxygen) (λ j x. x ≤ storedLimit * flowAt cards (suc j)) (rw (full .oxygen) few) (within .oxygen) (h .oxygen);
+    }
+  where
+    full : FullFeet feet
+    full = h .full
 
 -- S adds up flow × what g gives for each feeder
 pub record AddsFlowTimes (S : Feeders → ℤ) (g : Card → Feeders → ℤ) : Type 0 where
@@ -78,23 +99,3 @@ oxygen-of-feeders {S} {g} {cards} {stored} {outlets} {values} {n = suc n} a t i 
     step : (b : Bool) (card : Card) (up rest : Feeders) (s x : ℕ) → oxygenOf s ≡ g card up → oxygenSumOf (flowOf rest) x ≡ S rest → oxygenSumOf (flowOf (joinedIf b card up rest)) (onlyIf b (reachFlow card up * s) + x) ≡ S (joinedIf b card up rest)
     step true card up rest s x e f = more-oxygen (reachFlow card up) s x (flowOf rest) ∙ ap₂ _+ℤ_ (ap (λ (z : ℤ). pos (reachFlow card up) *ℤ z) e) f ∙ sym (a .plus card up rest)
     step false card up rest s x e f = ap (oxygenSumOf (flowOf rest)) (omega arith) ∙ f
-
-module _ {cards : List Card} {flows : FlowTable} {feet : FootTable} {i : ℕ} (h : HeadInput cards flows feet i) where
-  -- the flow of the reach
-  pub flow-bounded : getD (flows .flow) i 0 ≤ flowLimit
-  flow-bounded = rw (h .tabled .flow i (h .within)) (flow-within (h .sound .each i (h .within)))
-
-  -- a foot with at most the head's BOD stays in bounds
-  pub foot-carried :
-      {next : FootTable} {r : Head} {oxygen : ℕ} (bod : ℕ) →
-      HeadOf cards flows feet i r →
-      bod ≤ r .bod →
-      oxygen < 2 ^ 32 →
-      (length (feet .bod) ≡ 128) × (length (feet .oxygen) ≡ 128) →
-      (next .bod ≡ set (feet .bod) i (getD (flows .flow) i 0 * bod)) × (next .oxygen ≡ set (feet .oxygen) i (getD (flows .flow) i 0 * oxygen)) →
-      Carried cards next (suc i)
-  foot-carried {next} {r} {oxygen} bod k less fits full e =
-      let flow = h .tabled .flow i (h .within) in
-      carried-next bod (h .carried) (rw (full .0) (reach-few h)) (rw (full .1) (reach-few h)) e flow
-      (rw flow (le-trans (mul-le-mul-left (flowAt cards (suc i)) less) (k .mass)))
-      (omega arith)

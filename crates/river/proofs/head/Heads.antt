@@ -1,32 +1,36 @@
--- The head of a reach of an accepted river: what its parts need, and that its BOD stays within the undecayed BOD.
-use mathlib.Core.Path.{_≡_, ap, _∙_}
+-- The head of a reach of an accepted river: what its parts need, and that its demands together stay within the undecayed BOD.
+use mathlib.Core.Path.{_≡_, sym, ap, _∙_}
 use mathlib.Core.Bool.{Bool, true, false}
 use mathlib.Core.List.{List}
-use Prim.Native.Nat.{ℕ, zero, suc, _+_, _*_, _-_, _^_, _<_, _≤_}
+use Prim.Native.Nat.{ℕ, zero, suc, _+_, _*_, _-_, _<_, _≤_}
 use native.Mathlib.Nat.{le-refl, le-of-lt, le-trans, lt-of-lt-of-le, le-add-right}
-use native.Mathlib.Numerals.{one-add, add-one}
+use native.Mathlib.Numerals.{one-add}
 use native.Mathlib.Omega.{arith}
 use lib.ListN.{getD}
 use lib.Dec.{ltb, eqb, leb·suc-suc}
 use Rattle.river.specs.declared.card.Card.{Card}
 use Rattle.river.specs.declared.card.Dam.{Dam}
 use Rattle.river.specs.declared.card.Dam.the-variants.{Absent, Aerating}
+use Rattle.river.specs.declared.source.Demand.{Demand}
+use Rattle.river.specs.declared.source.Demand.the-variants.{Bod, Nitrogenous}
 use Rattle.river.specs.declared.source.Source.{Source}
 use Rattle.river.specs.declared.flow.FlowTable.{FlowTable}
+use Rattle.river.specs.declared.head.Brought.{Brought}
 use Rattle.river.specs.declared.head.FootTable.{FootTable}
 use Rattle.river.specs.declared.head.Head.{Head}
 use Rattle.river.specs.Card.{LawfulDam, blank}
-use Rattle.river.specs.Flow.{Feeders, cardOf, above, feedersAmong, joinedIf, flowOf, massOf, deepest, fed, flowLimit, takeOf, mixedFlow, reachFlow, mixedMass, reachMass, ownMass, ReachPasses, DamRule}
-use Rattle.river.specs.Head.{headDemand, headBod, headOxygen}
+use Rattle.river.specs.Flow.{Feeders, cardOf, above, feedersAmong, joinedIf, flowOf, massOf, deepest, fed, flowLimit, takeOf, mixedFlow, reachFlow, mixedMass, reachMass, ownMass, flowAt, massAt, ReachPasses, DamRule}
+use Rattle.river.specs.Head.{headDemand}
 use Rattle.river.proofs.range.Ranges.{lawful-at}
-use Rattle.river.proofs.flow.Table.{sum-of-feeders, sum-scaled, fed-deepest}
-use Rattle.river.proofs.flow.Take.{flow-remains, flow-and-take, mixed-bounded, mass-scaled, still-within}
+use Rattle.river.proofs.source.Ranges.{source-inflow}
+use Rattle.river.proofs.flow.Table.{sum-of-feeders, sum-scaled, sums-scaled, fed-deepest}
+use Rattle.river.proofs.flow.Take.{flow-remains, flow-within, flow-and-take, mixed-bounded, mass-scaled, still-within}
 use Rattle.river.proofs.head.Bounds.{head-demand-kept, conditions-in-range}
 use Rattle.river.proofs.flow.Checks.{first-tabled, flows-add, masses-add, flow-table, mass-table}
-use Rattle.river.specs.FlowTable.{tableSum, feederSum, Tabled}
-use Rattle.river.specs.Source.{bodSource}
-use Rattle.river.specs.Stored.{storedLimit, oxygenOf, oxygenSumOf}
-use Rattle.river.specs.HeadTable.{DamWithin, demandLimit, HeadReady, DemandReady, OxygenReady, HeadInput, HeadOf}
+use Rattle.river.specs.FlowTable.{feederSum, Tabled}
+use Rattle.river.specs.Source.{sourceOf, sourceMass}
+use Rattle.river.specs.Stored.{storedLimit}
+use Rattle.river.specs.HeadTable.{DamWithin, HeadReady, DemandReady, broughtTo, BroughtFits, HeadInput, HeadOf, HeadTabled}
 
 -- feeders that pass have water
 pub flow-of-fed : (cards : List Card) (n i : ℕ) → ((j : ℕ) → j < n → ReachPasses (cardOf cards (suc j)) (above cards (suc j))) → fed (feedersAmong cards n i) ≡ true → 0 < flowOf (feedersAmong cards n i)
@@ -44,20 +48,51 @@ unfolding DamRule
 dam-within Absent up l r = tt
 dam-within (Aerating share generating) up l r = (l .share, r .1)
 
--- THEOREM: Q × BOD is at most 1,000 × M at the head, if the feeders' sum of Q × BOD is at most 1,000 times theirs
-pub head-bod-within-mass : {card : Card} {up : Feeders} (sum : ℕ) → ReachPasses card up → sum ≤ 1000 * massOf up → reachFlow card up * headBod card (fed up) (flowOf up) sum ≤ 1000 * reachMass card up
-head-bod-within-mass {card} {up} sum s h =
-    still-within (mixedFlow card up) (reachFlow card up) (mixedMass card up) (reachMass card up) 1000 (headBod card (fed up) (flowOf up) sum) (s .flowing) (mass-scaled s)
-    (le-trans (head-demand-kept (bodSource card) (fed up) (flowOf up) sum) (omega (arith, h)))
+-- flow × two demands at a head is at most what comes down and comes in of both
+both-kept : (s t : Source) (fed : Bool) (Qu Qm a b : ℕ) → Qm ≡ Qu + s .inflow → Qm ≡ Qu + t .inflow → Qm * (headDemand s fed Qu a + headDemand t fed Qu b) ≤ a + b + 1000 * (sourceMass s + sourceMass t)
+both-kept s t fed Qu Qm a b e f = omega (arith, kept s a e, kept t b f)
+  where
+    kept : (source : Source) (sum : ℕ) → Qm ≡ Qu + source .inflow → Qm * headDemand source fed Qu sum ≤ sum + 1000 * sourceMass source
+    kept source sum g = rw g (head-demand-kept source fed Qu sum)
 
--- Qu of reach i + 1, and whether it has feeders, by the tables
-abbrev quBy : FlowTable → ℕ → Card → (take : ℕ) → ℕ
-quBy flows i card take = getD (flows .flow) i 0 + take - card .inflow
+-- THEOREM: Q × both demands is at most 1,000 × M at the head, if the feeders' sums of Q × demand are at most 1,000 times theirs
+pub head-demands-within-mass : {card : Card} {up : Feeders} (bod nitrogenous : ℕ) → ReachPasses card up → bod + nitrogenous ≤ 1000 * massOf up → reachFlow card up * (headDemand (sourceOf Bod card) (fed up) (flowOf up) bod + headDemand (sourceOf Nitrogenous card) (fed up) (flowOf up) nitrogenous) ≤ 1000 * reachMass card up
+head-demands-within-mass {card} {up} bod nitrogenous s h =
+    still-within (mixedFlow card up) (reachFlow card up) (mixedMass card up) (reachMass card up) 1000 _ (s .flowing) (mass-scaled s)
+    (le-trans
+    (both-kept (sourceOf Bod card) (sourceOf Nitrogenous card) (fed up) (flowOf up) (mixedFlow card up) bod nitrogenous (inflow Bod) (inflow Nitrogenous))
+    (omega (arith, h)))
+  where
+    inflow : (d : Demand) → mixedFlow card up ≡ flowOf up + sourceOf d card .inflow
+    inflow d = ap (λ (x : ℕ). flowOf up + x) (sym (source-inflow d card))
 
-abbrev fedBy : FlowTable → ℕ → Bool
+-- what a head asks for has what each demand asks for
+module _ {card : Card} {fed : Bool} {Qu : ℕ} {sums : Brought} (h : HeadInput card fed Qu sums) where
+  part-input : (d : Demand) {source : Source} {sum : ℕ} → sum + 1000 * sourceMass (sourceOf d card) ≤ sums .bod + sums .nitrogenous + 1000 * ownMass card → source ≡ sourceOf d card → DemandReady source fed Qu sum
+  part-input d k e =
+      rw e
+      record {
+        flows = rw (source-inflow d card) (h .ready .flows);
+        within = omega (arith, k, h .demands, source-inflow d card);
+      }
+
+  pub bod-input : {source : Source} → source ≡ sourceOf Bod card → DemandReady source fed Qu (sums .bod)
+  bod-input = part-input Bod (omega arith)
+
+  pub nitrogenous-input : {source : Source} → source ≡ sourceOf Nitrogenous card → DemandReady source fed Qu (sums .nitrogenous)
+  nitrogenous-input = part-input Nitrogenous (omega arith)
+
+-- whether reach i + 1 has feeders, its Qu, and what the feeders bring, by the tables
+abbrev pub fedBy : FlowTable → ℕ → Bool
 fedBy flows i = ltb 1 (getD (flows .depth) i 0)
 
-module _ {cards : List Card} {flows : FlowTable} {feet : FootTable} {i : ℕ} (h : HeadInput cards flows feet i) where
+abbrev pub quBy : FlowTable → ℕ → Card → ℕ
+quBy flows i card = getD (flows .flow) i 0 + takeOf card - card .inflow
+
+abbrev pub sumsBy : FlowTable → FootTable → ℕ → Brought
+sumsBy flows feet i = broughtTo (flows .outlet) (feet .bod) (feet .nitrogenous) (feet .oxygen) i
+
+module _ {cards : List Card} {flows : FlowTable} {feet : FootTable} {i : ℕ} (h : HeadTabled cards flows feet i) where
   -- the tables of the reaches before
   prior : Tabled cards i flows
   prior = first-tabled (le-of-lt (h .within)) (h .tabled)
@@ -65,26 +100,33 @@ module _ {cards : List Card} {flows : FlowTable} {feet : FootTable} {i : ℕ} (h
   here : ReachPasses (cardOf cards (suc i)) (above cards (suc i))
   here = h .sound .each i (h .within)
 
-  pub sum-bod : feederSum (flows .outlet) (feet .bod) i ≤ 1000 * massOf (above cards (suc i))
-  sum-bod =
+  -- what the feeders bring
+  sum-demands : feederSum (flows .outlet) (feet .bod) i + feederSum (flows .outlet) (feet .nitrogenous) i ≤ 1000 * massOf (above cards (suc i))
+  sum-demands =
       rw (sum-of-feeders masses-add (mass-table prior) (suc i)) at
-      (sum-scaled (flows .outlet) (feet .bod) (flows .mass) 1000 i (suc i) (λ j l. rw (prior .mass j l) (h .carried .bod j l)))
+      (sums-scaled (flows .outlet) (feet .bod) (feet .nitrogenous) (flows .mass) 1000 i (suc i) (λ j l. rw (prior .mass j l) (h .carried .demands j l)))
 
-  pub sum-oxygen : feederSum (flows .outlet) (feet .oxygen) i ≤ storedLimit * flowOf (above cards (suc i))
+  sum-oxygen : feederSum (flows .outlet) (feet .oxygen) i ≤ storedLimit * flowOf (above cards (suc i))
   sum-oxygen =
       rw (sum-of-feeders flows-add (flow-table prior) (suc i)) at
       (sum-scaled (flows .outlet) (feet .oxygen) (flows .flow) storedLimit i (suc i) (λ j l. rw (prior .flow j l) (h .carried .oxygen j l)))
 
-  pub sum-bod-fits : feederSum (flows .outlet) (feet .bod) i < 2 ^ 64
-  sum-bod-fits = omega (arith, sum-bod, mixed-bounded here)
-
-  pub sum-oxygen-fits : feederSum (flows .outlet) (feet .oxygen) i < 2 ^ 64
-  sum-oxygen-fits = omega (arith, sum-oxygen, here .bounded)
-
   pub reach-few : i < 128
   reach-few = omega (arith, h .within, h .lawful .few)
 
-  -- the flow before the take, and the depth of the reach, by the tables
+  pub sums-fit : BroughtFits (flows .outlet) (feet .bod) (feet .nitrogenous) (feet .oxygen) i
+  sums-fit =
+      record {
+        few = reach-few;
+        bod = omega (arith, sum-demands, mixed-bounded here);
+        nitrogenous = omega (arith, sum-demands, mixed-bounded here);
+        oxygen = omega (arith, sum-oxygen, here .bounded);
+      }
+
+  -- the flow after the take and before it, and whether there are feeders, by the tables
+  pub flow-bounded : getD (flows .flow) i 0 ≤ flowLimit
+  flow-bounded = rw (h .tabled .flow i (h .within)) (flow-within here)
+
   flow-here : getD (flows .flow) i 0 + takeOf (cardOf cards (suc i)) ≡ mixedFlow (cardOf cards (suc i)) (above cards (suc i))
   flow-here = rw (h .tabled .flow i (h .within)) (flow-and-take here)
 
@@ -93,7 +135,7 @@ module _ {cards : List Card} {flows : FlowTable} {feet : FootTable} {i : ℕ} (h
       let d = deepest (above cards (suc i)) in
       ap (ltb 1) (h .tabled .depth i (h .within) ∙ one-add d) ∙ leb·suc-suc 1 d ∙ fed-deepest (above cards (suc i))
 
-  pub ready : HeadReady (cardOf cards (suc i)) (fed (above cards (suc i))) (flowOf (above cards (suc i)))
+  ready : HeadReady (cardOf cards (suc i)) (fed (above cards (suc i))) (flowOf (above cards (suc i)))
   ready =
       record {
         fields = lawful-at (h .lawful) i (h .within) .in-range;
@@ -107,34 +149,27 @@ module _ {cards : List Card} {flows : FlowTable} {feet : FootTable} {i : ℕ} (h
             };
       }
 
-  bod-ready : feederSum (flows .outlet) (feet .bod) i + 1000 * ownMass (cardOf cards (suc i)) ≤ demandLimit * (flowOf (above cards (suc i)) + cardOf cards (suc i) .inflow)
-  bod-ready = omega (arith, sum-bod, here .mass-rule)
+  -- the same of the card that the program works with
+  module _ {card : Card} (ec : card ≡ cardOf cards (suc i)) where
+    -- what `upstream_flow` asks for
+    pub flow-asked : (card .inflow ≤ getD (flows .flow) i 0 + takeOf card) × (getD (flows .flow) i 0 + takeOf card ≤ flowLimit)
+    flow-asked = rw (ec, flow-here) (omega arith, here .bounded)
 
-  -- the same of the numbers that the program works with
-  module _ {card : Card} {take : ℕ} (ec : card ≡ cardOf cards (suc i)) (et : take ≡ takeOf card) where
-    pub flow-small : getD (flows .flow) i 0 + take ≤ flowLimit
-    flow-small = rw (et, ec, flow-here) (here .bounded)
+    pub qu-here : quBy flows i card ≡ flowOf (above cards (suc i))
+    qu-here = rw (ec, flow-here) (omega arith)
 
-    pub inflow-within : card .inflow ≤ getD (flows .flow) i 0 + take
-    inflow-within = rw (et, ec, flow-here) (omega arith)
+    module _ {Qu : ℕ} {sums : Brought} (eq : Qu ≡ quBy flows i card) (es : sums ≡ sumsBy flows feet i) where
+      pub head-input : HeadInput card (fedBy flows i) Qu sums
+      head-input =
+          rw (es, eq, qu-here, fed-here, ec)
+          record {
+            ready = ready;
+            demands = omega (arith, sum-demands, here .mass-rule);
+            oxygen = sum-oxygen;
+          }
 
-    qu-here : quBy flows i card take ≡ flowOf (above cards (suc i))
-    qu-here = rw (et, ec, flow-here) (omega arith)
-
-    ready-here : HeadReady card (fedBy flows i) (quBy flows i card take)
-    ready-here = rw (qu-here, fed-here, ec) ready
-
-    pub bod-input : {source : Source} {sum : ℕ} → source ≡ bodSource card → sum ≡ tableSum (flows .outlet) (feet .bod) i (i + 1) → DemandReady source (fedBy flows i) (quBy flows i card take) sum
-    bod-input es e = rw es record { flows = ready-here .flows; within = rw (e, add-one, qu-here, ec) bod-ready }
-
-    pub oxygen-input : {sum : ℕ} → sum ≡ tableSum (flows .outlet) (feet .oxygen) i (i + 1) → OxygenReady card (fedBy flows i) (quBy flows i card take) sum
-    oxygen-input e = record { ready = ready-here; within = rw (e, add-one, qu-here) sum-oxygen }
-
-    pub head-made : (r : Head) {source : Source} {b o : ℕ} → source ≡ bodSource card → b ≡ tableSum (flows .outlet) (feet .bod) i (i + 1) → o ≡ tableSum (flows .outlet) (feet .oxygen) i (i + 1) → r .bod ≡ headDemand source (fedBy flows i) (quBy flows i card take) b → oxygenOf (r .oxygen) ≡ headOxygen card (fedBy flows i) (quBy flows i card take) (oxygenSumOf (quBy flows i card take) o) → HeadOf cards flows feet i r
-    head-made r es eb eo e f =
-        let bod = rw (es, qu-here, fed-here, ec, eb, add-one) at e in
-        record {
-          bod = bod;
-          oxygen = rw (qu-here, fed-here, ec, eo, add-one) at f;
-          mass = rw bod (head-bod-within-mass _ here sum-bod);
-        }
+      -- Q × both demands at the head
+      pub head-within : {r : Head} → HeadOf card (fedBy flows i) Qu sums r → flowAt cards (suc i) * (r .bod + r .nitrogenous) ≤ 1000 * massAt cards (suc i)
+      head-within {r} of =
+          let k = rw (es, eq, qu-here, fed-here, ec) at of in
+          rw (k .bod, k .nitrogenous) (head-demands-within-mass _ _ here sum-demands)

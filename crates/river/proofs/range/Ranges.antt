@@ -8,8 +8,8 @@ use native.Mathlib.Nat.{add-zero, not-suc-le-zero, le-of-suc-le-suc}
 use native.Mathlib.Numerals.{one-add}
 use native.Mathlib.Omega.{arith}
 use lib.ListN.{length, getD}
-use borrow.Author.Tests.{le-leb, leb-true, ltb-true, eq-eqb, eqb-true, ne-eqb}
-use Rattle.river.specs.Card.{FieldsInRange, LawfulDam, LawfulAmount, LawfulCard, LawfulFrom, Lawful, blank, takeLayout, pressureLayout, sludgeLayout, optional, optionalOf, inRange, damInRange, amountInRange, countOk, outletOk}
+use borrow.Author.Tests.{le-leb, leb-true, lt-ltb, ltb-true, eq-eqb, eqb-true, ne-eqb}
+use Rattle.river.specs.Card.{FieldsInRange, LawfulDam, LawfulAmount, LawfulNitrification, LawfulCard, LawfulFrom, Lawful, blank, takeLayout, pressureLayout, sludgeLayout, optional, optionalOf, inRange, damInRange, amountInRange, nitrificationInRange, countOk, outletOk}
 use Rattle.river.specs.Optional.{optionalsInRange}
 use Rattle.river.specs.declared.card.Amount.{Amount}
 use Rattle.river.specs.declared.card.Amount.the-variants.{Without, Given}
@@ -17,6 +17,8 @@ use Rattle.river.specs.declared.card.Card.{Card}
 use Rattle.river.specs.declared.card.Dam.{Dam}
 use Rattle.river.specs.declared.card.Dam.the-variants.{Absent, Aerating}
 use Rattle.river.specs.declared.card.Layout.{Layout}
+use Rattle.river.specs.declared.card.Nitrification.{Nitrification}
+use Rattle.river.specs.declared.card.Nitrification.the-variants.{Idle, Nitrifying}
 use Rattle.river.proofs.Answers.{both, both-true}
 
 pub inRange-true : (c : Card) → FieldsInRange c → inRange c ≡ true
@@ -68,6 +70,19 @@ unfolding amountInRange
 true-amountInRange l Without e = tt
 true-amountInRange l (Given n) e = let t = both-true e in (leb-true _ _ (t .left), leb-true _ _ (t .right))
 
+pub nitrificationInRange-true : (n : Nitrification) → LawfulNitrification n → nitrificationInRange n ≡ true
+unfolding nitrificationInRange
+nitrificationInRange-true Idle h = refl
+nitrificationInRange-true (Nitrifying r c l) h = both (le-leb _ _ (h .0 .rate)) (both (le-leb _ _ (h .0 .concentration)) (lt-ltb _ _ (h .1)))
+
+pub true-nitrificationInRange : (n : Nitrification) → nitrificationInRange n ≡ true → LawfulNitrification n
+unfolding nitrificationInRange
+true-nitrificationInRange Idle e = tt
+true-nitrificationInRange (Nitrifying r c l) e =
+    let a = both-true e in
+    let b = both-true (a .right) in
+    (record { rate = leb-true _ _ (a .left); concentration = leb-true _ _ (b .left) }, ltb-true _ _ (b .right))
+
 -- the tests of a card hold exactly where it is lawful
 pub lawful-optionals : {n i : ℕ} {c : Card} → LawfulCard n i c → optionalsInRange optional (optionalOf c) ≡ true
 unfolding optionalsInRange
@@ -75,7 +90,8 @@ lawful-optionals {n} {i} {c} h =
     both (damInRange-true (c .dam) (h .dam))
     (both (amountInRange-true takeLayout (c .take) (h .take))
     (both (amountInRange-true pressureLayout (c .pressure) (h .pressure))
-    (both (amountInRange-true sludgeLayout (c .sludge) (h .sludge)) refl)))
+    (both (amountInRange-true sludgeLayout (c .sludge) (h .sludge))
+    (both (nitrificationInRange-true (c .nitrification) (h .nitrification)) refl))))
 
 pub lawful-card : (n i : ℕ) (c : Card) → inRange c ≡ true → c .load < 4294967296 → outletOk n i (c .outlet) ≡ true
     → optionalsInRange optional (optionalOf c) ≡ true → LawfulCard n i c
@@ -85,6 +101,7 @@ lawful-card n i c r l o e =
     let b = both-true (a .right) in
     let d = both-true (b .right) in
     let f = both-true (d .right) in
+    let g = both-true (f .right) in
     record {
       in-range = true-inRange c r;
       load = l;
@@ -93,6 +110,7 @@ lawful-card n i c r l o e =
       take = true-amountInRange takeLayout (c .take) (b .left);
       pressure = true-amountInRange pressureLayout (c .pressure) (d .left);
       sludge = true-amountInRange sludgeLayout (c .sludge) (f .left);
+      nitrification = true-nitrificationInRange (c .nitrification) (g .left);
     }
 
 pub countOk-true : (n : ℕ) → 1 ≤ n → n ≤ 128 → countOk n ≡ true

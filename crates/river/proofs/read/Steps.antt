@@ -6,14 +6,16 @@ use mathlib.Core.List.{List}
 use lib.ListN.{drop}
 use Rattle.river.specs.Bytes.{twoAt}
 use Rattle.river.specs.Card.{sizeOf}
-use Rattle.river.specs.Read.{headerOf, damOf, amountOf, reachOf, headerRefusal, damRefusal, amountRefusal, reachRefusal, readHeader, readReaches, readFile}
+use Rattle.river.specs.Read.{headerOf, damOf, amountOf, nitrificationOf, reachOf, headerRefusal, damRefusal, amountRefusal, nitrificationRefusal, reachRefusal, readHeader, readReaches, readFile}
 use Rattle.river.specs.Refusal.{Answer, accepted, refused}
 use Rattle.river.specs.declared.card.Amount.{Amount}
 use Rattle.river.specs.declared.card.Card.{Card}
 use Rattle.river.specs.declared.card.Dam.{Dam}
+use Rattle.river.specs.declared.card.Nitrification.{Nitrification}
 use Rattle.river.specs.declared.read.AmountRead.{AmountRead}
 use Rattle.river.specs.declared.read.DamRead.{DamRead}
 use Rattle.river.specs.declared.read.Header.{Header}
+use Rattle.river.specs.declared.read.NitrificationRead.{NitrificationRead}
 use Rattle.river.specs.declared.read.Reach.{Reach}
 use Rattle.river.specs.declared.refusal.Refusal.{Refusal}
 use Rattle.river.proofs.Answers.{clash, after-accepted, after-refused, passed}
@@ -34,6 +36,14 @@ amount-found (refused r) e f = clash (cc)
 pub amount-refused : (x : Answer Amount) {a : AmountRead} {r : Refusal} → a ≡ amountOf x → a ≡ AmountRead.Refused r → x ≡ refused (amountRefusal a)
 amount-refused (accepted n) e f = clash (cc)
 amount-refused (refused r) e f = rw e
+
+pub nitrification-found : (x : Answer Nitrification) {a : NitrificationRead} {n : Nitrification} → a ≡ nitrificationOf x → a ≡ NitrificationRead.Found n → x ≡ accepted n
+nitrification-found (accepted n) e f = cc
+nitrification-found (refused r) e f = clash (cc)
+
+pub nitrification-refused : (x : Answer Nitrification) {a : NitrificationRead} {r : Refusal} → a ≡ nitrificationOf x → a ≡ NitrificationRead.Refused r → x ≡ refused (nitrificationRefusal a)
+nitrification-refused (accepted n) e f = clash (cc)
+nitrification-refused (refused r) e f = rw e
 
 pub header-counted : (x : Answer ℕ) {n next : ℕ} → headerOf x ≡ Header.Count n next → (x ≡ accepted n) × (next ≡ 4)
 header-counted (accepted m) e = (cc, cc)

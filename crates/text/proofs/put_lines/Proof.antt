@@ -1,33 +1,32 @@
 -- `text::put_lines` meets its contract. The loop's invariant: the lines of the first i reaches are put. The measure is how many
 -- reaches are left. Assumes nothing.
-use mathlib.Core.Path.{_≡_, refl, sym, ap, _∙_}
-use mathlib.Core.List.{List, map}
-use Prim.Native.Nat.{ℕ, suc, _+_, _-_, _*_, _≤_}
+use mathlib.Core.Path.{_≡_, refl, ap, _∙_}
+use mathlib.Core.Bool.{Bool}
+use mathlib.Core.List.{List}
+use Prim.Native.Nat.{ℕ, suc, _-_, _*_, _≤_}
 use native.Mathlib.Nat.{le-trans, mul-le-mul-left}
 use native.Mathlib.Numerals.{add-one}
 use native.Mathlib.Omega.{arith}
-use lib.IntN.{ℤ}
-use lib.ListN.{length, length-map}
-use Rattle.river.specs.Stored.{oxygenOf}
+use lib.ListN.{length}
 use Rattle.river.proofs.bytes.Puts.{chain}
-use Rattle.report.specs.Record.{Figures}
-use Rattle.text.specs.Text.{signed, line, numbersOf, linesOf}
+use Rattle.report.specs.Record.{recordBytes}
+use Rattle.text.specs.Text.{reachLine, linesOf}
 use Rattle.text.specs.Held.{longestLine, recorded, PutWithin}
 use Rattle.text.proofs.put.Puts.{reworded}
 use Rattle.text.proofs.put_lines.Statement.{statement}
 use Rattle.text.proofs.put_lines.Tie as tie
 
-record Written (out₀ report : List ℕ) (size count : ℕ) (out : List ℕ) (next i : ℕ) : Type 0 where
+record Written (out₀ report : List ℕ) (nitrified : Bool) (count : ℕ) (out : List ℕ) (next i : ℕ) : Type 0 where
   within : i ≤ count
-  fits : (count ≤ 128) × (size * count ≤ length report) × (longestLine * count ≤ length out₀)
+  fits : (count ≤ 128) × (recordBytes nitrified * count ≤ length report) × (longestLine * count ≤ length out₀)
   same : length out ≡ length out₀
-  lines : PutWithin (longestLine * i) out₀ 0 (linesOf (recorded size report) i) out next
+  lines : PutWithin (longestLine * i) out₀ 0 (linesOf nitrified (recorded nitrified report) i) out next
 
 abbrev Inv-loop : tie.InvT-loop
-Inv-loop out₀ report size count next₀ i₀ out next i = Written out₀ report size count out next i
+Inv-loop out₀ report nitrified count next₀ i₀ out next i = Written out₀ report nitrified count out next i
 
 abbrev μ-loop : tie.MeasureT-loop
-μ-loop out₀ report size count next₀ i₀ out next i = count - i
+μ-loop out₀ report nitrified count next₀ i₀ out next i = count - i
 
 loop-holds : tie.Need-loop-holds Inv-loop μ-loop
 unfolding linesOf
@@ -42,39 +41,27 @@ loop-holds c =
 read-record-requires : tie.Need-read-record-requires Inv-loop μ-loop
 read-record-requires c κs =
     let l = c .before .loop in
-    le-trans (mul-le-mul-left (c .before .before .before .before .args .size) (l .inv .within)) (l .inv .fits .1)
+    le-trans (mul-le-mul-left (recordBytes (c .before .before .before .before .args .nitrified)) (l .inv .within)) (l .inv .fits .1)
 
-numbers-of-requires : tie.Need-numbers-of-requires Inv-loop μ-loop
-numbers-of-requires c κs = tt
-
--- a line has nine numbers
-nine : (numbers : List ℕ) (reach : ℕ) (f : Figures) → map oxygenOf numbers ≡ numbersOf reach f → length numbers ≡ 9
-unfolding numbersOf
-nine numbers reach f e = sym (length-map numbers oxygenOf) ∙ ap length e
-
-slice-aggregate-put-line : tie.Need-slice-aggregate-put-line Inv-loop μ-loop
-slice-aggregate-put-line c = let n = c .before .before .numbers-of in sym (nine (n .result) _ _ (n .ensures))
-
-put-line-requires : tie.Need-put-line-requires Inv-loop μ-loop
-put-line-requires c κs = let n = c .before .before .numbers-of in omega (arith, nine (n .result) _ _ (n .ensures))
+put-reach-requires : tie.Need-put-reach-requires Inv-loop μ-loop
+put-reach-requires c κs =
+    let l = c .before .before .before .loop in
+    omega (arith, l .inv .lines .within, l .inv .same, l .inv .fits .2)
 
 loop-again : tie.Need-loop-again Inv-loop μ-loop
 unfolding linesOf
 loop-again c =
     let p = c .before .before in
-    let n = p .before .before .before in
-    let r = n .before in
+    let r = p .before .before in
     let l = r .before .before .loop in
-    let numbers : map oxygenOf (n .numbers-of .result) ≡ numbersOf (l .i + 1) (recorded _ _ (suc (l .i)))
-    = n .numbers-of .ensures ∙ ap (numbersOf (l .i + 1)) (r .read-record .ensures) in
     record {
       within = omega arith;
       fits = l .inv .fits;
-      same = p .put-line .kept .0 ∙ l .inv .same;
+      same = p .put-reach .kept .0 ∙ l .inv .same;
       lines =
           record {
-            put = rw add-one (chain (l .inv .lines .put) (reworded (ap (λ (z : List ℤ). line (map signed z)) (rw add-one at numbers)) (p .put-line .ensures) .put));
-            within = omega (arith, p .put-line .ensures .within, nine (n .numbers-of .result) _ _ numbers, l .inv .lines .within);
+            put = rw add-one (chain (l .inv .lines .put) (reworded (ap (reachLine _ (suc (l .i))) (r .read-record .ensures)) (rw add-one at (p .put-reach .ensures)) .put));
+            within = omega (arith, p .put-reach .ensures .within, l .inv .lines .within);
           };
     }
 
@@ -96,10 +83,8 @@ put-lines-spec =
     loop-holds
     read-record-requires
     (λ add-i. omega arith)
-    (λ cast-numbers-of. omega arith)
-    numbers-of-requires
-    slice-aggregate-put-line
-    put-line-requires
+    (λ cast-put-reach. omega arith)
+    put-reach-requires
     (λ loop-less. omega arith)
     loop-again
     same-length

@@ -1,37 +1,46 @@
--- `head_vectors::shown::reach` meets its contract: a foot with at most the head's BOD stays in bounds.
+-- `head_vectors::shown::reach` meets its contract: a foot with at most the head's demands stays in bounds.
 use borrow.Author.Needs.{needs}
-use Prim.Native.Nat.{ℕ, _-_, _/_}
+use mathlib.Core.Path.{_≡_}
+use Prim.Native.Nat.{_+_}
 use native.Mathlib.Omega.{arith}
-use lib.ListN.{getD, length-map}
-use Rattle.river.specs.declared.card.Cards.{Cards}
-use Rattle.river.specs.declared.flow.FlowTable.{FlowTable}
-use Rattle.river.specs.declared.head.FootTable.{FootTable}
+use lib.ListN.{getD}
 use Rattle.river.specs.Card.{river, blank}
-use Rattle.river.specs.HeadTable.{HeadInput, HeadAt}
 use Rattle.river.proofs.flow.Count.{card-of-river}
-use Rattle.river.proofs.head.Heads.{reach-few}
-use Rattle.river.proofs.head.Feet.{flow-bounded, foot-carried}
+use Rattle.river.proofs.head.Heads.{sums-fit, flow-asked, head-input, head-within, flow-bounded}
+use Rattle.river.proofs.head.Feet.{foot-within}
 use Rattle.head_vectors.proofs.shown.reach.Statement.{statement}
 use Rattle.head_vectors.proofs.shown.reach.Tie as tie
 
--- the reach by its card
-abbrev head-at : (cs : Cards) {flows : FlowTable} {feet : FootTable} {i : ℕ} → HeadInput (river cs) flows feet i → HeadAt (getD (cs .at) i blank) flows feet i
-head-at cs {i = i} h = record { cards = river cs; input = h; own = card-of-river cs i (h .within) }
+-- the card of the reach is that of the river
+own : (s : tie.Start) → getD (s .args .t1 .at) (s .args .i) blank ≡ getD (river (s .args .t1)) (s .args .i) blank
+own s = card-of-river (s .args .t1) (s .args .i) (s .pre .within)
+
+brought-to-requires : tie.Need-brought-to-requires
+brought-to-requires c κs = sums-fit (c .before .before .before .before .before .before .before .before .before .pre)
+
+upstream-flow-requires : tie.Need-upstream-flow-requires
+upstream-flow-requires c κs =
+    let s = c .before .before .before .before .before .before .before .before .before .before in
+    flow-asked (s .pre) (own s)
 
 head-of-requires : tie.Need-head-of-requires
-head-of-requires c κs = head-at (c .before .args .t1) (c .before .pre)
+head-of-requires c κs =
+    let s = c .before .before .before .before .before .before .before .before .before .before .before in
+    head-input (s .pre) (own s) (c .upstream-flow .ensures) (c .before .brought-to .ensures)
 
-put-foot-requires : tie.Need-put-foot-requires
-put-foot-requires c κs = (reach-few (c .before .before .before .before .before .before .before .before .pre), flow-bounded (c .before .before .before .before .before .before .before .before .pre))
+foot-of-requires : tie.Need-foot-of-requires
+foot-of-requires c κs = flow-bounded (c .before .before .before .before .before .before .before .before .before .before .before .before .before .before .before .before .pre)
 
 returns : tie.Need-returns
 returns c =
-    let s = c .before .before .before .before .before .before .before .before .before in
-    let b = c .before .before .before .before .before .before .before .head-of .result .bod in
-    let g = s .good .1 .1 .0 .1 .1 in
-    foot-carried (s .pre) (b - b / 8) (c .before .before .before .before .before .before .before .head-of .ensures (head-at (s .args .t1) (s .pre))) (omega arith) (s .fits .foot .fits)
-    (simp length-map at (g .0 .1 .0 .1), simp length-map at (g .1 .0 .1 .0 .1))
-    (c .put-foot .ensures)
+    let head = c .before .before .before .before .before in
+    let s = head .before .before .before .before .before .before .before .before .before .before .before .before in
+    let r = head .head-of .result in
+    rw (c .foot-of .ensures)
+    (foot-within (r .bod + r .nitrogenous) (c .before .before .less .result) (c .before .less2 .result) (s .pre .tabled .flow (s .args .i) (s .pre .within))
+    (omega (arith, c .before .before .less .ensures, c .before .less2 .ensures))
+    (head-within (s .pre) (own s) (head .before .upstream-flow .ensures) (head .before .before .brought-to .ensures) (head .head-of .ensures))
+    (omega arith))
 
 pub reach-spec : {M : Type 1} → statement M
 reach-spec =
@@ -39,14 +48,17 @@ reach-spec =
     (tie.spec
     (λ mul-card. search needs)
     (λ element-copy-out-card. search needs)
-    head-of-requires
     (λ mul-flow. search needs)
     (λ element-copy-out-flow. search needs)
+    (λ element-copy-out-depth. search needs)
+    brought-to-requires
+    upstream-flow-requires
+    head-of-requires
     (λ add-line. search needs)
-    (λ element-copy-out-line. search needs)
     (λ mul-line. search needs)
-    (λ element-copy-out-line-2. search needs)
-    (λ line-requires. search needs)
-    (λ sub-put-foot. search needs)
-    put-foot-requires
+    (λ element-copy-out-line. search needs)
+    (λ line-requires κs. search needs)
+    (λ less-requires κs. search needs)
+    (λ less-requires-2 κs. search needs)
+    foot-of-requires
     returns)

@@ -6,9 +6,9 @@ use lib.ListN.{length}
 use native.Mathlib.Omega.{arith}
 use borrow.Author.Needs.{needs}
 use Rattle.river.specs.Card.{river}
-use Rattle.river.proofs.head.Feet.{carried-none}
-use Rattle.head_vectors.proofs.shown.reaches.Statement.{statement}
 use Rattle.river.specs.HeadTable.{Carried}
+use Rattle.river.proofs.head.Feet.{carried-none, carried-next}
+use Rattle.head_vectors.proofs.shown.reaches.Statement.{statement}
 use Rattle.head_vectors.proofs.shown.reaches.Tie as tie
 
 abbrev Inv-loop : tie.InvT-loop
@@ -19,7 +19,7 @@ abbrev μ-loop : tie.MeasureT-loop
 μ-loop cards flows first step count feet₀ i₀ feet i = count - i
 
 loop-holds : tie.Need-loop-holds Inv-loop μ-loop
-loop-holds c = (c .before .reach-count .ensures, zero-le, carried-none _ _)
+loop-holds c = (c .before .reach-count .ensures, zero-le, rw (c .no-feet .ensures) (carried-none _))
 
 foot-oxygen-requires : tie.Need-foot-oxygen-requires Inv-loop μ-loop
 foot-oxygen-requires c κs = omega (arith, c .before .loop .inv .0, c .before .before .before .before .pre .0 .few)
@@ -35,9 +35,19 @@ reach-requires c κs =
       carried = c .before .before .loop .inv .2;
     }
 
+element-write-feet : tie.Need-element-write-feet Inv-loop μ-loop
+element-write-feet c = omega (arith, c .before .before .before .loop .inv .0, c .before .before .before .before .before .before .pre .0 .few)
+
+element-write-feet-2 : tie.Need-element-write-feet-2 Inv-loop μ-loop
+element-write-feet-2 c = element-write-feet c
+
+element-write-feet-3 : tie.Need-element-write-feet-3 Inv-loop μ-loop
+element-write-feet-3 c = element-write-feet c
+
 loop-again : tie.Need-loop-again Inv-loop μ-loop
 loop-again c =
-    (c .before .before .before .loop .inv .0, omega arith, rw add-one (c .reach .ensures))
+    let inv = c .before .before .before .loop .inv in
+    (inv .0, omega arith, rw add-one (carried-next (inv .2) (element-write-feet c) (c .reach .ensures)))
 
 returns : tie.Need-returns Inv-loop μ-loop
 returns c = search needs
@@ -53,6 +63,12 @@ reaches-spec =
     loop-holds
     foot-oxygen-requires
     reach-requires
+    (λ mul-feet. omega (arith, element-write-feet mul-feet))
+    element-write-feet
+    (λ mul-feet-2. omega (arith, element-write-feet mul-feet-2))
+    element-write-feet-2
+    (λ mul-feet-3. omega (arith, element-write-feet mul-feet-3))
+    element-write-feet-3
     (λ add-i. omega arith)
     (λ loop-less. omega arith)
     loop-again

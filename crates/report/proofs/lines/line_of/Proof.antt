@@ -1,56 +1,77 @@
 -- `report::lines::line_of` meets its contract: the profile starts in range, and its figures fit the record. Assumes nothing.
 use borrow.Author.Needs.{needs}
 use native.Mathlib.Omega.{arith}
-use Rattle.report.proofs.lines.Lines.{start-range, start-sound, start-bed, foot-below, critical-within, line-figures}
+use Rattle.river.specs.declared.source.Demand.the-variants.{Bod, Nitrogenous}
+use Rattle.report.proofs.lines.Lines.{start-range, start-sound, start-bed, foot-bod-below, foot-nitrogenous-below, critical-within, line-figures}
 use Rattle.report.proofs.lines.line_of.Statement.{statement}
 use Rattle.report.proofs.lines.line_of.Tie as tie
 
--- the shares of the step, and the ranges of the start and of the bed
+step-of-requires : tie.Need-step-of-requires
+step-of-requires c κs = c .pre .0 .rates Bod
+
+nitrogenous-step-requires : tie.Need-nitrogenous-step-requires
+nitrogenous-step-requires c κs = (c .before .pre .0 .rates Nitrogenous, c .step-of .ensures)
+
+saturation-of-requires : tie.Need-saturation-of-requires
+saturation-of-requires c κs = c .before .before .pre .0 .saturation
+
+bed-of-requires : tie.Need-bed-of-requires
+bed-of-requires c κs =
+    let s = c .before .before .before .before .before .before in
+    let rates = s .pre .0 .rates Bod in
+    (s .pre .0 .bed, rates .flow-above, rates .flow-below)
+
+-- the shares of the steps, and the ranges of the start and of the bed
 profile-of-requires : tie.Need-profile-of-requires
 profile-of-requires c κs =
-    let s = c .before .before .before .before .before in
+    let s = c .before .before .before .before .before .before .before in
     let p = s .pre .0 in
-    let step = c .before .before .before .before .step-of .ensures in (
-      start-sound step (p .0),
-      start-range (s .args .card) (s .pre .1 .0) (s .pre .1 .1) (omega arith) (p .1) (c .before .before .before .saturation-of .ensures),
-      start-bed (s .args .card) step (c .bed-of .ensures) (p .0) (p .2),
+    let step = c .before .before .before .before .before .before .step-of .ensures in (
+      start-sound step (p .rates Bod),
+      start-sound (c .before .before .before .before .before .nitrogenous-step .ensures) (p .rates Nitrogenous),
+      start-range (s .args .card) (s .pre .1 .demands) (s .pre .1 .low) (omega arith) (p .saturation) (c .before .before .before .before .saturation-of .ensures),
+      start-bed (s .args .card) step (c .bed-of .ensures) (p .rates Bod) (p .bed),
     )
 
-cast-t13 : tie.Need-cast-t13
-cast-t13 c =
-    let s = c .before .before .before .before .before .before .before in
-    record {
-      fits =
-          let sound = start-sound (c .before .before .before .before .before .before .step-of .ensures) (s .pre .0 .0) in
-          let r = start-range (s .args .card) (s .pre .1 .0) (s .pre .1 .1) (omega arith) (s .pre .0 .1) (c .before .before .before .before .before .saturation-of .ensures) in
-          omega (arith, foot-below sound r (c .before .profile-of .ensures));
-    }
+cast-t15 : tie.Need-cast-t15
+cast-t15 c =
+    let s = c .before .before .before .before .before .before .before .before .before in
+    record { fits = omega (arith, s .pre .1 .demands, foot-bod-below (c .before .profile-of .ensures) (start-sound (c .before .before .before .before .before .before .before .before .step-of .ensures) (s .pre .0 .rates Bod))) }
 
-cast-t14 : tie.Need-cast-t14
-cast-t14 c = omega (arith, critical-within (c .before .before .profile-of .ensures))
+cast-t16 : tie.Need-cast-t16
+cast-t16 c = omega (arith, critical-within (c .before .before .profile-of .ensures))
+
+cast-t19 : tie.Need-cast-t19
+cast-t19 c =
+    let s = c .before .before .before .before .before .before .before .before .before .before .before .before .before in
+    record { fits = omega (arith, s .pre .1 .demands, foot-nitrogenous-below (c .before .before .before .before .before .profile-of .ensures) (start-sound (c .before .before .before .before .before .before .before .before .before .before .before .nitrogenous-step .ensures) (s .pre .0 .rates Nitrogenous))) }
 
 returns : tie.Need-returns
 returns c =
-    let s = c .before .before .before .before .before .before .before .before .before .before in
-    line-figures (s .args .card) (s .args .flow) (s .args .depth) (s .args .head .bod) (s .args .head .oxygen) _ _ _ _
-    (c .before .before .before .before .before .before .before .before .before .step-of .ensures)
-    (c .before .before .before .before .before .before .before .before .saturation-of .ensures)
-    (c .before .before .before .before .before .bed-of .ensures)
-    (c .before .before .before .before .profile-of .ensures)
+    let s = c .before .before .before .before .before .before .before .before .before .before .before .before .before in
+    line-figures (s .args .card) (s .args .flow) (s .args .depth) (s .args .head .bod) (s .args .head .nitrogenous) (s .args .head .oxygen) _ _ _ _ _
+    (c .before .before .before .before .before .before .before .before .before .before .before .before .step-of .ensures)
+    (c .before .before .before .before .before .before .before .before .before .before .before .nitrogenous-step .ensures)
+    (c .before .before .before .before .before .before .before .before .before .before .saturation-of .ensures)
+    (c .before .before .before .before .before .before .bed-of .ensures)
+    (c .before .before .before .before .before .profile-of .ensures)
 
 pub line-of-spec : {M : Type 1} → statement M
 line-of-spec =
     tie.close
     (tie.spec
-    (λ step-of-requires. search needs)
-    (λ saturation-of-requires. search needs)
-    (λ cast-t10. search needs)
+    step-of-requires
+    nitrogenous-step-requires
+    saturation-of-requires
     (λ cast-t11. search needs)
     (λ cast-t12. search needs)
-    (λ bed-of-requires. search needs)
+    (λ cast-t13. search needs)
+    (λ cast-t14. search needs)
+    bed-of-requires
     profile-of-requires
-    cast-t13
-    cast-t14
-    (λ cast-t15. search needs)
-    (λ cast-t16. search needs)
+    cast-t15
+    cast-t16
+    (λ cast-t17. search needs)
+    (λ cast-t18. search needs)
+    cast-t19
     returns)

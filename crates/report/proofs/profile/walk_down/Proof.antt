@@ -5,13 +5,13 @@ use Prim.Native.Nat.{_≤_, _-_}
 use native.Mathlib.Omega.{arith}
 use Rattle.report.specs.Bed.{noBed}
 use Rattle.report.specs.Program.{foot}
-use Rattle.report.specs.Profile.{WalkedTo}
+use Rattle.report.specs.Profile.{noStep, WalkedTo}
 use Rattle.report.proofs.profile.Steps.{walk-begins}
 use Rattle.report.proofs.profile.walk_down.Statement.{statement}
 use Rattle.report.proofs.profile.walk_down.Tie as tie
 
 abbrev Inv-loop : tie.InvT-loop
-Inv-loop step start walk₀ m₀ walk m = (m ≤ foot) × WalkedTo step start noBed m walk
+Inv-loop step start walk₀ m₀ walk m = (m ≤ foot) × WalkedTo step noStep start noBed m walk
 
 abbrev μ-loop : tie.MeasureT-loop
 μ-loop step start walk₀ m₀ walk m = foot - m
@@ -22,7 +22,7 @@ begin-requires c κs = c .pre .1
 loop-holds : tie.Need-loop-holds Inv-loop μ-loop
 loop-holds c =
     let a = c .before .args in
-    (omega arith, walk-begins (a .step) (a .start) noBed (c .begin .ensures))
+    (omega arith, walk-begins (a .step) noStep (a .start) noBed (c .begin .ensures))
 
 turn-requires : tie.Need-turn-requires Inv-loop μ-loop
 turn-requires c κs =

@@ -4,13 +4,13 @@ use mathlib.Core.Path.{_≡_}
 use Prim.Native.Nat.{_≤_, _-_}
 use native.Mathlib.Omega.{arith}
 use Rattle.report.specs.Program.{foot}
-use Rattle.report.specs.Profile.{WalkedTo}
+use Rattle.report.specs.Profile.{noStep, WalkedTo}
 use Rattle.report.proofs.profile.Steps.{walk-begins}
 use Rattle.report.proofs.profile.walk_over.Statement.{statement}
 use Rattle.report.proofs.profile.walk_over.Tie as tie
 
 abbrev Inv-loop : tie.InvT-loop
-Inv-loop step start bed walk₀ m₀ walk m = (m ≤ foot) × WalkedTo step start bed m walk
+Inv-loop step start bed walk₀ m₀ walk m = (m ≤ foot) × WalkedTo step noStep start bed m walk
 
 abbrev μ-loop : tie.MeasureT-loop
 μ-loop step start bed walk₀ m₀ walk m = foot - m
@@ -21,7 +21,7 @@ begin-requires c κs = c .pre .1
 loop-holds : tie.Need-loop-holds Inv-loop μ-loop
 loop-holds c =
     let a = c .before .args in
-    (omega arith, walk-begins (a .step) (a .start) (a .bed) (c .begin .ensures))
+    (omega arith, walk-begins (a .step) noStep (a .start) (a .bed) (c .begin .ensures))
 
 turn-over-requires : tie.Need-turn-over-requires Inv-loop μ-loop
 turn-over-requires c κs =

@@ -1,13 +1,23 @@
 -- `report::profile::walk_to_foot` meets its contract: a bed that takes nothing is no bed. Assumes nothing.
+use mathlib.Core.Path.{subst, sym}
 use borrow.Author.Needs.{needs}
-use Rattle.report.proofs.profile.Steps.{walk-without}
+use Rattle.report.specs.Program.{foot}
+use Rattle.report.specs.Profile.{BothWalkedTo}
+use Rattle.report.specs.declared.bed.Bed.{Bed}
 use Rattle.report.proofs.profile.walk_to_foot.Statement.{statement}
 use Rattle.report.proofs.profile.walk_to_foot.Tie as tie
 
-returns : tie.Need-returns
-returns c =
-    let a = c .before .before .before .before .before .args in
-    walk-without (a .step) (a .start) (a .bed) (c .before .before .before .if1 .taken) (c .before .if2 .taken) (c .walk-down .ensures)
+returns-2 : tie.Need-returns-2
+returns-2 c =
+    let a = c .before .before .before .args in
+    subst (λ (b : Bed). BothWalkedTo (a .step) (a .other) (a .start) b foot (c .walk-both .result)) (sym (c .before .before .takes .ensures (c .before .if1 .left))) (c .walk-both .ensures)
 
 pub walk-to-foot-spec : {M : Type 1} → statement M
-walk-to-foot-spec = tie.close (tie.spec (λ walk-down-requires. search needs) returns (λ walk-over-requires. search needs) (λ returns-2. search needs))
+walk-to-foot-spec =
+    tie.close
+    (tie.spec
+    (λ takes-requires. search needs)
+    (λ walk-over-both-requires. search needs)
+    (λ walk-both-requires. search needs)
+    (λ returns. search needs)
+    returns-2)

@@ -7,9 +7,10 @@ use Rattle.report.proofs.record.line_in.Tie as tie
 returns : tie.Need-returns
 unfolding readRecord
 returns c =
-    let d = c .before .before .before in
+    let b = c .before .before in
+    let d = b .before .before .before in
     let e = d .before .before in
-    cc (e .before .before .byte-at .ensures, e .before .four-at .ensures, e .four-at2 .ensures, d .before .four-at3 .ensures, d .complement-at .ensures, c .before .before .two-at .ensures, c .before .complement-at2 .ensures, c .complement-at3 .ensures)
+    cc (e .before .before .byte-at .ensures, e .before .four-at .ensures, e .four-at2 .ensures, d .before .four-at3 .ensures, d .complement-at .ensures, b .before .before .two-at .ensures, b .before .complement-at2 .ensures, b .complement-at3 .ensures, c .before .nitrogenous-at .ensures, c .nitrogenous-at2 .ensures)
 
 pub line-in-spec : {M : Type 1} → statement M
 line-in-spec =
@@ -23,4 +24,6 @@ line-in-spec =
     (λ two-at-requires. search needs)
     (λ complement-at-requires-2. search needs)
     (λ complement-at-requires-3. search needs)
+    (λ nitrogenous-at-requires. search needs)
+    (λ nitrogenous-at-requires-2. search needs)
     returns)

@@ -1,23 +1,45 @@
--- `report::record::put_record` meets its contract: the two halves of the record, one behind the other. Assumes nothing.
+-- `report::record::put_record` meets its contract: the two halves of the `RP` record and the `RN` record, one behind the other.
+-- Assumes nothing.
 use borrow.Author.Needs.{needs}
+use native.Mathlib.Omega.{arith}
 use Rattle.river.proofs.bytes.Puts.{chain}
-use Rattle.report.specs.Record.{encodeRecord}
+use Rattle.report.specs.Record.{encodePlain, encodeRecord}
+use Rattle.report.proofs.record.Encoding.{record-bounds}
 use Rattle.report.proofs.record.put_record.Statement.{statement}
 use Rattle.report.proofs.record.put_record.Tie as tie
 
 put-flows-requires : tie.Need-put-flows-requires
-unfolding encodeRecord
-put-flows-requires c κs = search needs
+put-flows-requires c κs =
+    let s = c .before .before in
+    omega (arith, s .pre, record-bounds (s .args .nitrified) .0)
 
 put-oxygen-requires : tie.Need-put-oxygen-requires
-unfolding encodeRecord
-put-oxygen-requires c κs = search needs
+put-oxygen-requires c κs =
+    let s = c .before .before .before .before .before .before in
+    omega (arith, s .pre, record-bounds (s .args .nitrified) .0, c .before .before .before .put-flows .ensures .place, c .before .before .before .put-flows .kept .0)
+
+put-nitrogenous-requires : tie.Need-put-nitrogenous-requires
+put-nitrogenous-requires c κs =
+    let o = c .before .before .before .before in
+    let f = o .before .before .before .before in
+    let room = rw (c .before .if1 .taken) at (f .before .before .before .pre) in
+    omega (arith, room, f .put-flows .ensures .place, f .put-flows .kept .0, o .put-oxygen .ensures .place, o .put-oxygen .kept .0)
 
 returns : tie.Need-returns
-unfolding encodeRecord
+unfolding encodeRecord encodePlain
 returns c =
-    let b = c .before .before in
-    chain (b .before .before .before .before .put-flows .ensures) (b .put-oxygen .ensures)
+    let n = c .before .before in
+    let t = n .before .before in
+    let o = t .before .before .before in
+    let f = o .before .before .before .before in
+    rw (t .if1 .taken) (chain (chain (f .put-flows .ensures) (o .put-oxygen .ensures)) (n .put-nitrogenous .ensures))
+
+returns-2 : tie.Need-returns-2
+unfolding encodeRecord encodePlain
+returns-2 c =
+    let o = c .before .before .before in
+    let f = o .before .before .before .before in
+    rw (c .if1 .left) (chain (f .put-flows .ensures) (o .put-oxygen .ensures))
 
 pub put-record-spec : {M : Type 1} → statement M
-put-record-spec = tie.close (tie.spec put-flows-requires put-oxygen-requires (λ same-length. search needs) returns)
+put-record-spec = tie.close (tie.spec put-flows-requires put-oxygen-requires put-nitrogenous-requires (λ same-length. search needs) returns (λ same-length-2. search needs) returns-2)

@@ -11,11 +11,12 @@ use Rattle.river.proofs.card.size_of.Statement.{statement}
 use Rattle.river.proofs.card.size_of.Tie as tie
 
 -- the lengths of the records, added up
-added : (c : tie.After-amount-size3) → let p = c .before in let t = p .before in reachBytes + t .before .dam-size .result + t .amount-size .result + p .amount-size2 .result + c .amount-size3 .result ≡ sizeOf (t .before .before .args .c)
+added : (c : tie.After-nitrification-size) → let s = c .before in let p = s .before in let t = p .before in reachBytes + t .before .dam-size .result + t .amount-size .result + p .amount-size2 .result + s .amount-size3 .result + c .nitrification-size .result ≡ sizeOf (t .before .before .args .c)
 added c =
-    let p = c .before in
+    let s = c .before in
+    let p = s .before in
     let t = p .before in
-    simp length-append (omega (arith, t .before .dam-size .ensures, t .amount-size .ensures, p .amount-size2 .ensures, c .amount-size3 .ensures))
+    simp length-append (omega (arith, t .before .dam-size .ensures, t .amount-size .ensures, p .amount-size2 .ensures, s .amount-size3 .ensures, c .nitrification-size .ensures))
 
 add-result : tie.Need-add-result
 add-result c = omega (arith, c .dam-size .ensures, simp length-append at (size-small (c .before .args .c)))
@@ -30,7 +31,13 @@ add-result-3 c =
     omega (arith, t .before .dam-size .ensures, t .amount-size .ensures, c .amount-size2 .ensures, simp length-append at (size-small (t .before .before .args .c)))
 
 add-result-4 : tie.Need-add-result-4
-add-result-4 c = omega (arith, added c, size-small (c .before .before .before .before .args .c))
+add-result-4 c =
+    let p = c .before in
+    let t = p .before in
+    omega (arith, t .before .dam-size .ensures, t .amount-size .ensures, p .amount-size2 .ensures, c .amount-size3 .ensures, simp length-append at (size-small (t .before .before .args .c)))
+
+add-result-5 : tie.Need-add-result-5
+add-result-5 c = omega (arith, added c, size-small (c .before .before .before .before .before .args .c))
 
 returns : tie.Need-returns
 returns c = added c
@@ -47,4 +54,6 @@ size-of-spec =
     add-result-3
     (λ amount-size-requires-3. search needs)
     add-result-4
+    (λ nitrification-size-requires. search needs)
+    add-result-5
     returns)

@@ -7,7 +7,7 @@ use Prim.Native.Nat.{_<_}
 use lib.ListN.{length, length-map}
 use Rattle.river.specs.Card.{FieldsInRange}
 use Rattle.river.specs.FlowTable.{Underway}
-use Rattle.river.proofs.flow.Count.{card-in-range, own-mass-few}
+use Rattle.river.proofs.flow.Count.{card-in-range, card-sources, own-mass-few}
 use Rattle.river.proofs.flow.Groups.{checks-ask, decided}
 use Rattle.river.proofs.flow.Checks.{Full, sums-fit, gathered-small, next-refused, next-passed}
 use Rattle.river.proofs.flow.check_next.Statement.{statement}
@@ -30,7 +30,9 @@ add-flow c =
     omega (arith, gathered-small (next s) (up .upstream-of .ensures), in-range s)
 
 own-mass-requires : tie.Need-own-mass-requires
-own-mass-requires c κs = in-range (c .before .before .before)
+own-mass-requires c κs =
+    let s = c .before .before .before in
+    card-sources (s .pre .own) (s .pre .underway .lawful) (s .pre .within)
 
 add-mass : tie.Need-add-mass
 add-mass c =

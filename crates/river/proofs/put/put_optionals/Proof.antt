@@ -28,15 +28,24 @@ put-amount-requires-3 c κs =
     let a = b .before .before .before .before in
     omega (arith, d .put-amount2 .ensures .place, b .put-amount .ensures .place, a .put-dam .ensures .place, simp length-append at (a .before .before .before .pre))
 
+put-nitrification-requires : tie.Need-put-nitrification-requires
+put-nitrification-requires c κs =
+    let e = c .before .before .before in
+    let d = e .before .before .before .before in
+    let b = d .before .before .before .before in
+    let a = b .before .before .before .before in
+    omega (arith, e .put-amount3 .ensures .place, d .put-amount2 .ensures .place, b .put-amount .ensures .place, a .put-dam .ensures .place, simp length-append at (a .before .before .before .pre))
+
 returns : tie.Need-returns
 returns c =
-    let e = c .before .before in
+    let f = c .before .before in
+    let e = f .before .before .before .before in
     let d = e .before .before .before .before in
     let b = d .before .before .before .before in
     chain (b .before .before .before .before .put-dam .ensures)
-    (chain (b .put-amount .ensures) (chain (d .put-amount2 .ensures) (chain (e .put-amount3 .ensures) (put-none _ _))))
+    (chain (b .put-amount .ensures) (chain (d .put-amount2 .ensures) (chain (e .put-amount3 .ensures) (chain (f .put-nitrification .ensures) (put-none _ _)))))
 
 pub put-optionals-spec : {M : Type 1} → statement M
 put-optionals-spec =
     tie.close
-    (tie.spec put-dam-requires put-amount-requires put-amount-requires-2 put-amount-requires-3 (λ same-length. search needs) returns)
+    (tie.spec put-dam-requires put-amount-requires put-amount-requires-2 put-amount-requires-3 put-nitrification-requires (λ same-length. search needs) returns)

@@ -27,10 +27,19 @@ returns-3 c =
 returns-4 : tie.Need-returns-4
 unfolding optionalsInRange
 returns-4 c =
-    let e3 = c .before in
+    let e3 = c .before .before in
     let e2 = e3 .before .before in
     let e1 = e2 .before .before in
-    rw (← e1 .before .dam-in-range .ensures, not-false (e1 .before .dam-in-range .result) (e1 .if1 .left), ← e2 .before .amount-in-range .ensures, not-false (e2 .before .amount-in-range .result) (e2 .if2 .left), ← e3 .before .amount-in-range2 .ensures, not-false (e3 .before .amount-in-range2 .result) (e3 .if3 .left), and-true) (c .amount-in-range3 .ensures)
+    rw (← e1 .before .dam-in-range .ensures, not-false (e1 .before .dam-in-range .result) (e1 .if1 .left), ← e2 .before .amount-in-range .ensures, not-false (e2 .before .amount-in-range .result) (e2 .if2 .left), ← e3 .before .amount-in-range2 .ensures, not-false (e3 .before .amount-in-range2 .result) (e3 .if3 .left), ← c .before .amount-in-range3 .ensures, not-true (c .before .amount-in-range3 .result) (c .if4 .taken))
+
+returns-5 : tie.Need-returns-5
+unfolding optionalsInRange
+returns-5 c =
+    let e4 = c .before in
+    let e3 = e4 .before .before in
+    let e2 = e3 .before .before in
+    let e1 = e2 .before .before in
+    rw (← e1 .before .dam-in-range .ensures, not-false (e1 .before .dam-in-range .result) (e1 .if1 .left), ← e2 .before .amount-in-range .ensures, not-false (e2 .before .amount-in-range .result) (e2 .if2 .left), ← e3 .before .amount-in-range2 .ensures, not-false (e3 .before .amount-in-range2 .result) (e3 .if3 .left), ← e4 .before .amount-in-range3 .ensures, not-false (e4 .before .amount-in-range3 .result) (e4 .if4 .left), and-true) (c .nitrification-in-range .ensures)
 
 pub optionals-in-range-spec : {M : Type 1} → statement M
 optionals-in-range-spec =
@@ -43,4 +52,6 @@ optionals-in-range-spec =
     (λ amount-in-range-requires-2. search needs)
     returns-3
     (λ amount-in-range-requires-3. search needs)
-    returns-4)
+    returns-4
+    (λ nitrification-in-range-requires. search needs)
+    returns-5)

@@ -7,14 +7,14 @@ use Prim.Native.Nat.{ℕ}
 use denote.Ref.{now}
 use lib.ListN.{drop}
 use native.Mathlib.Omega.{arith}
-use Rattle.river.specs.Card.{reachBytes, takeRecord, pressureRecord, sludgeRecord, optional}
+use Rattle.river.specs.Card.{reachBytes, takeRecord, pressureRecord, sludgeRecord, nitrificationRecord, optional}
 use Rattle.river.specs.Optional.{Values, readOptionals}
 use Rattle.river.specs.Read.{cardAt, reachOf}
 use Rattle.river.specs.Refusal.{Answer, accepted, after}
 use Rattle.river.specs.declared.card.Card.{Card}
 use Rattle.river.proofs.card.Rows.{size-small}
 use Rattle.river.proofs.card.Optional.{Due, all-due, refused-here, found-here, none-due}
-use Rattle.river.proofs.read.Steps.{dam-found, dam-refused, amount-found, amount-refused, card-refused, card-made}
+use Rattle.river.proofs.read.Steps.{dam-found, dam-refused, amount-found, amount-refused, nitrification-found, nitrification-refused, card-refused, card-made}
 use Rattle.river.proofs.read.read_card.Statement.{statement}
 use Rattle.river.proofs.read.read_card.Tie as tie
 
@@ -46,7 +46,7 @@ abbrev start-2 : tie.After-behind2 → tie.Start
 start-2 c = start (dam-found-at c .before .before .before)
 
 take-due : (c : tie.After-behind2)
-    → let a = start-2 c in Due (asked a) (takeRecord ∷ pressureRecord ∷ sludgeRecord ∷ []) (a .args .reach) (now (c .behind2 .result)) (λ vs. made (now (a .args .s)) (dam-found-at c .found .given .0 .0, vs))
+    → let a = start-2 c in Due (asked a) (takeRecord ∷ pressureRecord ∷ sludgeRecord ∷ nitrificationRecord ∷ []) (a .args .reach) (now (c .behind2 .result)) (λ vs. made (now (a .args .s)) (dam-found-at c .found .given .0 .0, vs))
 take-due c =
     let d = dam-found-at c in
     let r = d .before .before in
@@ -70,7 +70,7 @@ abbrev start-3 : tie.After-behind3 → tie.Start
 start-3 c = start-2 (take-found-at c .before .before .before)
 
 pressure-due : (c : tie.After-behind3)
-    → let a = start-3 c in Due (asked a) (pressureRecord ∷ sludgeRecord ∷ []) (a .args .reach) (now (c .behind3 .result)) (λ vs. made (now (a .args .s)) (dam-found-before c .found .given .0 .0, (take-found-at c .found2 .given .0 .0, vs)))
+    → let a = start-3 c in Due (asked a) (pressureRecord ∷ sludgeRecord ∷ nitrificationRecord ∷ []) (a .args .reach) (now (c .behind3 .result)) (λ vs. made (now (a .args .s)) (dam-found-before c .found .given .0 .0, (take-found-at c .found2 .given .0 .0, vs)))
 pressure-due c =
     let d = take-found-at c in
     let r = d .before .before in
@@ -94,7 +94,7 @@ abbrev start-4 : tie.After-behind4 → tie.Start
 start-4 c = start-3 (taken-before c)
 
 sludge-due : (c : tie.After-behind4)
-    → let a = start-4 c in let b = taken-before c in Due (asked a) (sludgeRecord ∷ []) (a .args .reach) (now (c .behind4 .result)) (λ vs. made (now (a .args .s)) (dam-found-before b .found .given .0 .0, (take-found-at b .found2 .given .0 .0, (pressure-found-at c .found3 .given .0 .0, vs))))
+    → let a = start-4 c in let b = taken-before c in Due (asked a) (sludgeRecord ∷ nitrificationRecord ∷ []) (a .args .reach) (now (c .behind4 .result)) (λ vs. made (now (a .args .s)) (dam-found-before b .found .given .0 .0, (take-found-at b .found2 .given .0 .0, (pressure-found-at c .found3 .given .0 .0, vs))))
 sludge-due c =
     let d = pressure-found-at c in
     let r = d .before .before in
@@ -107,19 +107,43 @@ returns-4 c =
     card-refused (start-4 (r .before) .args .at) (c .amount-refusal3 .ensures)
     (refused-here (sludge-due (r .before)) (amount-refused _ (r .read-amount3 .ensures) (c .before .enum-told4 .given .1)))
 
--- behind the sludge bed, the last
-add-next : tie.Need-add-next
-add-next c =
-    let r = c .before .before .before .before .before in
-    omega (arith, start-4 (r .before) .pre, c .size-of .ensures, size-small (c .before .card-at .result))
+-- behind the sludge bed
+abbrev sludge-found-at : tie.After-behind5 → tie.After-found4
+sludge-found-at c = c .before .before .before
+
+abbrev pressed-before : tie.After-behind5 → tie.After-behind4
+pressed-before c = sludge-found-at c .before .before .before
+
+abbrev start-5 : tie.After-behind5 → tie.Start
+start-5 c = start-4 (pressed-before c)
+
+nitrification-due : (c : tie.After-behind5)
+    → let a = start-5 c in let p = pressed-before c in let b = taken-before p in Due (asked a) (nitrificationRecord ∷ []) (a .args .reach) (now (c .behind5 .result)) (λ vs. made (now (a .args .s)) (dam-found-before b .found .given .0 .0, (take-found-at b .found2 .given .0 .0, (pressure-found-at p .found3 .given .0 .0, (sludge-found-at c .found4 .given .0 .0, vs)))))
+nitrification-due c =
+    let d = sludge-found-at c in
+    let r = d .before .before in
+    found-here (sludge-due (r .before)) (amount-found _ (r .read-amount3 .ensures) (d .found4 .given .1))
+    (c .behind5 .ensures ∙ ap (λ (k : ℕ). drop k (now (r .before .behind4 .result))) (c .before .amount-size3 .ensures))
 
 returns-5 : tie.Need-returns-5
 returns-5 c =
+    let r = c .before .before .before in
+    card-refused (start-5 (r .before) .args .at) (c .nitrification-refusal .ensures)
+    (refused-here (nitrification-due (r .before)) (nitrification-refused _ (r .read-nitrification .ensures) (c .before .enum-told5 .given .1)))
+
+-- behind the nitrification, the last
+add-next : tie.Need-add-next
+add-next c =
+    let r = c .before .before .before .before .before in
+    omega (arith, start-5 (r .before) .pre, c .size-of .ensures, size-small (c .before .card-at .result))
+
+returns-6 : tie.Need-returns-6
+returns-6 c =
     let t = c .before .before .before in
     let r = t .before .before in
-    let at = start-4 (r .before) .args .at in
+    let at = start-5 (r .before) .args .at in
     card-made at (c .before .card-at .ensures) (c .size-of .ensures) ∙
-    sym (ap (reachOf at) (none-due (found-here (sludge-due (r .before)) (amount-found _ (r .read-amount3 .ensures) (t .found4 .given .1)) refl)))
+    sym (ap (reachOf at) (none-due (found-here (nitrification-due (r .before)) (nitrification-found _ (r .read-nitrification .ensures) (t .found5 .given .1)) refl)))
 
 pub read-card-spec : {M : Type 1} → statement M
 read-card-spec =
@@ -152,7 +176,14 @@ read-card-spec =
     (λ enum-told-4. search needs)
     (λ amount-refusal-requires-3. search needs)
     returns-4
+    (λ amount-size-requires-3. search needs)
+    (λ behind-requires-5. search needs)
+    (λ read-nitrification-requires. search needs)
+    (λ enum-known-found-5. search needs)
+    (λ enum-told-5. search needs)
+    (λ nitrification-refusal-requires. search needs)
+    returns-5
     (λ card-at-requires. search needs)
     (λ size-of-requires. search needs)
     add-next
-    returns-5)
+    returns-6)

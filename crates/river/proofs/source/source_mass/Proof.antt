@@ -1,15 +1,15 @@
 -- `river::source::source_mass` meets its contract: a product of numbers in range fits.
 use borrow.Author.Needs.{needs}
-use native.Mathlib.Nat.{mul-le-mul}
 use native.Mathlib.Omega.{arith}
+use Rattle.river.proofs.source.Ranges.{source-mass-small}
 use Rattle.river.proofs.source.source_mass.Statement.{statement}
 use Rattle.river.proofs.source.source_mass.Tie as tie
 
 mul-result : tie.Need-mul-result
-mul-result c = omega (arith, mul-le-mul (c .before .before .pre .inflow) (c .before .before .pre .concentration))
+mul-result c = omega (arith, source-mass-small (c .before .before .pre))
 
 add-result : tie.Need-add-result
-add-result c = omega (arith, mul-le-mul (c .before .before .before .pre .inflow) (c .before .before .before .pre .concentration))
+add-result c = omega (arith, source-mass-small (c .before .before .before .pre))
 
 returns : tie.Need-returns
 returns c = search needs

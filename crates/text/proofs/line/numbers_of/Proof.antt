@@ -7,7 +7,8 @@ use Rattle.text.proofs.line.numbers_of.Tie as tie
 returns : tie.Need-returns
 unfolding numbersOf
 returns c =
-    let f = c .before .before in
+    let g = c .before in
+    let f = g .before .before .before in
     let e = f .before .before .before in
     let d = e .before in
     let b = d .before in
@@ -19,6 +20,8 @@ returns c =
       d .plain4 .ensures,
       e .plain5 .ensures,
       f .plain6 .ensures,
+      g .plain7 .ensures,
+      c .plain8 .ensures,
     )
 
 pub numbers-of-spec : {M : Type 1} → statement M
@@ -36,4 +39,6 @@ numbers-of-spec =
     (λ plain-requires-6. search needs)
     (λ cast-t12. search needs)
     (λ cast-t13. search needs)
+    (λ plain-requires-7. search needs)
+    (λ plain-requires-8. search needs)
     returns)

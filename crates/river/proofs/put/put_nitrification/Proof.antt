@@ -1,0 +1,56 @@
+-- `river::put::put_nitrification` meets its contract: by the nitrification's cases; runs of bytes, one behind the other.
+-- Assumes nothing.
+use borrow.Author.Needs.{needs}
+use Prim.Native.Nat.{_+_, _≤_}
+use denote.Ref.{now}
+use lib.ListN.{length}
+use native.Mathlib.Omega.{arith}
+use Rattle.river.proofs.bytes.Puts.{chain, put-none}
+use Rattle.river.proofs.put.put_nitrification.Statement.{statement}
+use Rattle.river.proofs.put.put_nitrification.Tie as tie
+
+returns : tie.Need-returns
+returns c = rw (c .enum-told .given .1) (put-none _ _)
+
+-- the room that was asked for
+room : (c : tie.After-nitrification) → let a = c .before .before .before .args in a .at + 16 ≤ length (now (a .out))
+room c = rw (c .nitrification .given .1) at (c .before .before .before .pre)
+
+put-pair-requires : tie.Need-put-pair-requires
+put-pair-requires c κs = omega (arith, room (c .before .before))
+
+put-two-requires : tie.Need-put-two-requires
+put-two-requires c κs = omega (arith, room (c .before .before .before .before .before .before))
+
+put-four-requires : tie.Need-put-four-requires
+put-four-requires c κs = omega (arith, room (c .before .before .before .before .before .before .before .before .before .before))
+
+put-four-requires-2 : tie.Need-put-four-requires-2
+put-four-requires-2 c κs = omega (arith, room (c .before .before .before .before .before .before .before .before .before .before .before .before .before .before))
+
+put-four-requires-3 : tie.Need-put-four-requires-3
+put-four-requires-3 c κs = omega (arith, room (c .before .before .before .before .before .before .before .before .before .before .before .before .before .before .before .before .before .before))
+
+returns-2 : tie.Need-returns-2
+returns-2 c =
+    let f = c .before .before in
+    let e = f .before .before .before .before in
+    let d = e .before .before .before .before in
+    let b = d .before .before .before .before in
+    let a = b .before .before .before .before in
+    rw (a .before .before .before .nitrification .given .1) (chain (chain (chain (chain (a .put-pair .ensures) (b .put-two .ensures)) (d .put-four .ensures)) (e .put-four2 .ensures)) (f .put-four3 .ensures))
+
+pub put-nitrification-spec : {M : Type 1} → statement M
+put-nitrification-spec =
+    tie.close
+    (tie.spec
+    (λ enum-known-nitrification. search needs)
+    (λ enum-told. search needs)
+    returns
+    put-pair-requires
+    put-two-requires
+    put-four-requires
+    put-four-requires-2
+    put-four-requires-3
+    (λ same-length. search needs)
+    returns-2)

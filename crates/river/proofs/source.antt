@@ -1,0 +1,2 @@
+-- Laws of the demands of a reach.
+pub mod Ranges
