@@ -18,10 +18,13 @@ struct reach {
     double bod_above, nitrogenous_above, oxygen_above;
 };
 
-/* A river: reach i at i, where 0 takes what the last reach passes on, and whether the file has any ammonia. */
+/*
+ * A river: reach i at i, where 0 takes what the last reach passes on, its rate factors, and whether the file has any
+ * ammonia.
+ */
 struct river {
     struct reach reaches[129];
-    uint32_t count;
+    uint32_t count, decay_factor, aeration_factor; /* the factors in thousandths, 1000 where the file has none */
     int has_ammonia;
 };
 
@@ -124,6 +127,23 @@ static uint32_t read_reach(const uint8_t *file, size_t length, size_t *at, uint3
     return refusal ? refusal : read_ammonia(file, length, at, r, &river->has_ammonia);
 }
 
+/* Reads the rate factors at *at where they are there, and moves *at past them. */
+static uint32_t read_factors(const uint8_t *file, size_t length, size_t *at, struct river *river)
+{
+    river->decay_factor = river->aeration_factor = 1000;
+    if (follows(file, length, *at, "TH")) {
+        if (length - *at < 6)
+            return 1;
+        river->decay_factor = number(file + *at + 2, 2);
+        river->aeration_factor = number(file + *at + 4, 2);
+        if (river->decay_factor < 1000 || river->decay_factor > 1100 || river->aeration_factor < 1000
+            || river->aeration_factor > 1100)
+            return 4;
+        *at += 6;
+    }
+    return 0;
+}
+
 static uint32_t read_river(const uint8_t *file, size_t length, struct river *river)
 {
     if (length < 4)
@@ -135,12 +155,39 @@ static uint32_t read_river(const uint8_t *file, size_t length, struct river *riv
     if (river->count < 1 || river->count > 128)
         return 3;
     size_t at = 4;
+    uint32_t wrong = read_factors(file, length, &at, river);
+    if (wrong)
+        return wrong;
     for (uint32_t i = 1; i <= river->count; i++) {
         uint32_t refusal = read_reach(file, length, &at, i, river);
         if (refusal)
             return refusal + 256 * i;
     }
     return at < length ? 6 : 0;
+}
+
+/* A rate at 20 degrees, corrected to a temperature: rounded down at each degree, as the paper has it. */
+static uint32_t corrected(uint32_t rate, uint32_t factor, uint32_t temperature)
+{
+    uint64_t parts = 1000000ull * rate;
+    for (uint32_t t = 20; t < temperature; t++)
+        parts = parts * factor / 1000;
+    for (uint32_t t = temperature; t < 20; t++)
+        parts = parts * 1000 / factor;
+    return (uint32_t)(parts / 1000000);
+}
+
+/* Puts the rates in force in place of those of the file. */
+static void correct_rates(struct river *river)
+{
+    if (river->decay_factor == 1000 && river->aeration_factor == 1000)
+        return;
+    for (uint32_t i = 1; i <= river->count; i++) {
+        struct reach *r = &river->reaches[i];
+        r->k1 = corrected(r->k1, river->decay_factor, r->temperature);
+        r->kn = corrected(r->kn, river->decay_factor, r->temperature);
+        r->k2 = corrected(r->k2, river->aeration_factor, r->temperature);
+    }
 }
 
 static uint32_t check_flows(struct reach *reaches, uint32_t n)
@@ -163,6 +210,8 @@ static uint32_t check_flows(struct reach *reaches, uint32_t n)
             return 10 + 256 * i;
         if (r->take >= r->mixed)
             return 13 + 256 * i;
+        if (k > 20000)
+            return 15 + 256 * i;
         r->flow = r->mixed - r->take;
         r->mass -= r->take * (r->mass / r->mixed);
         if (r->mass > 1000000 * r->flow)
@@ -423,8 +472,10 @@ static size_t record_size(const struct river *river)
 static uint32_t accept(const uint8_t *file, size_t file_len, size_t report_len, struct river *river)
 {
     uint32_t refusal = read_river(file, file_len, river);
-    if (!refusal)
+    if (!refusal) {
+        correct_rates(river);
         refusal = check_flows(river->reaches, river->count);
+    }
     if (!refusal && report_len < record_size(river) * river->count)
         refusal = 12;
     return refusal;

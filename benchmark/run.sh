@@ -21,15 +21,17 @@ for count in 1 2 4 8 16 32 64; do
     ../tools/river make "$name.txt" "$name.river"
     rivers+=("$name.river")
 done
-# The chain with more at the end of each line, as a river of its own: what a sludge bed and what ammonia costs.
+# The chain with more at the end of each line, and perhaps a line before them, as a river of its own: what a sludge bed, what ammonia and what rate
+# factors cost.
 variant() {
-    grep -v '^#' ../examples/chain.txt | sed "s/\$/ $2/" > "$scratch/$1.txt"
+    { [ $# -lt 3 ] || echo "$3"; grep -v '^#' ../examples/chain.txt | sed "s/\$/ $2/"; } > "$scratch/$1.txt"
     ../tools/river make "$scratch/$1.txt" "$scratch/$1.river"
 }
 variant chain-beds "sludge 1500"
 variant chain-ammonia "ammonia 300 2000 0"
 variant chain-ammonia-beds "sludge 1500 ammonia 300 2000 0"
-"$scratch/bench" ../examples/town.river ../examples/chain.river "$scratch"/chain-{beds,ammonia,ammonia-beds}.river "${rivers[@]}"
+variant chain-factors "" "factors 1047 1024"
+"$scratch/bench" ../examples/town.river ../examples/chain.river "$scratch"/chain-{beds,ammonia,ammonia-beds,factors}.river "${rivers[@]}"
 cat <<'END'
 
 proved       xylandreo_report
@@ -42,6 +44,6 @@ checks       reading and flow check alone (calls that are refused with 12), part
 ns a step    the rest of the proved time over 1,024 steps a reach: head, step shares, instants, record
 difference   largest distance of a concentration from that of the proved report, in units of 0.000001 mg/L
 of instants  the same of the critical instant, in 1024ths of the travel time
-chain-beds   the chain with a sludge bed at each reach; chain-ammonia, with ammonia at each; chain-ammonia-beds, with both; chain-N, its first N
-             reaches with neither
+chain-beds   the chain with a sludge bed at each reach; chain-ammonia, with ammonia at each; chain-ammonia-beds, with both; chain-factors, with
+             rate factors alone; chain-N, its first N reaches with none of these
 END

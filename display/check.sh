@@ -59,6 +59,10 @@ make_odd_files() {
     { head -c 46 two-ammonia.river; printf 'SD\005\334'; tail -c +47 two-ammonia.river; } > "$1/ammonia-before-sludge.river"
     { head -c 32 two-ammonia.river; printf '\377\377'; tail -c +35 two-ammonia.river; } > "$1/ammonia-too-fast.river"
     { head -c 45 two-ammonia.river; printf '\001'; tail -c +47 two-ammonia.river; } > "$1/ammonia-not-zero.river"
+    head -c 9 two-factors.river > "$1/factors-cut.river"
+    { head -c 10 two-factors.river; tail -c +5 two-factors.river; } > "$1/factors-twice.river"
+    { head -c 30 two.river; printf 'TH\004\027\004\000'; tail -c +31 two.river; } > "$1/factors-after-reach.river"
+    { head -c 8 two-factors.river; printf '\377\377'; tail -c +11 two-factors.river; } > "$1/factors-too-large.river"
     { cat town.river; echo; } > "$1/line-end-more.river"
     { cat chain.river; head -c 5000000 /dev/zero; } > "$1/long.river"
     cp town.txt "$1/text.river"
@@ -156,6 +160,13 @@ says 'ammonia-too-fast.river: refused 4 reach 1: a field is out of range: kn is 
 says 'ammonia-not-zero.river: refused 4 reach 1: a field is out of range: last number is 1, not 0$'
 says '10-both-demands.river: refused 10 reach 1: all BOD of both kinds'
 says '11-fast-nitrifiers.river: refused 11 reach 1: the reach is too long for its rates'
+expect 1 "$display" "$scratch"/odd/factors-*.river refused/4-factor.river refused/15-warm.river
+says 'factors-cut.river: refused 1 reach 0: fewer bytes'
+says 'factors-twice.river: refused 2 reach 1: the mark'
+says 'factors-after-reach.river: refused 2 reach 2: the mark'
+says 'factors-too-large.river: refused 4 reach 0: a field is out of range: aeration factor is 65535, not from 1000 to 1100 thousandths$'
+says '4-factor.river: refused 4 reach 0: a field is out of range: decay factor is 1101, not from 1000 to 1100 thousandths$'
+says '15-warm.river: refused 15 reach 1: a rate, corrected to the temperature of the reach, is above 20 per day$'
 expect 1 "$display" refused/5-uphill.river "$scratch"/odd/outlet-*.river "$scratch/odd/text.river"
 says 'refused 5 reach 2: the outlet is wrong: outlet is 2, not 3$'
 says 'refused 5 reach 1: the outlet is wrong: outlet is 1, not from 2 to 5$'
@@ -167,9 +178,9 @@ expect 0 "$collection" .
 expect 1 "$collection" refused
 expect 1 "$collection" "$scratch/odd"
 says '^text.river .*; this looks like a text; tools/river make'
-says '^27 rivers: 0 accepted, 27 refused; rewritten: 0 the same, 0 differ; reports beside them: 0 the same, 0 differ$'
-# A pressure of 760, a bed that demands nothing and ammonia of zeros, written out, are other files with the figures of none; ammonia adds
-# its two to each line.
+says '^31 rivers: 0 accepted, 31 refused; rewritten: 0 the same, 0 differ; reports beside them: 0 the same, 0 differ$'
+# Rate factors of 1,000, a pressure of 760, a bed that demands nothing and ammonia of zeros, written out, are other files with the figures of
+# none; ammonia adds its two to each line.
 mkdir "$scratch/standard" "$scratch/changed" "$scratch/none"
 { head -c 66 two-pressure.river; printf '\002\370'; } > "$scratch/standard/two.river"
 cp two-dam.report "$scratch/standard/two.report"
@@ -177,8 +188,10 @@ cp two-dam.report "$scratch/standard/two.report"
 cp two.report "$scratch/standard/bare.report"
 { cat two.river; printf 'NT'; head -c 14 /dev/zero; } > "$scratch/standard/zeros.river"
 sed 's/$/ 0 0/' two.report > "$scratch/standard/zeros.report"
+{ head -c 4 town.river; printf 'TH\003\350\003\350'; tail -c +5 town.river; } > "$scratch/standard/town.river"
+cp town.report "$scratch/standard/town.report"
 expect 0 "$collection" "$scratch/standard"
-says '^3 rivers: 3 accepted, 0 refused; rewritten: 3 the same, 0 differ; reports beside them: 3 the same, 0 differ$'
+says '^4 rivers: 4 accepted, 0 refused; rewritten: 4 the same, 0 differ; reports beside them: 4 the same, 0 differ$'
 cp two.river two.report "$scratch/changed"
 echo >> "$scratch/changed/two.report"
 expect 1 "$collection" "$scratch/changed"

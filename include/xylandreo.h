@@ -19,6 +19,7 @@ extern "C" {
 
 /* Bytes of each record: of a river file, and last of a report, XYLANDREO_RECORD of an RP and the other of an RN. */
 #define XYLANDREO_RV_BYTES 4
+#define XYLANDREO_TH_BYTES 6
 #define XYLANDREO_RE_BYTES 26
 #define XYLANDREO_DM_BYTES 8
 #define XYLANDREO_WD_BYTES 6
@@ -28,11 +29,11 @@ extern "C" {
 #define XYLANDREO_RECORD 29
 #define XYLANDREO_RN_BYTES 10
 
-/* Bytes of the longest river file, in which every reach has every record, and of the longest report. */
-#define XYLANDREO_MAX_FILE                                                                   \
-    (XYLANDREO_RV_BYTES + XYLANDREO_MAX_REACHES * (XYLANDREO_RE_BYTES + XYLANDREO_DM_BYTES + \
-                                                   XYLANDREO_WD_BYTES + XYLANDREO_BP_BYTES + \
-                                                   XYLANDREO_SD_BYTES + XYLANDREO_NT_BYTES))
+/* Bytes of the longest river file, with rate factors and every record for every reach, and of the longest report. */
+#define XYLANDREO_MAX_FILE                                                                         \
+    (XYLANDREO_RV_BYTES + XYLANDREO_TH_BYTES +                                                     \
+     XYLANDREO_MAX_REACHES * (XYLANDREO_RE_BYTES + XYLANDREO_DM_BYTES + XYLANDREO_WD_BYTES +       \
+                              XYLANDREO_BP_BYTES + XYLANDREO_SD_BYTES + XYLANDREO_NT_BYTES))
 #define XYLANDREO_MAX_REPORT (XYLANDREO_MAX_REACHES * (XYLANDREO_RECORD + XYLANDREO_RN_BYTES))
 
 /*
@@ -42,7 +43,7 @@ extern "C" {
  *
  * The result is 0 exactly for an accepted river whose report the buffer can hold, xylandreo_record_size(..) * n
  * bytes. Otherwise it is number + 256 * reach, with the number of the refusal (xylandreo_reason below)
- * and the reach, counted from 1, where it was met; reach is 0 for the header and for 6 and 12.
+ * and the reach, counted from 1, where it was met; reach is 0 for the header, the rate factors and for 6 and 12.
  *
  * A refused call writes nothing. Bytes past the report keep their contents. Every call ends. Nothing is
  * kept between calls, so calls on different buffers may run at the same time.
@@ -88,8 +89,9 @@ static inline uint32_t xylandreo_reach(uint32_t result)
  * What a number means; 1 to 6 are refusals of reading. 10 tests the undecayed BOD, nitrogenous BOD included: all
  * that has entered the reach and those above it as if nothing had decayed, less what takes draw off, so a river can
  * be refused with 10 though BOD at the head would be far lower. 7, 8, 10 and 13 go by the flow before the reach's own
- * take, 11 and 14 by the flow after it. 14 tests what the bed uses on the way, whether or not air makes up for it. The
- * script `run` takes its reasons from these lines.
+ * take, 11 and 14 by the flow after it. 11 and 15 go by the rates in force: those of the file or, in a file with a TH
+ * record, these corrected from 20 degrees to the temperature of the reach. 14 tests what the bed uses on the way,
+ * whether or not air makes up for it. The script `run` takes its reasons from these lines.
  */
 static inline const char *xylandreo_reason(uint32_t number)
 {
@@ -109,6 +111,7 @@ static inline const char *xylandreo_reason(uint32_t number)
         "the buffer is too short",
         "the take is not below the flow at the head",
         "the reach is too long for its sludge bed, which uses more than 5 mg/L, and must be split",
+        "a rate, corrected to the temperature of the reach, is above 20 per day",
     };
     return number < sizeof reasons / sizeof *reasons ? reasons[number] : "unknown";
 }
@@ -141,6 +144,10 @@ struct xylandreo_kind {
 static const struct xylandreo_kind xylandreo_kinds[] = {
     {"RV", XYLANDREO_RV_BYTES, 0, {
         {"count", 2, 2, 1, XYLANDREO_MAX_REACHES, "reaches"},
+    }},
+    {"TH", XYLANDREO_TH_BYTES, 0, {
+        {"decay factor", 2, 2, 1000, 1100, "thousandths"},
+        {"aeration factor", 4, 2, 1000, 1100, "thousandths"},
     }},
     {"RE", XYLANDREO_RE_BYTES, 1, {
         {"outlet", 2, 1, 0, 255, "the number of a reach"},
@@ -239,7 +246,7 @@ static inline uint32_t xylandreo_reaches(const uint8_t *file)
 /* The outlet in the record of a reach, counted from 1. The last reach has 0, another a reach after it. */
 static inline struct xylandreo_fault xylandreo_outlet_fault(const uint8_t *record, uint32_t reach, uint32_t count)
 {
-    const struct xylandreo_field *outlet = &xylandreo_kinds[1].fields[0];
+    const struct xylandreo_field *outlet = &xylandreo_kinds[2].fields[0]; /* of RE */
     struct xylandreo_fault fault = {outlet, xylandreo_value(record, outlet), 0, 0};
     if (reach < count) {
         fault.lowest = reach + 1;
@@ -249,20 +256,22 @@ static inline struct xylandreo_fault xylandreo_outlet_fault(const uint8_t *recor
 }
 
 /*
- * The field that a result is about: with number 4 the first out of range among the records of its reach,
- * with 5 the outlet.
+ * The field that a result is about: with number 4 the first out of range among the records of its reach, or of
+ * the header for reach 0, with 5 the outlet.
  */
 static inline struct xylandreo_fault xylandreo_fault_of(const uint8_t *file, size_t file_len, uint32_t result)
 {
     struct xylandreo_fault fault;
-    size_t at = xylandreo_pass(file, file_len, 0, 0, &fault);
-    for (uint32_t reach = 1; reach < xylandreo_reach(result); reach++)
+    uint32_t number = xylandreo_number(result), last = xylandreo_reach(result);
+    size_t at = xylandreo_pass(file, file_len, 0, 0, &fault), start = 0;
+    for (uint32_t reach = 1; reach <= last; reach++) {
+        start = at;
         at = xylandreo_pass(file, file_len, at, 1, &fault);
-    fault.field = NULL;
-    if (xylandreo_number(result) == 5 && file_len - at >= XYLANDREO_RE_BYTES)
-        fault = xylandreo_outlet_fault(file + at, xylandreo_reach(result), xylandreo_reaches(file));
-    if (xylandreo_number(result) == 4)
-        xylandreo_pass(file, file_len, at, 1, &fault);
+    }
+    if (number != 4)
+        fault.field = NULL;
+    if (number == 5 && file_len - start >= XYLANDREO_RE_BYTES)
+        fault = xylandreo_outlet_fault(file + start, last, xylandreo_reaches(file));
     return fault;
 }
 

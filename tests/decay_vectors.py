@@ -61,14 +61,14 @@ def distances(text):
             card = Card(0, 20, k1, k2, volume, flow, 0, 0, 0)
             reach = Reach(1, card, [])
         elif label == "step":
-            S1, F, S2 = reference.factors(reach, 1, TERMS)
+            S1, F, S2 = reference.bod_factors(reach, 1, TERMS)
             largest["step"] = off(largest["step"], numbers, (1 - S1, F, 1 - S2))
         elif label == "terms":
             if numbers != counts(card):
                 raise vectors.Failed(f"reach {reaches}: terms {numbers} are printed where {counts(card)} are due")
             counted += 1
         else:
-            largest["instant"] = off(largest["instant"], numbers, reference.factors(reach, int(label), TERMS))
+            largest["instant"] = off(largest["instant"], numbers, reference.bod_factors(reach, int(label), TERMS))
     if counted != reaches:
         raise vectors.Failed(f"{counted} lines of terms are printed for {reaches} reaches")
     return reaches, largest

@@ -8,7 +8,7 @@ import sys
 
 import reference
 import vectors
-from reference import LONGEST, Ammonia, Card, Dam, Pressure, Refused, River, Sludge, Take
+from reference import LONGEST, Ammonia, Card, Dam, Factors, Pressure, Refused, River, Sludge, Take
 
 CRATE = "crates/file_vectors"
 # The fields of a card that hold the records after a reach, with their types and names, and those of one number among them.
@@ -30,6 +30,7 @@ WD = b"WD\x00\x00\x03\xe8"
 BP = b"BP\x02\xbc"
 SD = b"SD\x0f\xa0"
 NT = b"NT\x01\x2c\x00\x00\x0f\xa0\x00\x00\x00\x05" + bytes(4)
+TH = b"TH\x04\x17\x04\x00"
 
 
 def file(*cards):
@@ -59,6 +60,11 @@ def bedded(sludge, **fields):
 
 def nitrified(*ammonia, **fields):
     return changed(ammonia=Ammonia(*ammonia), **fields)
+
+
+def factored(decay, aeration, *cards):
+    """The file of some cards, or of one plain reach, with these rate factors."""
+    return reference.encode(River(cards or [PLAIN], Factors(decay, aeration)))
 
 
 ONE = file(PLAIN)
@@ -108,6 +114,11 @@ FILES = {
         ONE + NT + SD, TWO[:30] + NT + SD + TWO[30:], ONE + NT + DM, TWO[:30] + NT + WD + TWO[30:], ONE + NT + NT, TWO[:30] + NT + NT + TWO[30:],
         ONE[:4] + NT + ONE[4:], nitrified(0, 0, 0) + b"\x00",
     ],
+    "factors": [
+        ONE[:4] + b"T", ONE[:4] + TH[:2], ONE[:4] + TH[:5], ONE[:4] + TH, factored(999, 1000), factored(1101, 1000), factored(1000, 999), factored(1000, 1101),
+        b"RV\x00\x81" + TH[:2] + bytes(4), factored(999, 1000, PLAIN._replace(outlet=1)), factored(1047, 1024, PLAIN._replace(outlet=1)),
+        ONE[:4] + TH + TH + ONE[4:], ONE[:4] + TH + DM + ONE[4:], TWO[:30] + TH + TWO[30:], ONE + TH, TH + ONE,
+    ],
     "trailing": [ONE + b"D", ONE + b"\x00", ONE + ONE[4:], TWO + b"RE", DAMMED + b"M", DAMMED + DM, TWO[:2] + b"\x00\x01" + changed()[4:] + TWO[30:]],
     "lawful": [
         ONE, file(LEAST), file(MOST), TWO, DAMMED, dammed(0, 0), dammed(0, 1), dammed(1000, 100000000), taken(0), taken(100000000),
@@ -121,6 +132,7 @@ FILES = {
         nitrified(0, 0, 0), nitrified(20000, 1000000, 4294967295), nitrified(1, 2, 3, sludge=Sludge(4)), dammed(7, 8, ammonia=Ammonia(300, 4000, 5)),
         file(FIRST._replace(ammonia=Ammonia(1, 2, 3)), PLAIN._replace(ammonia=Ammonia(256, 65536, 16777216))),
         file(FIRST, MOST._replace(take=Take(1), pressure=Pressure(500), sludge=Sludge(256), ammonia=Ammonia(257, 66051, 67305985))),
+        factored(1000, 1000), factored(1100, 1100), factored(1047, 1024, FIRST._replace(dam=Dam(7, 8)), PLAIN._replace(ammonia=Ammonia(300, 4000, 5))),
     ],
 }
 
@@ -149,8 +161,18 @@ RIVERS = [
                                                                ammonia=Ammonia(20000, 1000000, 4294967295))], 110),
 ]
 
-# Chains of so many reaches are written and read again.
+# Rate factors, two cards to write with them, and the length of the buffer.
+FACTORED = [
+    (Factors(1000, 1100), [FIRST, PLAIN], 63), (Factors(1047, 1024), [FIRST, PLAIN], 61), (Factors(1000, 1101), [FIRST, PLAIN], 10),
+    (Factors(999, 1000), [FIRST._replace(k1=20001), PLAIN], 70), (Factors(1047, 1024), [FIRST._replace(k1=20001), PLAIN], 70),
+    # Rates that two bytes cannot hold.
+    (Factors(1047, 1024), [FIRST._replace(k1=65536 + 300), PLAIN], 70), (Factors(1047, 1024), [FIRST, PLAIN._replace(k2=65536 + 300)], 70),
+    (Factors(1047, 1024), [FIRST, PLAIN._replace(ammonia=Ammonia(65536 + 300, 0, 0))], 90),
+]
+
+# Chains of so many reaches, some with rate factors, are written and read again.
 COUNTS = [0, 1, 2, 127, 128, 129]
+FACTORED_COUNTS = [(Factors(1047, 1024), 128), (Factors(999, 1000), 129)]
 
 
 # ---- The output
@@ -179,12 +201,13 @@ def shown(data):
     river, refusal = answered(reference.read, data)
     if refusal:
         return refusal
-    return f"read {len(river.cards)}\n" + "".join(map(card_line, river.cards)) + written(river, ROOM)
+    factors = "" if river.factors is None else f"factors {' '.join(map(str, river.factors))}\n"
+    return f"read {len(river.cards)}\n" + factors + "".join(map(card_line, river.cards)) + written(river, ROOM)
 
 
-def many(count):
+def many(count, factors=None):
     """What writing and reading a chain of so many reaches prints."""
-    river = River([PLAIN._replace(outlet=reach + 1 if reach < count else 0) for reach in range(1, count + 1)])
+    river = River([PLAIN._replace(outlet=reach + 1 if reach < count else 0) for reach in range(1, count + 1)], factors)
     data, refusal = answered(reference.write, river, CHAIN_ROOM)
     return refusal or f"wrote {len(data)}\nread {len(reference.read(data).cards)}\n"
 
@@ -192,7 +215,8 @@ def many(count):
 def output():
     return "".join([shown(data) for files in FILES.values() for data in files]
                    + [written(River(cards), room) for cards, room in RIVERS]
-                   + [many(count) for count in COUNTS] + [f"longest {LONGEST}\n"])
+                   + [written(River(cards, factors), room) for factors, cards, room in FACTORED]
+                   + [many(count) for count in COUNTS] + [many(count, factors) for factors, count in FACTORED_COUNTS] + [f"longest {LONGEST}\n"])
 
 
 # ---- The source
@@ -213,6 +237,10 @@ def amount_value(amount):
 
 def nitrification_value(ammonia):
     return "Nitrification::Idle" if ammonia is None else "Nitrification::Nitrifying {{ rate: {}, concentration: {}, load: {} }}".format(*ammonia)
+
+
+def factors_value(factors):
+    return "per_degree({}, {})".format(*factors)
 
 
 def record_values(card):
@@ -252,11 +280,12 @@ def card_statements(name, card):
     return [f"let {'mut ' if changes else ''}{name} = {made}({card.outlet}, {', '.join(values[:count])});"] + changes
 
 
-def writing(cards, room):
-    """The statements that write some cards to a buffer."""
+def writing(cards, room, factors=None):
+    """The statements that write some cards to a buffer, with rate factors or without."""
     names = "cd"[:len(cards)]
     lines = [line for name, card in zip(names, cards) for line in card_statements(name, card)]
-    call = f"{'wrote' if len(cards) == 1 else 'wrote_two'}({', '.join(names)}, "
+    call = f"{'wrote' if len(cards) == 1 else 'wrote_two' if factors is None else 'wrote_with'}("
+    call += ", ".join(([] if factors is None else [factors_value(factors)]) + list(names)) + ", "
     return " ".join(lines + ([f"let mut out = [7u8; {room}]; {call}&mut out);"] if room else [f"{call}&mut []);"]))
 
 
@@ -270,10 +299,14 @@ def source():
     for name, files in FILES.items():
         bodies |= functions(name, [f"show({literal(data)});" for data in files])
     bodies |= functions("rivers", [writing(cards, room) for cards, room in RIVERS], each=4)
-    bodies |= functions("counts", [f"many({count});" for count in COUNTS] + ["longest();"], each=7)
+    bodies |= functions("factored", [writing(cards, room, factors) for factors, cards, room in FACTORED], each=4)
+    bodies |= functions("counts", [f"many({count});" for count in COUNTS]
+                        + [f"many_with({factors_value(factors)}, {count});" for factors, count in FACTORED_COUNTS] + ["longest();"], each=9)
     lines = ["// Vectors of the test program, made by tests/file_vectors.py from the reference program.",
-             "use crate::shown::{longest, many, show, wrote, wrote_two};", "use river::card::{Amount, Card, Dam, Nitrification};", ""] + maker_functions()
+             "use crate::shown::{longest, many, many_with, show, wrote, wrote_two, wrote_with};",
+             "use river::card::{Amount, Card, Dam, Nitrification, RateFactors};", ""] + maker_functions()
     lines += ["// The card with the largest numbers in its reach and its dam, and this take."] + card_function("most(take: Amount)", MOST, "take")
+    lines += ["// These rate factors.", "fn per_degree(decay: u16, aeration: u16) -> RateFactors {", "RateFactors::PerDegree { decay, aeration }", "}", ""]
     for name, body in bodies.items():
         lines += [f"fn {name}() {{"] + body + ["}", ""]
     lines += ["// Every vector, in the order of the stored output.", "pub fn all() {"] + [f"{name}();" for name in bodies] + ["}", ""]
@@ -283,7 +316,7 @@ def source():
 def make(write):
     vectors.settle(f"{CRATE}/src/vectors.rt", vectors.formatted(source()), write)
     vectors.settle(f"{CRATE}/stdout", output(), write)
-    return f"file vectors: {sum(map(len, FILES.values()))} files, {len(RIVERS)} rivers and {len(COUNTS)} chains are up to date"
+    return f"file vectors: {sum(map(len, FILES.values()))} files, {len(RIVERS) + len(FACTORED)} rivers and {len(COUNTS) + len(FACTORED_COUNTS)} chains are up to date"
 
 
 if __name__ == "__main__":

@@ -6,19 +6,20 @@
 
 import os
 import random
+from collections import namedtuple
 
 import reference
-from reference import (AFTER_REACH, AMMONIA, DAM, HEADER, LONGEST, PRESSURE, REACH, SLUDGE, STANDARD_PRESSURE, TAKE,
-                       Ammonia, Card, Dam, Pressure, Reach, Refused, River, Sludge, Take)
+from reference import (AFTER_REACH, AMMONIA, AS_GIVEN, DAM, FACTORS, HEADER, LONGEST, MOST_RATE, PRESSURE, REACH, SLUDGE, STANDARD_PRESSURE,
+                       STANDARD_TEMPERATURE, TAKE, Ammonia, Card, Dam, Factors, Pressure, Reach, Refused, River, Sludge, Take, in_force)
 
 MOST_FLOW = 100_000_000
-MOST_RATE = 20_000
 MOST_VOLUME = 1_000_000_000
 MOST_BOD = 1_000_000
 MOST_OXYGEN = 20_000
 MOST_LOAD = 2 ** 32 - 1
 LEAST_PRESSURE, MOST_PRESSURE = 500, 800
 MOST_SLUDGE = 2 ** 16 - 1
+LEAST_FACTOR, MOST_FACTOR = 1_000, 1_100
 MOST_AMMONIA = Ammonia(MOST_RATE, MOST_BOD, MOST_LOAD)
 
 
@@ -54,7 +55,7 @@ FLOWS = {
     "sources": lambda rng, source: rng.randint(1, 30_000) if source else 0,
 }
 
-# The two rates.
+# The two rates. In a river with rate factors they are cut to what check 15 allows, as nitrification rates are.
 RATES = {
     "any": lambda rng: (pick(rng, MOST_RATE), pick(rng, MOST_RATE)),
     "ordinary": lambda rng: (rng.randint(100, 500), rng.randint(100, 2_000)),
@@ -66,6 +67,7 @@ RATES = {
     "little aeration": lambda rng: (rng.choice((0, 1, 7, 230)), rng.choice((1, 1, 2, 3, 9))),
     "much aeration": lambda rng: (pick(rng, MOST_RATE), MOST_RATE),
     "top": lambda rng: (MOST_RATE, MOST_RATE),
+    "few": lambda rng: (rng.randint(0, 9), rng.randint(0, 9)),      # in cold water some of them come to 0
 }
 
 # The volume, where `most` is what checks 11 and 14 and the field allow.
@@ -143,15 +145,30 @@ TEMPERATURES = {
     "any": lambda rng: rng.randint(0, 35),
     "ends": lambda rng: rng.choice((0, 35)),
     "warm": lambda rng: rng.randint(25, 35),
+    "cold": lambda rng: rng.randint(0, 8),
+    "about 20": lambda rng: rng.randint(STANDARD_TEMPERATURE - 1, STANDARD_TEMPERATURE + 1),
+}
+
+# The rate factors of a river, or None.
+RATE_FACTORS = {
+    "none": lambda rng: None,
+    "any": lambda rng: Factors(rng.randint(LEAST_FACTOR, MOST_FACTOR), rng.randint(LEAST_FACTOR, MOST_FACTOR)),
+    "usual": lambda rng: Factors(rng.choice((1_040, 1_047, 1_056)), rng.choice((1_014, 1_016, 1_024))),
+    "equal": lambda rng: Factors(*(rng.randint(LEAST_FACTOR, MOST_FACTOR),) * 2),
+    "ends": lambda rng: Factors(*(rng.choice((LEAST_FACTOR, LEAST_FACTOR + 1, MOST_FACTOR - 1, MOST_FACTOR)) for _ in range(2))),
+    "one at its end": lambda rng: Factors(*rng.choice(((LEAST_FACTOR, MOST_FACTOR), (MOST_FACTOR, LEAST_FACTOR)))),
+    "without effect": lambda rng: AS_GIVEN,
+    "largest": lambda rng: Factors(MOST_FACTOR, MOST_FACTOR),
 }
 
 TABLES = {"shape": SHAPES, "flow": FLOWS, "rates": RATES, "volume": VOLUMES, "water": WATERS, "dams": DAMS, "takes": TAKES, "pressures": PRESSURES,
-          "sludges": SLUDGES, "ammonias": AMMONIAS, "temperature": TEMPERATURES}
+          "sludges": SLUDGES, "ammonias": AMMONIAS, "temperature": TEMPERATURES, "factors": RATE_FACTORS}
+OF_RIVER = ("shape", "factors")     # drawn once for a river in every style
 
 # What a style fixes; the rest is drawn once for a river. "each" draws anew for each reach.
 STYLES = {
     "drawn": {},
-    "mixed": {name: "each" for name in TABLES if name != "shape"},
+    "mixed": {name: "each" for name in TABLES if name not in OF_RIVER},
     "ordinary": {"flow": "ordinary", "rates": "ordinary", "volume": "any", "water": "ordinary", "dams": "some"},
     "chain": {"shape": "chain", "volume": "half", "rates": "any"},
     "brooks": {"shape": "brooks"},
@@ -221,7 +238,31 @@ STYLES = {
     "foul ammonia and BOD": {"ammonias": "all", "water": "foul", "rates": "each", "volume": "long"},
     "tiny ammonia": {"ammonias": "all", "flow": "tiny", "volume": "small"},
     "huge ammonia": {"ammonias": "ends", "flow": "huge", "volume": "long"},
-    "no added records": {"dams": "none", "takes": "none", "pressures": "none", "sludges": "none", "ammonias": "none"},
+    "factors": {"factors": "any", "volume": "half"},
+    "usual factors": {"factors": "usual", "flow": "ordinary", "rates": "ordinary", "volume": "any", "water": "ordinary", "dams": "some"},
+    "usual factors and ammonia": {"factors": "usual", "ammonias": "ordinary", "rates": "ordinary", "volume": "half", "temperature": "each"},
+    "factor ends": {"factors": "ends", "temperature": "ends", "volume": "long"},
+    "one factor at its end": {"factors": "one at its end", "ammonias": "as BOD", "temperature": "any", "volume": "long"},
+    "factors without effect": {"factors": "without effect", "temperature": "any"},
+    "factors about 20 degrees": {"factors": "any", "temperature": "about 20", "volume": "long"},
+    "factors in warm water": {"factors": "any", "temperature": "warm", "rates": "top", "volume": "long"},
+    "factors in cold water": {"factors": "any", "temperature": "cold", "rates": "top", "volume": "long"},
+    "factors at equal rates": {"factors": "equal", "rates": "equal", "volume": "long"},
+    "factors at rates that meet": {"factors": "largest", "rates": "near", "temperature": "cold", "volume": "long", "water": "foul"},
+    "factors at rates that vanish": {"factors": "largest", "rates": "few", "temperature": "cold", "volume": "any", "sludges": "none", "ammonias": "none"},
+    "factors at rates that vanish over beds": {"factors": "largest", "rates": "few", "temperature": "cold", "volume": "any", "sludges": "all"},
+    "factors at rates of 0": {"factors": "any", "rates": "zero", "volume": "any"},
+    "factors without aeration": {"factors": "any", "rates": "no aeration", "volume": "long"},
+    "factors and beds": {"factors": "any", "sludges": "all", "volume": "half"},
+    "factors and beds with little aeration": {"factors": "ends", "sludges": "most", "rates": "little aeration", "temperature": "each", "volume": "any"},
+    "factors and ammonia": {"factors": "any", "ammonias": "all", "volume": "half"},
+    "factors and ammonia at rate ends": {"factors": "ends", "ammonias": "ends", "volume": "long", "shape": "chain"},
+    "factors and ammonia at the rate of BOD": {"factors": "any", "ammonias": "as BOD", "volume": "long"},
+    "factors and ammonia at the rate of aeration": {"factors": "any", "ammonias": "as aeration", "volume": "long"},
+    "factors, takes and dams": {"factors": "any", "takes": "all", "dams": "all", "pressures": "some", "temperature": "each", "shape": "near"},
+    "factors in foul chains": {"factors": "any", "water": "foul", "rates": "each", "volume": "long", "shape": "chain"},
+    "factors in no volume": {"factors": "ends", "volume": "zero"},
+    "no added records": {"dams": "none", "takes": "none", "pressures": "none", "sludges": "none", "ammonias": "none", "factors": "none"},
     "tiny": {"flow": "tiny", "volume": "small"},
     "tiny long": {"flow": "tiny", "volume": "long"},
     "huge": {"flow": "huge", "volume": "long"},
@@ -248,34 +289,57 @@ def size(rng):
 
 
 def drawn_way(rng, name):
-    """A way of a table. Half of all rivers are to have no sludge bed, and half no ammonia, since either widens the allowance of the whole river."""
-    return "none" if name in ("sludges", "ammonias") and rng.randrange(2) else rng.choice(list(TABLES[name]))
+    """A way of a table. Half of all rivers are to have no sludge bed, and half no ammonia, since either widens the allowance of the whole river; and
+    half no rate factors, which move every rate."""
+    return "none" if name in ("sludges", "ammonias", "factors") and rng.randrange(2) else rng.choice(list(TABLES[name]))
 
 
 def accepted_river(rng, style, n):
     """A river of n reaches that is accepted."""
     fixed = {name: STYLES[style].get(name) or drawn_way(rng, name) for name in TABLES}
     outlets = [SHAPES[fixed["shape"]](rng, i, n) for i in range(1, n)] + [0]
-    reaches = []
+    reaches, factors = [], RATE_FACTORS[fixed["factors"]](rng)
     for i in range(1, n + 1):
         feeders = [reach for reach in reaches if reach.card.outlet == i]
         sources_left = sum(k not in outlets[:k - 1] for k in range(i + 1, n + 1))
         room = MOST_FLOW - sum(reach.card.inflow for reach in reaches) - sources_left
-        reaches.append(Reach(i, lawful_card(rng, fixed, outlets[i - 1], feeders, room), feeders))
-    return River([reach.card for reach in reaches])
+        reaches.append(Reach(i, lawful_card(rng, fixed, outlets[i - 1], feeders, room, factors), feeders, factors=factors))
+    return River([reach.card for reach in reaches], factors)
 
 
-def lawful_card(rng, fixed, outlet, feeders, room):
-    """A card that passes all checks over these feeders."""
+Rates = namedtuple("Rates", "k1 kn k2")
+
+
+def most_on_card(limit, factor, temperature):
+    """The largest rate on a card that is at most `limit` in force."""
+    low, high = 0, MOST_RATE
+    while low < high:
+        middle = (low + high + 1) // 2
+        low, high = (middle, high) if in_force(middle, factor, temperature) <= limit else (low, middle - 1)
+    return low
+
+
+def most_rates(reach, limit=MOST_RATE):
+    """The largest rates for the card of a reach that are at most `limit` in force."""
+    decay, aeration = (most_on_card(limit, factor, reach.card.temperature) for factor in reach.factors)
+    return Rates(decay, decay, aeration)
+
+
+def lawful_card(rng, fixed, outlet, feeders, room, factors):
+    """A card that passes all checks over these feeders, in a river with these rate factors."""
     def way(name):
         return TABLES[name][rng.choice(list(TABLES[name])) if fixed[name] == "each" else fixed[name]]
 
     inflow = max(min(way("flow")(rng, not feeders), room), 0 if feeders else 1)
-    k1, k2 = way("rates")(rng)
+    temperature, rates = way("temperature")(rng), way("rates")(rng)
+    limits = [most_on_card(MOST_RATE, factor, temperature) for factor in factors or AS_GIVEN]
+    k1, k2 = map(min, rates, limits)
     bod, oxygen, hundredths = way("water")(rng)
     ammonia = way("ammonias")(rng, not feeders, k1, k2)
-    card = with_demands(Card(outlet, way("temperature")(rng), k1, k2, 0, inflow, 0, oxygen, 0), ammonia, bod, 0)
-    so_far = Reach(0, card._replace(take=way("takes")(rng, Reach(0, card, feeders).Qm)), feeders)
+    if ammonia:
+        ammonia = min(ammonia[0], limits[0]), ammonia[1]
+    card = with_demands(Card(outlet, temperature, k1, k2, 0, inflow, 0, oxygen, 0), ammonia, bod, 0)
+    so_far = Reach(0, card._replace(take=way("takes")(rng, Reach(0, card, feeders).Qm)), feeders, factors=factors)
     load = (1_000_000 * so_far.Qm - so_far.Mm) // 1_000 * hundredths // 100
     volume, sludge = volume_and_bed(rng, way("volume"), way("sludges"), so_far)
     dam = way("dams")(rng, so_far.Qu) if feeders else None
@@ -304,10 +368,12 @@ def volume_and_bed(rng, volume_way, bed_way, reach):
 # ---- Rivers on a limit and just past it
 
 def replaced(river, i, **fields):
-    """The river with some fields of reach i changed."""
+    """The river with some fields of reach i changed, or of its rate factors where i is 0."""
+    if i == 0:
+        return river._replace(factors=river.factors._replace(**fields))
     cards = list(river.cards)
     cards[i - 1] = cards[i - 1]._replace(**fields)
-    return River(cards)
+    return river._replace(cards=cards)
 
 
 def flow_limit(past, **fields):
@@ -323,6 +389,21 @@ def dam_limit(past):
 def with_rate(rng, reach, kn):
     """Ammonia of a reach with another rate, or now and then none where that is 0."""
     return None if kn == 0 and rng.randrange(2) else Ammonia(kn, reach.nitrogenous.inflow, reach.nitrogenous.load)
+
+
+def with_rates(rng, river, i, reach, rates, **fields):
+    """The river with other rates on the card of reach i, and some fields changed."""
+    return replaced(river, i, k1=rates.k1, k2=rates.k2, ammonia=with_rate(rng, reach, rates.kn), **fields)
+
+
+def one_rate(which, rate):
+    """The rates of a card with this one and no other."""
+    return Rates(0, 0, 0)._replace(**{which: rate})
+
+
+def rate_in_force(which, reach, rate):
+    """Of a rate on the card of a reach."""
+    return in_force(rate, reach.factors.aeration_factor if which == "k2" else reach.factors.decay_factor, reach.card.temperature)
 
 
 def room_for_load(reach):
@@ -342,18 +423,36 @@ def nitrogenous_limit(past):
     """Check 10, by the nitrogenous load: both demands count."""
     def change(rng, river, i, reach):
         load = reach.nitrogenous.load + room_for_load(reach) + past
-        return load <= MOST_LOAD and replaced(river, i, ammonia=Ammonia(*reach.nitrogenous)._replace(nitrogenous_load=load))
+        kn = reach.card.ammonia.kn if reach.card.ammonia else 0
+        return load <= MOST_LOAD and replaced(river, i, ammonia=Ammonia(kn, reach.nitrogenous.inflow, load))
     return change
 
 
 def length_limit(which, past):
-    """Check 11 for one of the rates, without a sludge bed, for which the reach may be too long as well."""
+    """Check 11 for one of the rates, without a sludge bed, for which the reach may be too long as well. It goes by the rates in force, of
+    which this is the largest."""
     def change(rng, river, i, reach):
-        k = rng.randint(1, MOST_RATE)
-        k1, k2, kn = (k if name == which else rng.choice((0, rng.randint(0, k))) for name in ("k1", "k2", "kn"))
+        k = rate_in_force(which, reach, rng.randint(1, MOST_RATE))
+        if not 1 <= k <= MOST_RATE:
+            return False
+        rates = Rates(*(most if name == which else rng.choice((0, rng.randint(0, most))) for name, most in most_rates(reach, k)._asdict().items()))
         volume = 345_600 * reach.Q // k + past
-        return volume <= MOST_VOLUME and replaced(river, i, k1=k1, k2=k2, ammonia=with_rate(rng, reach, kn), volume=volume, sludge=None)
+        return volume <= MOST_VOLUME and with_rates(rng, river, i, reach, rates, volume=volume, sludge=None)
     return change
+
+
+def rate_limit(which, past, **fields):
+    """Check 15 for one of the rates, where its factor raises it."""
+    def change(rng, river, i, reach):
+        warm = Reach(i, reach.card._replace(temperature=rng.randint(STANDARD_TEMPERATURE + 1, 35)), reach.feeders, factors=river.factors)
+        rate = getattr(most_rates(warm), which)
+        return rate < MOST_RATE and with_rates(rng, river, i, warm, one_rate(which, rate + past), temperature=warm.card.temperature, **{"volume": 0, **fields})
+    return change
+
+
+def rate_and_bed(rng, river, i, reach):
+    """Checks 15 and 14 are broken, and 11 is not."""
+    return rate_limit(rng.choice(("k1", "kn", "k2")), 1, sludge=Sludge(MOST_SLUDGE), volume=min(MOST_VOLUME, 7 * reach.Q))(rng, river, i, reach)
 
 
 def take_limit(past, **fields):
@@ -367,17 +466,17 @@ def take_limit(past, **fields):
 def length_after_take(which, past):
     """Check 11 for one of the rates, where the flow before the take would pass."""
     def change(rng, river, i, reach):
-        k, left = rng.randint(1, MOST_RATE), rng.randint(1, max(1, reach.Qm - 1))
-        k1, kn = (k, 0) if which == "k1" else (0, k)
-        volume = 345_600 * left // k + past
-        return left < reach.Qm and volume <= MOST_VOLUME and replaced(river, i, k1=k1, k2=0, volume=volume, take=Take(reach.Qm - left), sludge=None,
-                                                                     ammonia=with_rate(rng, reach, kn))
+        rate, left = rng.randint(1, MOST_RATE), rng.randint(1, max(1, reach.Qm - 1))
+        k = rate_in_force(which, reach, rate)
+        volume = 345_600 * left // max(1, k) + past
+        return left < reach.Qm and 1 <= k <= MOST_RATE and volume <= MOST_VOLUME and with_rates(
+            rng, river, i, reach, one_rate(which, rate), volume=volume, take=Take(reach.Qm - left), sludge=None)
     return change
 
 
 def rates_below(rng, reach, demand):
     """Rates with which a reach that is not too long for a bed of this demand passes check 11."""
-    k1, k2, kn = (rng.randint(0, min(MOST_RATE, demand // 2)) for _ in range(3))
+    k1, kn, k2 = (rng.randint(0, most) for most in most_rates(reach, min(MOST_RATE, demand // 2)))
     return {"k1": k1, "k2": k2, "ammonia": with_rate(rng, reach, rng.choice((0, kn)))}
 
 
@@ -411,8 +510,10 @@ def bed_after_take(past):
 
 def too_long_for_all(**fields):
     """Check 14 is broken, and check 11 too; with other fields perhaps an earlier check."""
-    return lambda rng, river, i, reach: reach.Qm < 4_000_000 and replaced(
-        river, i, sludge=Sludge(MOST_SLUDGE), k1=rng.randint(0, MOST_RATE), k2=MOST_RATE, volume=MOST_VOLUME, **fields)
+    def change(rng, river, i, reach):
+        most = most_rates(reach)
+        return reach.Qm < 4_000_000 and replaced(river, i, sludge=Sludge(MOST_SLUDGE), k1=rng.randint(0, most.k1), k2=most.k2, volume=MOST_VOLUME, **fields)
+    return change
 
 
 def first_with_take(rng):
@@ -449,6 +550,23 @@ def bod_below_take(first_reach, past):
     return river
 
 
+# Rates with a factor and a temperature at which the rate in force would be one more if it were rounded only at the end, or to the nearest.
+ROUNDED_EACH_DEGREE = ((2_823, 1_014, 2), (16_988, 1_009, 0), (3_088, 1_013, 0), (9_697, 1_005, 6), (8_691, 1_040, 35), (3_827, 1_080, 33), (1_213, 1_018, 31),
+                       (16_807, 1_017, 25))
+
+
+def rounded_each_degree(past):
+    """Check 11, by a rate in force that depends on the rounding: k litres a second and 345,600 cubic metres, or so many times both."""
+    def river(rng):
+        rate, factor, temperature = rng.choice(ROUNDED_EACH_DEGREE)
+        which, times = rng.choice(Rates._fields), rng.randint(1, 1_000)
+        rates = one_rate(which, rate)
+        card = Card(0, temperature, rates.k1, rates.k2, 345_600 * times + past, in_force(rate, factor, temperature) * times, rng.randint(0, MOST_BOD),
+                    rng.randint(0, MOST_OXYGEN), 0, ammonia=Ammonia(rates.kn, 0, 0) if rates.kn else None)
+        return River([card], Factors(LEAST_FACTOR, factor) if which == "k2" else Factors(factor, LEAST_FACTOR))
+    return river
+
+
 BELOW_A_TAKE = {"below a take": first_with_take, "below a cut": first_with_cut, "below a take of both": first_with_ammonia}
 
 
@@ -467,6 +585,9 @@ ON_A_LIMIT = {
     "on check 14 volume": bed_by_volume(0),
     "on check 14 demand": bed_by_demand(0),
     "on check 14 after a take": bed_after_take(0),
+    "on check 15 k1": rate_limit("k1", 0),
+    "on check 15 k2": rate_limit("k2", 0),
+    "on check 15 kn": rate_limit("kn", 0),
 }
 PAST_A_LIMIT = {
     "check 7": lambda rng, river, i, reach: not reach.feeders and replaced(river, i, inflow=0),
@@ -485,6 +606,9 @@ PAST_A_LIMIT = {
     "check 14 volume": bed_by_volume(1),
     "check 14 demand": bed_by_demand(1),
     "check 14 after a take": bed_after_take(1),
+    "check 15 k1": rate_limit("k1", 1),
+    "check 15 k2": rate_limit("k2", 1),
+    "check 15 kn": rate_limit("kn", 1),
     # The flow before the take counts.
     "check 8 before a take": flow_limit(1, take=Take(MOST_FLOW)),
     # Two checks are broken, and the first of them is due.
@@ -505,8 +629,13 @@ PAST_A_LIMIT = {
     "check 10 nitrogenous and 13": lambda rng, river, i, reach: reach.Qm < 4_000_000 and replaced(river, i, ammonia=MOST_AMMONIA, take=Take(reach.Qm)),
     "check 10 nitrogenous and 11 kn": lambda rng, river, i, reach: reach.Qm < 4_000_000 and replaced(river, i, ammonia=MOST_AMMONIA, volume=MOST_VOLUME),
     "check 13 and 11 kn": lambda rng, river, i, reach: replaced(river, i, take=Take(reach.Qm), ammonia=with_rate(rng, reach, MOST_RATE), volume=MOST_VOLUME),
-    "check 11 kn and 14": lambda rng, river, i, reach: reach.Qm < 4_000_000 and replaced(
-        river, i, k1=0, k2=0, ammonia=with_rate(rng, reach, MOST_RATE), sludge=Sludge(MOST_SLUDGE), volume=MOST_VOLUME),
+    "check 11 kn and 14": lambda rng, river, i, reach: reach.Qm < 4_000_000 and with_rates(
+        rng, river, i, reach, one_rate("kn", most_rates(reach).kn), sludge=Sludge(MOST_SLUDGE), volume=MOST_VOLUME),
+    "check 10 and 15": lambda rng, river, i, reach: reach.Qm < 4_000_000 and rate_limit("k1", 1, load=MOST_LOAD)(rng, river, i, reach),
+    "check 13 and 15": lambda rng, river, i, reach: rate_limit("k2", 1, take=Take(reach.Qm))(rng, river, i, reach),
+    "check 15 and 11": lambda rng, river, i, reach: reach.Qm < 4_000_000 and rate_limit("k1", 1, volume=MOST_VOLUME)(rng, river, i, reach),
+    "check 15 kn and 11": lambda rng, river, i, reach: reach.Qm < 4_000_000 and rate_limit("kn", 1, volume=MOST_VOLUME)(rng, river, i, reach),
+    "check 15 and 14": rate_and_bed,
 }
 
 
@@ -539,9 +668,10 @@ def with_all_but_dam(card):
 
 
 def most_reaches(rng):
-    """The longest file that is accepted: 128 reaches, each with every record, the first without a dam."""
-    cards = [with_all_but_dam(card) for card in accepted_river(rng, "chain", 128).cards]
-    return River(cards[:1] + [card._replace(dam=Dam(rng.randint(0, 1_000), 0)) for card in cards[1:]])
+    """The longest file that is accepted: rate factors and 128 reaches, each with every record, the first without a dam."""
+    river = accepted_river(rng, "chain", 128)
+    cards = [with_all_but_dam(card) for card in river.cards]
+    return River(cards[:1] + [card._replace(dam=Dam(rng.randint(0, 1_000), 0)) for card in cards[1:]], river.factors or AS_GIVEN)
 
 
 def lowest_oxygen(rng):
@@ -559,28 +689,34 @@ def lowest_by_ammonia(rng):
 
 
 def longest_file(rng):
-    """The longest file that is read: every reach of 128 has every record. The flow check refuses the dam of the first."""
+    """The longest file that is read: rate factors, and every record for every reach of 128. The flow check refuses the dam of the first."""
     river = most_reaches(rng)
     return reference.encode(replaced(river, 1, dam=Dam(0, 0)))
 
 
 # ---- Files that reading refuses
 
-KINDS = (HEADER, REACH) + AFTER_REACH
+KINDS = (HEADER, FACTORS, REACH) + AFTER_REACH
+OPTIONAL = (FACTORS,) + AFTER_REACH
 
 
 def base_river(rng):
-    """An accepted river with every kind of record on its last reach, and each on some other, so that each is met inside and at the end."""
+    """An accepted river with rate factors and every kind of record on its last reach, and each on some other, so that each is met inside and at the
+    end."""
     river = accepted_river(rng, "dams", rng.randint(3, 8))
+    river = river._replace(factors=river.factors or AS_GIVEN)
     second, n = with_all_but_dam(river.cards[1]), len(river.cards)
     river = replaced(river, 2, **{kind.name: values for kind, values in reference.added_records(second)})
     return replaced(river, n, dam=Dam(rng.randint(0, 1_000), 0), take=Take(0), pressure=Pressure(LEAST_PRESSURE), sludge=Sludge(1), ammonia=Ammonia(1, 0, 0), volume=0)
 
 
 def starts(river):
-    """Where the records of a river's file begin: offsets by kind and by reach, 0 for the header."""
+    """Where the records of a river's file begin: offsets by kind and by reach, 0 for the header and the rate factors."""
     result, at = {kind.name: {} for kind in KINDS}, HEADER.size
     result[HEADER.name][0] = 0
+    if river.factors:
+        result[FACTORS.name][0] = at
+        at += FACTORS.size
     for reach, card in enumerate(river.cards, 1):
         for kind in [REACH] + [kind for kind, _ in reference.added_records(card)]:
             result[kind.name][reach] = at
@@ -619,9 +755,8 @@ def count(choose):
 def field(kind, which, number):
     """A field has another number, in some record of its kind."""
     def damage(rng, river):
-        numbers = [i for i, card in enumerate(river.cards, 1) if kind is REACH or getattr(card, kind.name)]
-        i = rng.choice(numbers)
-        if kind is REACH:
+        i = rng.choice(list(starts(river)[kind.name]))
+        if kind in (FACTORS, REACH):
             return reference.encode(replaced(river, i, **{which: number}))
         return reference.encode(replaced(river, i, **{kind.name: getattr(river.cards[i - 1], kind.name)._replace(**{which: number})}))
     return damage
@@ -691,7 +826,7 @@ def noise(rng, river):
 
 def cut_and_marked():
     """Records that are cut, and records with another mark."""
-    faults = {f"cut {kind.name} {offset}": cut(kind, offset) for kind in KINDS for offset in range(1 if kind in AFTER_REACH else 0, kind.size)}
+    faults = {f"cut {kind.name} {offset}": cut(kind, offset) for kind in KINDS for offset in range(1 if kind in OPTIONAL else 0, kind.size)}
     for kind in KINDS:
         for letters in [other.mark for other in KINDS if other is not kind] + [b"RX", kind.mark.lower(), kind.mark[::-1], b"\0\0"]:
             if letters != kind.mark:
@@ -704,7 +839,7 @@ def counts_and_fields():
     faults = {f"count {number}": count(lambda n, number=number: number) for number in (0, 129, 256, 65_535)}
     faults["count one more"] = count(lambda n: n + 1)
     faults["count one less"] = count(lambda n: n - 1)
-    for kind in (REACH,) + AFTER_REACH:
+    for kind in (FACTORS, REACH) + AFTER_REACH:
         for one in kind.fields:
             for number in sorted({one.lowest - 1, one.highest + 1, reference.most(one.width)}):
                 if 0 <= number <= reference.most(one.width) and not one.lowest <= number <= one.highest:
@@ -724,6 +859,7 @@ OUTLETS_AND_ENDS = {
     "trailing line end": trailing(lambda rng, file: b"\n"),
     "trailing half mark": trailing(lambda rng, file: rng.choice(KINDS).mark[:1]),
     "trailing mark": trailing(lambda rng, file: rng.choice(KINDS).mark),
+    "trailing factors": trailing(lambda rng, file: FACTORS.encode(AS_GIVEN)),
     **{f"trailing {kind.name}": trailing(lambda rng, file, kind=kind: kind.encode(WITHOUT_EFFECT[kind])) for kind in AFTER_REACH},
     "trailing file": trailing(lambda rng, file: file),
     "trailing to one too many": trailing(lambda rng, file: bytes(LONGEST + 1 - len(file))),
@@ -749,6 +885,13 @@ TWO_FAULTS = {
     "pressure, then ammonia": two_faults((lambda n: n - 1, {"pressure": Pressure(0)}), (lambda n: n, {"ammonia": Ammonia(MOST_RATE + 1, 0, 0)})),
     "foul, then ammonia": two_faults((lambda n: 1, {"load": MOST_LOAD}), (lambda n: n, {"ammonia": Ammonia(MOST_RATE + 1, 0, 0)})),
     "no flow, then field": two_faults((lambda n: 1, {"inflow": 0}), (lambda n: n, {"volume": 1_000_000_001})),
+    "factors, then field": two_faults((lambda n: 0, {"decay_factor": LEAST_FACTOR - 1}), (lambda n: 1, {"temperature": 36})),
+    "factors, then outlet": two_faults((lambda n: 0, {"aeration_factor": MOST_FACTOR + 1}), (lambda n: 1, {"outlet": 1})),
+    "both factors": two_faults((lambda n: 0, {"decay_factor": 0, "aeration_factor": 65_535})),
+    "no flow, then factors": two_faults((lambda n: 1, {"inflow": 0}), (lambda n: 0, {"decay_factor": MOST_FACTOR + 1})),
+    "count and factors": lambda rng, river: HEADER.encode([rng.choice((0, 129))]) + reference.encode(replaced(river, 0, decay_factor=0))[HEADER.size:],
+    "factors, then mark": lambda rng, river: reference.encode(replaced(river, 0, aeration_factor=0)).replace(REACH.mark, b"RX", 1),
+    "factors and nothing": lambda rng, river: reference.encode(river)[:HEADER.size + FACTORS.size],
 }
 
 def not_due():
@@ -758,7 +901,11 @@ def not_due():
         record = kind.encode(WITHOUT_EFFECT[kind])
         faults |= {f"{kind.name} before {earlier.name}": moved_up(kind, earlier) for earlier in AFTER_REACH[:k]}
         faults |= {f"{kind.name} after {later.name}": inserted((later, True), record) for later in AFTER_REACH[k + 1:]}
-        faults |= {f"{kind.name} twice": inserted((kind, True), record), f"{kind.name} before reach": inserted((HEADER, True), record)}
+        faults |= {f"{kind.name} twice": inserted((kind, True), record), f"{kind.name} before reach": inserted((FACTORS, True), record),
+                   f"{kind.name} before factors": inserted((HEADER, True), record)}
+    record = FACTORS.encode(AS_GIVEN)
+    faults |= {f"factors after {kind.name}": inserted((kind, True), record) for kind in (REACH,) + AFTER_REACH}
+    faults |= {"factors twice": inserted((FACTORS, True), record), "factors before header": inserted((HEADER, False), record)}
     return faults | {"take before header": inserted((HEADER, False), TAKE.encode(Take(1))), "unknown record": inserted((TAKE, True), b"XX\0\0\0\1")}
 
 
@@ -785,6 +932,7 @@ def accepted_kinds():
     kinds = {style: lambda rng, style=style: accepted_river(rng, style, size(rng)) for style in STYLES}
     kinds |= {name: lambda rng, change=change: changed_river(rng, change, last) for name, change in ON_A_LIMIT.items()}
     kinds |= {f"on check 10 {name}": bod_below_take(first, 0) for name, first in BELOW_A_TAKE.items()}
+    kinds |= {"on check 11 rounded at each degree": rounded_each_degree(0)}
     kinds |= {"most reaches": most_reaches, "lowest oxygen": lowest_oxygen, "lowest oxygen by ammonia": lowest_by_ammonia}
     return {name: lambda rng, make=make: reference.encode(make(rng)) for name, make in kinds.items()}
 
@@ -794,6 +942,7 @@ def refused_kinds():
     kinds = {name: lambda rng, damage=damage: damage(rng, base_river(rng)) for name, damage in reading_faults().items()}
     kinds |= {name: lambda rng, change=change: reference.encode(changed_river(rng, change, any_reach)) for name, change in PAST_A_LIMIT.items()}
     kinds |= {f"check 10 {name}": lambda rng, first=first: reference.encode(bod_below_take(first, 1)(rng)) for name, first in BELOW_A_TAKE.items()}
+    kinds |= {"check 11 rounded at each degree": lambda rng: reference.encode(rounded_each_degree(1)(rng))}
     kinds |= {"longest file": longest_file, "longest file and a byte": lambda rng: longest_file(rng) + b"\0"}
     return kinds
 

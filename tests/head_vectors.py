@@ -9,7 +9,7 @@ import sys
 
 import reference
 import vectors
-from reference import Ammonia, Card, Dam, Pressure, Refused, River, Sludge, Take
+from reference import Ammonia, Card, Dam, Factors, Pressure, Refused, River, Sludge, Take
 
 CRATE = "crates/head_vectors"
 OFFSET = 2 ** 31        # the program holds oxygen as units + 2^31
@@ -42,6 +42,11 @@ def nitrifying(cards, ammonias):
     return [card._replace(ammonia=Ammonia(*ammonias[reach])) if reach in ammonias else card for reach, card in enumerate(cards, 1)]
 
 
+def factored(cards, decay=1000, aeration=1000):
+    """A river with rate factors."""
+    return River(cards, Factors(decay, aeration))
+
+
 def dams():
     """Shares 0, 500 and 1,000, each with a generating flow of 0, part and all of Qu."""
     cards, flow = [], 0
@@ -65,7 +70,7 @@ def made(star):
     return [card(0 if i == 127 else 128 if star else i + 2, i % 36, 100, 200, 50, 0x0B00 + i, 2000, 8000, 5) for i in range(128)]
 
 
-# Cards, the first reach's foot oxygen as the program holds it, and how much it grows with each reach.
+# Cards or a river, the first reach's foot oxygen as the program holds it, and how much it grows with each reach.
 LEVEL, HIGH, LOW = OFFSET + 8000000, OFFSET + 19900000, OFFSET - 900000000
 GROUPS = {
     "plain": [(two(), LEVEL, 0), (two((500, 1000)), LEVEL, 0), (two((500, 1000), temperature=5), HIGH, 0), (two((1000, 0), temperature=30), HIGH, 7)],
@@ -175,13 +180,39 @@ GROUPS = {
         (two(take=4000, volume=1000000000, ammonia=(20000, 0, 0)), LEVEL, 0),
         (two((500, 3001), ammonia=(0, 1000000, 4294967295)), LEVEL, 0),
     ],
+    "refusals_15": [
+        (factored([card(0, 21, k1=19532)], decay=1024), LEVEL, 0),
+        (factored([card(0, 21, k1=19533)], decay=1024), LEVEL, 0),
+        (factored([card(0, 21, k2=20000)], aeration=1024), LEVEL, 0),
+        (factored([card(0, 21, k1=20000, ammonia=(20000, 0, 0))], aeration=1024), LEVEL, 0),
+        (factored([card(0, 21, ammonia=(20000, 0, 0))], decay=1024), LEVEL, 0),
+        (factored([card(2, 35), card(0, 20, k1=20000, k2=20000)], 1100, 1100), LEVEL, 0),
+        (factored([card(0, 35, k1=20000, k2=20000, ammonia=(20000, 0, 0))], 1100, 1100), LEVEL, 0),
+        (factored([card(0, 21, k1=20000, volume=1000000000)], decay=1024), LEVEL, 0),
+        (factored(two(take=4000, temperature=21, k1=20000), decay=1024), LEVEL, 0),
+    ],
+    "refusals_11_in_force": [
+        (factored([card(0, 25, inflow=10000, k1=1000, volume=2747217)], decay=1047), LEVEL, 0),
+        (factored([card(0, 25, inflow=10000, k1=1000, volume=2747218)], decay=1047), LEVEL, 0),
+        (factored([card(0, 10, inflow=10000, volume=5477020, ammonia=(1000, 0, 0))], decay=1047), LEVEL, 0),
+        (factored([card(0, 10, inflow=10000, volume=5477021, ammonia=(1000, 0, 0))], decay=1047), LEVEL, 0),
+        (factored([card(0, 0, inflow=10000, k2=230, volume=37978021)], aeration=1047), LEVEL, 0),
+        (factored([card(0, 0, inflow=10000, k2=230, volume=37978022)], aeration=1047), LEVEL, 0),
+        (factored([card(0, 2, inflow=10000, k1=2823, volume=1573054)], decay=1014), LEVEL, 0),
+        (factored([card(0, 2, inflow=10000, k1=2823, volume=1573055)], decay=1014), LEVEL, 0),
+    ],
 }
 MADE = [(made(False), 2155483648, 1000), (made(True), 2147000000, 12345)]
 
 
-def lines(cards, first, step):
+def river_of(given):
+    """The river of some cards, or itself."""
+    return given if isinstance(given, River) else River(given)
+
+
+def lines(given, first, step):
     """What the program prints: a foot has seven eighths of each demand at the head, rounded up, and the oxygen given."""
-    reaches = reference.answer(reference.flows, River(cards))
+    reaches = reference.answer(reference.flows, river_of(given))
     if isinstance(reaches, Refused):
         return [reaches.line()]
     feet, result = {}, []
@@ -207,7 +238,7 @@ def literal(data):
 def source():
     code = ["// Vectors of the test program, made by tests/head_vectors.py from the reference program.", "use crate::shown::show;", ""]
     for name, rivers in GROUPS.items():
-        code += [f"fn {name}() {{"] + [f"show({literal(reference.encode(River(cards)))}, {first}, {step});" for cards, first, step in rivers] + ["}", ""]
+        code += [f"fn {name}() {{"] + [f"show({literal(reference.encode(river_of(given)))}, {first}, {step});" for given, first, step in rivers] + ["}", ""]
     return "\n".join(code + ["pub fn all() {"] + [f"{name}();" for name in GROUPS] + ["}", ""])
 
 

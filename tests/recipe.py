@@ -41,7 +41,7 @@ def series(y, z):
 def shares(reach, rate, start=ONE):
     """For each instant what is left of a demand with this rate that starts with so many parts, what of it has turned to deficit, and the share of
     the deficit kept."""
-    y, z = exponent(rate, reach), exponent(reach.card.k2, reach)
+    y, z = exponent(rate, reach), exponent(reach.k2, reach)
     lost, used, filled = series(y, 0), series(y, z), series(z, 0)
     left, turned, kept = start, 0, ONE
     yield left, turned, kept
@@ -52,8 +52,8 @@ def shares(reach, rate, start=ONE):
 
 def bed_numbers(reach):
     """The two numbers of a sludge bed, of which one is 0: demand / k2 in units, and without surface aeration what it uses down to the foot."""
-    if reach.card.k2:
-        return 1_000_000 * reach.sludge // reach.card.k2, 0
+    if reach.k2:
+        return 1_000_000 * reach.sludge // reach.k2, 0
     return 0, reach.sludge * reach.card.volume * 625 // (54 * reach.Q)
 
 

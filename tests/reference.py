@@ -5,7 +5,7 @@ It works with whole numbers and fractions only, so that its verdicts are exact.
 
     reference.py check FILE [N ...] [--full] < PRINTED   the verdict on a printed report of FILE
     reference.py expect FILE                             the refusal, or the exact figures, rounded down
-    reference.py show FILE                               the cards, or the refusal
+    reference.py show FILE                               the rate factors, if any, and the cards, or the refusal
     reference.py gen SEED DIR COUNT                      generated files of every kind, with the answers in DIR/MANIFEST
 
 A check tries the series lengths N (40 and 41, where none is given). It decides each of the 1,025 instants by bounds, and
@@ -26,6 +26,8 @@ UNITS_A_STEP = 100          # the allowance for each step of depth, in units
 UNITS_WITH_BEDS = 150       # the same in a river whose file has a sludge bed, of demand 0 too
 UNITS_WITH_AMMONIA = 200    # the same in a river whose file has ammonia, of zeros too, beds or none
 STANDARD_PRESSURE = 760     # mm of mercury, that of a reach without the record
+STANDARD_TEMPERATURE = 20   # degrees C, at which rates are given where the file has rate factors
+MOST_RATE = 20_000          # thousandths per day, on a card and in force
 
 
 # ---- The river file: the table of records
@@ -66,11 +68,14 @@ class Kind:
 
 HEADER = Kind("RV", "header",
               ("count", 2, 1, 128, "number of reaches"))
+FACTORS = Kind("TH", "factors",
+               ("decay_factor", 2, 1_000, 1_100, "k1 and kn are multiplied by it for each degree C above 20 and divided by it for each below, thousandths"),
+               ("aeration_factor", 2, 1_000, 1_100, "the same for k2"))
 REACH = Kind("RE", "reach",
              ("outlet", 1, 0, most(1), "the reach it flows into, a larger number; 0 for the last"),      # check 5 has the rule
              ("temperature", 1, 0, 35, "degrees C"),
-             ("k1", 2, 0, 20_000, "BOD decay rate, thousandths per day"),
-             ("k2", 2, 0, 20_000, "surface aeration rate, thousandths per day"),
+             ("k1", 2, 0, MOST_RATE, "BOD decay rate, thousandths per day"),
+             ("k2", 2, 0, MOST_RATE, "surface aeration rate, thousandths per day"),
              ("volume", 4, 0, 1_000_000_000, "cubic metres"),
              ("inflow", 4, 0, 100_000_000, "water that joins at the head, litres a second"),
              ("inflow_bod", 4, 0, 1_000_000, "its BOD, thousandths of mg/L"),
@@ -86,17 +91,21 @@ PRESSURE = Kind("BP", "pressure",
 SLUDGE = Kind("SD", "sludge",
               ("sludge", 2, 0, most(2), "oxygen demand of the sludge bed, thousandths of mg/L a day; 0 without it"))
 AMMONIA = Kind("NT", "ammonia",
-               ("kn", 2, 0, 20_000, "nitrification rate, thousandths per day; 0 without it"),
+               ("kn", 2, 0, MOST_RATE, "nitrification rate, thousandths per day; 0 without it"),
                ("inflow_nitrogenous_bod", 4, 0, 1_000_000, "nitrogenous BOD of the inflow, thousandths of mg/L; 0 without it"),
                ("nitrogenous_load", 4, 0, most(4), "nitrogenous BOD that joins without water, milligrams a second; 0 without it"), zeros=4)
 AFTER_REACH = (DAM, TAKE, PRESSURE, SLUDGE, AMMONIA)    # the records that may follow a reach, in this order, at most one of a kind
 
-LONGEST = HEADER.size + 128 * (REACH.size + sum(kind.size for kind in AFTER_REACH))
+LONGEST = HEADER.size + FACTORS.size + 128 * (REACH.size + sum(kind.size for kind in AFTER_REACH))
 
 # A card has the numbers of its reach, and for each kind of record after it the values or None.
 Card = namedtuple("Card", [field.name for field in REACH.fields] + [kind.name for kind in AFTER_REACH], defaults=[None] * len(AFTER_REACH))
 Dam, Take, Pressure, Sludge, Ammonia = (kind.values for kind in AFTER_REACH)
-River = namedtuple("River", "cards")
+Factors = FACTORS.values
+AS_GIVEN = Factors(1_000, 1_000)    # what the rates of a river without factors go by: they stay as they are
+
+# A river has its cards, and its rate factors or None.
+River = namedtuple("River", "cards factors", defaults=[None])
 
 
 def reach_values(card):
@@ -111,7 +120,7 @@ def added_records(card):
 
 def encode(river):
     """The bytes of a river, lawful or not."""
-    parts = [HEADER.encode([len(river.cards)])]
+    parts = [HEADER.encode([len(river.cards)])] + ([] if river.factors is None else [FACTORS.encode(river.factors)])
     for card in river.cards:
         parts += [kind.encode(values) for kind, values in [(REACH, reach_values(card))] + added_records(card)]
     return b"".join(parts)
@@ -195,6 +204,9 @@ def read(file, ranges=True):
     count = reader.record(HEADER, 0).count
     if ranges:
         check_range(3, HEADER, [count], 0)
+    factors = reader.record(FACTORS, 0) if reader.follows(FACTORS) else None
+    if ranges and factors is not None:
+        check_range(4, FACTORS, factors, 0)
     cards = []
     for reach in range(1, count + 1):
         card = Card(*reader.record(REACH, reach))
@@ -210,7 +222,7 @@ def read(file, ranges=True):
         cards.append(card)
     if reader.remaining():
         raise Refused(6, 0, f"byte {reader.at}: {counted(reader.remaining(), 'byte')} too many, after the last record")
-    return River(cards)
+    return River(cards, factors)
 
 
 def has_record(river, kind):
@@ -222,6 +234,8 @@ def write(river, room):
     """The file of a river, for a buffer of `room` bytes."""
     count = len(river.cards)
     check_range(3, HEADER, [count], 0)
+    if river.factors is not None:
+        check_range(4, FACTORS, river.factors, 0)
     for reach, card in enumerate(river.cards, 1):
         check_range(4, REACH, reach_values(card), reach)
         check_outlet(card, reach, count)
@@ -233,21 +247,36 @@ def write(river, room):
     return file
 
 
+# ---- Rates in force
+
+def in_force(rate, factor, temperature):
+    """The rate in force at a temperature, of a rate on a card and its factor, rounded at each degree and at the end."""
+    parts = 1_000_000 * rate
+    for _ in range(STANDARD_TEMPERATURE, temperature):
+        parts = parts * factor // 1_000
+    for _ in range(temperature, STANDARD_TEMPERATURE):
+        parts = parts * 1_000 // factor
+    return parts // 1_000_000
+
+
 # ---- Flows and depth
 
-# A demand of a reach, BOD or nitrogenous BOD: its rate, and what its inflow and its load bring.
+# A demand of a reach, BOD or nitrogenous BOD: its rate in force, and what its inflow and its load bring.
 Demand = namedtuple("Demand", "rate inflow load")
 
 
 class Reach:
-    """A reach with its feeders and what flows in it: Qm and Mm at its head, mixed, and Q and M from there on, after its take."""
+    """A reach with its feeders, its rates in force and what flows in it: Qm and Mm at its head, mixed, and Q and M from there on, after its take."""
 
-    def __init__(self, number, card, feeders, units=UNITS_A_STEP):
-        self.number, self.card, self.feeders = number, card, feeders
+    def __init__(self, number, card, feeders, units=UNITS_A_STEP, factors=None):
+        self.number, self.card, self.feeders, self.factors = number, card, feeders, AS_GIVEN if factors is None else factors
         self.take = 0 if card.take is None else card.take.take
         self.sludge = 0 if card.sludge is None else card.sludge.sludge
-        self.bod = Demand(card.k1, card.inflow_bod, card.load)
-        self.nitrogenous = Demand(0, 0, 0) if card.ammonia is None else Demand(*card.ammonia)
+        ammonia = card.ammonia or Ammonia(0, 0, 0)
+        k1, kn = (in_force(rate, self.factors.decay_factor, card.temperature) for rate in (card.k1, ammonia.kn))
+        self.k2 = in_force(card.k2, self.factors.aeration_factor, card.temperature)
+        self.bod = Demand(k1, card.inflow_bod, card.load)
+        self.nitrogenous = Demand(kn, ammonia.inflow_nitrogenous_bod, ammonia.nitrogenous_load)
         self.demands = self.bod, self.nitrogenous
         self.Qu = sum(feeder.Q for feeder in feeders)
         self.Qm = self.Qu + card.inflow
@@ -266,8 +295,8 @@ class Reach:
         return demand.rate == 0 or self.card.volume == 0
 
     def rates(self):
-        """k1, kn and k2."""
-        return *(demand.rate for demand in self.demands), self.card.k2
+        """k1, kn and k2, as they are in force."""
+        return *(demand.rate for demand in self.demands), self.k2
 
     def keeps_oxygen(self):
         return not any(self.rates()) and self.sludge == 0 or self.card.volume == 0
@@ -282,6 +311,7 @@ def flow_check(reach):
             (9, dam is not None and (not reach.feeders or dam.generating > reach.Qu), f"the dam has {reach.Qu} from above"),
             (10, reach.Mm > 1_000_000 * reach.Qm, f"M is {reach.Mm} at a flow of {reach.Qm}"),
             (13, reach.take >= reach.Qm, f"the take is {reach.take} of a flow of {reach.Qm}"),
+            (15, max(reach.rates()) > MOST_RATE, f"a rate in force is {max(reach.rates())}"),
             (11, max(reach.rates()) * card.volume > 345_600 * reach.Q, f"the reach is too long for a flow of {reach.Q}"),
             (14, reach.sludge * card.volume > 432_000 * reach.Q, f"the sludge bed is too large for a flow of {reach.Q}")):
         if broken:
@@ -297,7 +327,7 @@ def flows(river):
     """The reaches of a river that passes the flow check."""
     reaches, units = [], step_units(river)
     for number, card in enumerate(river.cards, 1):
-        reaches.append(Reach(number, card, [feeder for feeder in reaches if feeder.card.outlet == number], units))
+        reaches.append(Reach(number, card, [feeder for feeder in reaches if feeder.card.outlet == number], units, river.factors))
         flow_check(reaches[-1])
     return reaches
 
@@ -371,20 +401,20 @@ def S(x, N):
 
 def demand_factors(reach, rate, m, N):
     """S of a demand with this rate, its F, and S(x2), at instant m."""
-    k2 = reach.card.k2
+    k2 = reach.k2
     x1, x2 = (exponent(reach, k) * Fraction(m, INSTANTS) for k in (rate, k2))
     S1, S2 = S(x1, N), S(x2, N)
     return S1, (x1 * S1 if rate == k2 else Fraction(rate, k2 - rate) * (S1 - S2)), S2
 
 
-def factors(reach, m, N):
+def bod_factors(reach, m, N):
     """S(x1), F and S(x2) at instant m."""
-    return demand_factors(reach, reach.card.k1, m, N)
+    return demand_factors(reach, reach.bod.rate, m, N)
 
 
 def bed_in_the_end(reach):
     """Demand / k2, in units: by so much a bed lowers what oxygen tends to, with surface aeration (k2 above 0)."""
-    return Fraction(1_000_000 * reach.sludge, reach.card.k2)
+    return Fraction(1_000_000 * reach.sludge, reach.k2)
 
 
 def bed_fall(reach):
@@ -394,7 +424,7 @@ def bed_fall(reach):
 
 def bed_loss(reach, m, S2):
     """The oxygen lost to the sludge bed by instant m, in units, where S(x2) is S2."""
-    return bed_in_the_end(reach) * (1 - S2) if reach.card.k2 else bed_fall(reach) * Fraction(m, INSTANTS)
+    return bed_in_the_end(reach) * (1 - S2) if reach.k2 else bed_fall(reach) * Fraction(m, INSTANTS)
 
 
 def along(reach, m, N):
@@ -457,14 +487,14 @@ def terms(x, N):
 
 def bed_terms(reach, S2):
     """The coefficients of the bed's loss as a polynomial in u = m/1024, where S2 are the terms of S(x2)."""
-    if reach.card.k2 == 0:
+    if reach.k2 == 0:
         return [0, bed_fall(reach)] + [0] * (len(S2) - 2)
     return [0] + [-bed_in_the_end(reach) * term for term in S2[1:]]
 
 
 def demand_terms(reach, rate, S2):
     """The coefficients of F of a demand with this rate as a polynomial in u, where S2 are the terms of S(x2) and a zero."""
-    k2, x = reach.card.k2, exponent(reach, rate)
+    k2, x = reach.k2, exponent(reach, rate)
     if rate == k2:
         return [Fraction(0)] + [x * term for term in S2[:-1]]
     return [Fraction(rate, k2 - rate) * (one - two) for one, two in zip(terms(x, len(S2) - 1), S2)] + [Fraction(0)]
@@ -477,7 +507,7 @@ def oxygen_bounds(reach, start, N):
     are taken in parts of 2^-BITS. Cutting the figures of the head to whole parts moves the sum by less than the sizes of all
     factors; cutting the coefficients, and each step of the evaluation, by less than one part each.
     """
-    S2 = terms(exponent(reach, reach.card.k2), N) + [Fraction(0)]
+    S2 = terms(exponent(reach, reach.k2), N) + [Fraction(0)]
     F1, Fn = (demand_terms(reach, demand.rate, S2) for demand in reach.demands)
     L, C, Ln = ((figure << BITS) // start.over for figure in start.figures)
     Cs = reach.saturation * 2 ** BITS
@@ -669,14 +699,19 @@ def expectation(file, N=40):
     return lines
 
 
+def record_text(kind, values):
+    """The mark of a record and its fields by name."""
+    return f"{kind.mark.decode()} " + ", ".join(f"{name} {number}" for name, number in values._asdict().items())
+
+
 def shown(file):
     """The lines of `show`."""
     river = answer(read, file)
     if isinstance(river, Refused):
         return [f"{river.line()}  ({river.why})"]
-    return [" ".join([f"{reach}:"] + [f"{kind.mark.decode()} " + ", ".join(f"{name} {number}" for name, number in values._asdict().items())
-                                      for kind, values in [(REACH, reach_values(card))] + added_records(card)])
-            for reach, card in enumerate(river.cards, 1)]
+    lines = [] if river.factors is None else [f"header: {record_text(FACTORS, river.factors)}"]
+    return lines + [" ".join([f"{reach}:"] + [record_text(*record) for record in [(REACH, reach_values(card))] + added_records(card)])
+                    for reach, card in enumerate(river.cards, 1)]
 
 
 def arguments():
@@ -687,7 +722,7 @@ def arguments():
     checking.add_argument("file")
     checking.add_argument("series", nargs="*", type=int, metavar="N", help="series lengths, 40 and 41 if none is given")
     checking.add_argument("--full", action="store_true", help="work out every instant exactly")
-    for name, text in (("expect", "the refusal, or the exact figures"), ("show", "the cards, or the refusal")):
+    for name, text in (("expect", "the refusal, or the exact figures"), ("show", "the rate factors and cards, or the refusal")):
         commands.add_parser(name, help=text).add_argument("file")
     generating = commands.add_parser("gen", help="generated files of every kind")
     generating.add_argument("seed", type=int)

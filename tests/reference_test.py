@@ -16,7 +16,8 @@ from fractions import Fraction
 import generate
 import recipe
 import reference
-from reference import BITS, INSTANTS, SERIES, STANDARD_PRESSURE, Ammonia, Card, Dam, Point, Pressure, Reach, Record, Refused, River, Sludge, Take
+from reference import (AS_GIVEN, BITS, INSTANTS, SERIES, STANDARD_PRESSURE, Ammonia, Card, Dam, Factors, Point, Pressure, Reach, Record, Refused, River,
+                       Sludge, Take, in_force)
 from testing import expect, run_tests
 
 ROOT = os.path.dirname(os.path.dirname(os.path.abspath(__file__)))
@@ -67,7 +68,7 @@ def paper_agrees():
     """The tables of records and fields in the paper are those of the reference."""
     with open(os.path.join(ROOT, "docs", "RIVER-FILE.md"), encoding="utf-8") as file:
         text = file.read()
-    kinds = (reference.HEADER, reference.REACH) + reference.AFTER_REACH
+    kinds = (reference.HEADER, reference.FACTORS, reference.REACH) + reference.AFTER_REACH
     expect("records", [(row[0], int(row[1])) for row in table(text, "mark")], [(kind.mark.decode(), kind.size) for kind in kinds])
     expect("fields", list(paper_fields(table(text, "record"))), list(our_fields(kinds)))
     expect("the longest file", f"{reference.LONGEST:,} bytes" in text and f"at most {reference.LONGEST + 1:,} bytes" in text, True)
@@ -298,6 +299,115 @@ def ammonia_records():
     return "records of ammonia"
 
 
+RATE_ROWS = ((1_000, 1_047, 25, 1_258), (1_000, 1_047, 10, 631), (230, 1_047, 0, 91), (2_823, 1_014, 2, 2_197), (20_000, 1_024, 21, 20_480))
+
+
+def rates_in_force():
+    """The bench values of the paper on rates in force."""
+    for rate, factor, temperature, due in RATE_ROWS:
+        expect(f"a rate of {rate} with {factor} at {temperature} degrees", in_force(rate, factor, temperature), due)
+    for rate, factor, temperature in generate.ROUNDED_EACH_DEGREE:
+        expect(f"a rate of {rate} with {factor} at {temperature} degrees, rounded only at the end, is one more",
+               math.floor(rate * Fraction(factor, 1_000) ** (temperature - 20)), in_force(rate, factor, temperature) + 1)
+    for rate in (0, 1, 230, 20_000):
+        expect(f"a rate of {rate} with a factor of 1,000", {in_force(rate, 1_000, temperature) for temperature in range(36)}, {rate})
+        expect(f"a rate of {rate} at 20 degrees", {in_force(rate, factor, 20) for factor in range(1_000, 1_101)}, {rate})
+    for temperature in range(35):
+        expect(f"a degree more than {temperature}", in_force(5_000, 1_047, temperature) < in_force(5_000, 1_047, temperature + 1), True)
+    expect("the largest rate at the most degrees", in_force(20_000, 1_100, 35), 83_544)
+    return "rates in force"
+
+
+def one_warm(temperature, factors, **fields):
+    """A file with rate factors and one reach at some temperature, with rates of 0 but for those given."""
+    return reference.encode(River([Card(0, temperature, 0, 0, 0, 10_000, 0, 8_000, 0)._replace(**fields)], Factors(*factors)))
+
+
+def factors():
+    """The bench values of the paper that have rate factors."""
+    first, second = Factors(1_024, 1_000), Factors(1_000, 1_024)
+    limit = 345_600 * 10_000 // 2_197
+    for what, file, due in (
+            ("k1 of 20,000 at 21 degrees", one_warm(21, first, k1=20_000), "refused 15 reach 1"), ("at 20 degrees", one_warm(20, first, k1=20_000), "accepted"),
+            ("by the other factor", one_warm(21, second, k1=20_000), "accepted"), ("k2 of 20,000", one_warm(21, second, k2=20_000), "refused 15 reach 1"),
+            ("k2 by the other factor", one_warm(21, first, k2=20_000), "accepted"),
+            ("kn of 20,000", one_warm(21, first, ammonia=Ammonia(20_000, 0, 0)), "refused 15 reach 1"),
+            ("kn by the other factor", one_warm(21, second, ammonia=Ammonia(20_000, 0, 0)), "accepted"),
+            ("k1 of 19,532", one_warm(21, first, k1=19_532), "accepted"), ("k1 of 19,533", one_warm(21, first, k1=19_533), "refused 15 reach 1"),
+            ("15 and 11", one_warm(21, first, k1=20_000, volume=10 ** 9), "refused 15 reach 1"),
+            ("15 and 14", one_warm(21, first, k1=20_000, volume=70_000, sludge=Sludge(65_535)), "refused 15 reach 1"),
+            ("13 and 15", one_warm(21, first, k1=20_000, take=Take(10_000)), "refused 13 reach 1"),
+            ("11 by the rate in force", one_warm(25, (1_047, 1_000), k1=1_000, volume=2_747_218), "refused 11 reach 1"),
+            ("a cubic metre less", one_warm(25, (1_047, 1_000), k1=1_000, volume=2_747_217), "accepted"),
+            ("11 in cold water", one_warm(10, (1_047, 1_000), k1=1_000, volume=5_477_021), "refused 11 reach 1"),
+            ("a cubic metre less there", one_warm(10, (1_047, 1_000), k1=1_000, volume=5_477_020), "accepted"),
+            ("rounded only at the end it would be refused", one_warm(2, (1_014, 1_000), k1=2_823, volume=limit), "accepted"),
+            ("and with a cubic metre more it is", one_warm(2, (1_014, 1_000), k1=2_823, volume=limit + 1), "refused 11 reach 1")):
+        expect(what, answer_line(file), due)
+    warm, cool = Card(2, 35, 0, 0, 0, 1, 0, 0, 0), Card(0, 20, 20_000, 20_000, 0, 1, 0, 0, 0)
+    expect("the temperature is the reach's own", answer_line(reference.encode(River([warm, cool], Factors(1_100, 1_100)))), "accepted")
+    return "rate factors"
+
+
+def corrected_reports():
+    """Reports go by the rates in force: as if these were on the card, and not by those that are."""
+    card = Card(0, 25, 1_000, 2_000, 864_000, 10_000, 10_000, 6_000, 0, sludge=Sludge(500), ammonia=Ammonia(700, 4_000, 0))
+    usual = Factors(1_047, 1_024)
+    for temperature in (25, 10):
+        k1, kn, k2 = (in_force(*numbers, temperature) for numbers in ((1_000, 1_047), (700, 1_047), (2_000, 1_024)))
+        given = card._replace(temperature=temperature)
+        moved = given._replace(k1=k1, k2=k2, ammonia=Ammonia(kn, 4_000, 0))
+        file, printed = reference.encode(River([given], usual)), right_text(reference.flows(River([moved])))
+        expect(f"at {temperature} degrees", (is_right(file, printed), recipe.report(file)), (True, recipe.report(reference.encode(River([moved])))))
+        for what, wrong in (("the rates on the card", given), ("the other factor for kn", moved._replace(ammonia=Ammonia(in_force(700, 1_024, temperature), 4_000, 0))),
+                            ("aeration as on the card", moved._replace(k2=2_000))):
+            expect(f"a report by {what} is found", is_right(file, right_text(reference.flows(River([wrong])))), False)
+    plain = reference.encode(River([card]))
+    expect("factors of 1,000 give the same figures", recipe.report(reference.encode(River([card], AS_GIVEN))), recipe.report(plain))
+    few = Card(0, 0, 6, 6, 1_000, 3_000, 2_000, 8_000, 0)
+    vanishing = River([few], Factors(1_100, 1_100))
+    reach, = reference.flows(vanishing)
+    expect("rates that come to 0", (reach.rates(), reach.keeps_oxygen(), reach.keeps(reach.bod)), ((0, 0, 0), True, True))
+    expect("keep all figures", recipe.report(reference.encode(vanishing)), "1 1 3000 2000000 2000000 8000000 0 8000000 8000000\n")
+    bed = few._replace(sludge=Sludge(25_920))
+    expect("and a bed goes by them", recipe.report(reference.encode(River([bed], Factors(1_100, 1_100)))), "1 1 3000 2000000 2000000 8000000 1024 7900000 7900000\n")
+    return "reports by rates in force"
+
+
+def factor_records():
+    """Files with rate factors: where they may stand, and their ranges."""
+    plain, record = reference.encode(River(WORKED)), reference.FACTORS.encode
+    usual = record([1_047, 1_024])
+    expect("factors of 1,000 are in the file", reference.encode(River(WORKED, AS_GIVEN)), plain[:4] + b"TH\3\350\3\350" + plain[4:])
+    expect("they are another river", reference.read(reference.encode(River(WORKED, AS_GIVEN))) != reference.read(plain), True)
+
+    def after_header(more):
+        return plain[:4] + more + plain[4:]
+
+    for what, file, due in (
+            ("factors", after_header(usual), "accepted"), ("the smallest", after_header(record([1_000, 1_000])), "accepted"), ("the largest", after_header(record([1_100, 1_100])), "accepted"),
+            ("a first of 999", after_header(record([999, 1_000])), "refused 4 reach 0"), ("a first of 1,101", after_header(record([1_101, 1_000])), "refused 4 reach 0"),
+            ("a second of 999", after_header(record([1_000, 999])), "refused 4 reach 0"), ("a second of 1,101", after_header(record([1_000, 1_101])), "refused 4 reach 0"),
+            ("cut factors", plain[:4] + usual[:5], "refused 1 reach 0"), ("the mark alone", plain[:4] + usual[:2], "refused 1 reach 0"), ("half of it", plain[:4] + usual[:1], "refused 1 reach 1"),
+            ("nothing after them", plain[:4] + usual, "refused 1 reach 1"), ("twice", after_header(2 * usual), "refused 2 reach 1"),
+            ("after a reach", plain[:30] + usual + plain[30:], "refused 2 reach 2"), ("after the last", plain + usual, "refused 6 reach 0"),
+            ("before the header", usual + plain, "refused 2 reach 0"), ("129 reaches first", b"RV\0\x81" + record([0, 0]) + plain[4:], "refused 3 reach 0"),
+            ("before a wrong reach", after_header(record([0, 0])).replace(b"RE", b"RX", 1), "refused 4 reach 0")):
+        expect(what, answer_line(file), due)
+
+    def written(river, room=100):
+        found = reference.answer(reference.write, river, room)
+        return found.line() if isinstance(found, Refused) else found
+
+    bad = [WORKED[0]._replace(temperature=36), WORKED[1]]
+    for what, found, due in (
+            ("written", written(River(WORKED, Factors(1_047, 1_024)), 62), after_header(usual)), ("a byte too few", written(River(WORKED, Factors(1_047, 1_024)), 61), "refused 12 reach 0"),
+            ("before the reaches", written(River(bad, Factors(999, 1_000))), "refused 4 reach 0"), ("in range", written(River(bad, AS_GIVEN)), "refused 4 reach 1"),
+            ("after the count", written(River([], Factors(999, 1_000))), "refused 3 reach 0")):
+        expect(what, found, due)
+    return "records of rate factors"
+
+
 def allowances():
     """200 units for each step of depth in a river with ammonia, be it of zeros; else 150 in one with a bed, be it of 0; and 100 in any other."""
     zeros, some = Ammonia(0, 0, 0), Ammonia(1, 2, 3)
@@ -311,16 +421,17 @@ def allowances():
 
 # ---- Bounds
 
-def drawn_reaches(rng, count):
-    """Accepted rivers of a few reaches, of every style in turn."""
+def drawn_rivers(rng, count):
+    """Accepted rivers of a few reaches, of every style in turn, with their reaches."""
     for style in list(generate.STYLES)[:count]:
-        yield style, reference.flows(generate.accepted_river(rng, style, rng.randint(1, 4)))
+        river = generate.accepted_river(rng, style, rng.randint(1, 4))
+        yield style, river, reference.flows(river)
 
 
 def bounds_hold():
     """The bounds on oxygen hold the exact figure, at some instants of rivers of every style."""
     rng, tried = random.Random(2), 0
-    for style, reaches in drawn_reaches(rng, len(generate.STYLES)):
+    for style, _, reaches in drawn_rivers(rng, len(generate.STYLES)):
         for N in SERIES:
             heads, _ = reference.recurrence(reaches, N)
             reach = rng.choice(reaches)
@@ -341,7 +452,7 @@ def exact_values():
     expect("S and its terms", reference.S(x, 41), sum(reference.terms(x, 41)))
     card = Card(0, 21, 301, 700, 90_000, 1_234, 5_678, 4_321, 99, ammonia=Ammonia(450, 0, 0))
     reach, start = Reach(1, card, []), Point(7, [11, -13, 17])
-    S1, F, S2 = reference.factors(reach, 300, 40)
+    S1, F, S2 = reference.bod_factors(reach, 300, 40)
     Sn, Fn, _ = reference.demand_factors(reach, 450, 300, 40)
     L, C, Ln, Cs = Fraction(11, 7), Fraction(-13, 7), Fraction(17, 7), reach.saturation
 
@@ -435,8 +546,8 @@ def malformed(printed, ammonia):
 def verdicts():
     """A right report is found right and each wrong one wrong, for rivers of every style."""
     rng, found = random.Random(3), 0
-    for style, reaches in drawn_reaches(rng, len(generate.STYLES)):
-        file = reference.encode(River([reach.card for reach in reaches]))
+    for style, river, reaches in drawn_rivers(rng, len(generate.STYLES)):
+        file = reference.encode(river)
         records = right_report(reaches)
         verdict = reference.check(file, text(reaches, records))
         expect(f"{style}: a right report", verdict.wrong, [])
@@ -483,9 +594,8 @@ def exact_limits():
 def same_at_both_speeds():
     """--full gives the same verdict."""
     rng = random.Random(4)
-    for style, reaches in drawn_reaches(rng, 4):
-        reaches = reaches[:1]
-        file = reference.encode(River([reaches[0].card._replace(outlet=0)]))
+    for style, river, _ in drawn_rivers(rng, 4):
+        file = reference.encode(River([river.cards[0]._replace(outlet=0)], river.factors))
         printed = right_text(reference.accept(file))
         expect(f"{style}: both speeds", reference.check(file, printed, full=True).wrong, [])
     return "both speeds"
@@ -505,8 +615,8 @@ def recipe_of_examples():
 def recipe_of_styles():
     """The recipe's reports are found right, for rivers of every style."""
     rng, worst = random.Random(6), 0
-    for style, reaches in drawn_reaches(rng, len(generate.STYLES)):
-        verdict = reference.check(reference.encode(River([reach.card for reach in reaches])), text(reaches, recipe.records_of(reaches)))
+    for style, river, reaches in drawn_rivers(rng, len(generate.STYLES)):
+        verdict = reference.check(reference.encode(river), text(reaches, recipe.records_of(reaches)))
         expect(f"{style}: the recipe", verdict.wrong, [])
         worst = max(worst, verdict.worst)
     return f"recipe within {worst // 1_000}.{worst % 1_000:03d} of its allowance"
@@ -522,13 +632,13 @@ def every_kind():
         answers.append(answer_line(file))
     expect("kinds", len(names), len(generate.accepted_kinds()) + len(generate.refused_kinds()))
     numbers = {int(line.split()[1]) for line in answers if line != "accepted"}
-    expect("refusals", numbers, set(range(1, 12)) | {13, 14})
+    expect("refusals", numbers, set(range(1, 12)) | {13, 14, 15})
     expect("the odd ones are accepted", set(answers[::2]), {"accepted"})
     return f"{len(names)} kinds of generated files"
 
 
 TESTS = (paper_agrees, bench_values, takes, saturations, pressures, pressure_records, beds, bed_records, ammonia, nitrification,
-         ammonia_records, allowances, exact_values, bounds_hold, exact_limits,
+         ammonia_records, rates_in_force, factors, corrected_reports, factor_records, allowances, exact_values, bounds_hold, exact_limits,
          verdicts, same_at_both_speeds, recipe_of_examples, recipe_of_styles, every_kind)
 
 

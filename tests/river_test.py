@@ -130,6 +130,37 @@ def ammonia():
     return "texts with ammonia"
 
 
+def factors():
+    """Texts with rate factors."""
+    plain, usual = make(NINE)[1], "factors 1_047 1_024\n"
+    record = b"TH\4\x17\4\0"
+    made = make(usual + NINE)
+    expect("factors and a reach", made, (0, plain[:4] + record + plain[4:], ""))
+    expect("a comment before them", make(f"# a\n\n  {usual}# b\n{NINE}"), made)
+    expect("factors of 1,000", make(f"factors 1000 1000\n{NINE}"), (0, plain[:4] + b"TH\3\xe8\3\xe8" + plain[4:], ""))
+    status, shown, _ = river("show", "-", given=made[1])
+    expect("a text with factors", (status, shown.decode().splitlines()[:2]), (0, ["# factors decay_factor aeration_factor", "factors 1047 1024"]))
+    expect("and back", make(shown.decode()), made)
+    for text, parts in (
+            (f"factors 1047\n{NINE}", ("line 1", "1 number where factors has 2", "decay_factor aeration_factor")),
+            (f"factors\n{NINE}", ("line 1", "0 numbers where factors has 2")),
+            (f"factors 1047 1024 1000\n{NINE}", ("line 1", "3 numbers where factors has 2")),
+            (usual + usual + NINE, ("line 2", "'factors' stands on two lines")),
+            (f"{NINE}\n{usual}", ("line 2", "'factors' stands behind a reach")),
+            (f"{NINE} factors 1047 1024", ("line 1", "'factors' has a line of its own")),
+            (f"factors 1.047 1.024\n{NINE}", ("line 1", "decay_factor", "'1.047'")),
+            (f"factors 1000 65_536\n{NINE}", ("line 1", "aeration_factor", "0 to 65535"))):
+        one_line(f"'{text[:60]}'", make(text), 1, *parts)
+    status, file, said = make(f"#\nfactors 999 1101\n{NINE}")
+    expect("factors out of range", (status, file, said.splitlines()), (0, plain[:4] + b"TH\3\xe7\4\x4d" + plain[4:], [
+        "river: standard input: warning: line 2: decay_factor is 999, outside 1000 to 1100",
+        "river: standard input: warning: line 2: aeration_factor is 1101, outside 1000 to 1100"]))
+    expect("shown with their place", "warning: the header: decay_factor is 999, outside 1000 to 1100" in river("show", "-", given=file)[2], True)
+    warm = make(f"factors 1000 1000\n{NINE.replace('20', '36', 1)}")
+    expect("a reach behind them keeps its line", "line 2: temperature is 36, outside 0 to 35" in warm[2], True)
+    return "texts with rate factors"
+
+
 def texts():
     """Texts that are taken, and texts that are not."""
     plain = make(NINE)[1]
@@ -186,7 +217,9 @@ def broken_files():
             (with_pressure[:-1], ("reach 1", "byte 30", "BP", "4 bytes", "are 3")), (with_pressure + taken[30:], ("byte 34", "6 bytes too many")),
             (with_bed[:-1], ("reach 1", "byte 30", "SD", "4 bytes", "are 3")), (with_bed + with_pressure[30:], ("byte 34", "4 bytes too many")),
             (with_ammonia[:-1], ("reach 1", "byte 30", "NT", "16 bytes", "are 15")), (with_ammonia + with_bed[30:], ("byte 46", "4 bytes too many")),
-            (with_ammonia[:-1] + b"\1", ("reach 1", "byte 30", "last 4 bytes of NT", "not zero"))):
+            (with_ammonia[:-1] + b"\1", ("reach 1", "byte 30", "last 4 bytes of NT", "not zero")),
+            (taken[:4] + b"TH\4\x17\4", ("byte 4", "TH", "6 bytes", "are 5")), (taken[:4] + b"TH\4\x17\4\0", ("reach 1", "byte 10", "26 bytes", "are 0")),
+            (taken[:4] + 2 * b"TH\4\x17\4\0" + taken[4:], ("reach 1", "byte 10", "TH", "RE"))):
         one_line(f"{broken[:40]}", river("show", "-", given=broken), 1, *parts)
     return "broken files"
 
@@ -228,7 +261,7 @@ def wrong_uses():
     return "wrong uses"
 
 
-TESTS = (examples_come_back, generated_come_back, texts, takes, pressures, beds, ammonia, broken_files, wrong_uses)
+TESTS = (examples_come_back, generated_come_back, texts, takes, pressures, beds, ammonia, factors, broken_files, wrong_uses)
 
 
 if __name__ == "__main__":

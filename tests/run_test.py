@@ -73,7 +73,7 @@ def refusals():
     town = contents(TOWN)
     cases = (
         ("empty", b"", "refused 1 reach 0", ("fewer bytes",)), ("text", contents(TOWN[:-5] + "txt"), "refused 2 reach 0", ("the mark RV", "looks like a text; tools/river make")),
-        ("trailing newline", town + b"\n", "refused 6 reach 0", ("bytes remain",)), ("cut", town[:-1], "refused 1 reach 5", ("reach 5", "fewer bytes")),
+        ("cut factors", town[:4] + b"TH\4\x17\4", "refused 1 reach 0", ("fewer bytes",)), ("trailing newline", town + b"\n", "refused 6 reach 0", ("bytes remain",)), ("cut", town[:-1], "refused 1 reach 5", ("reach 5", "fewer bytes")),
         ("five megabytes", town + bytes(5_000_000), "refused 6 reach 0", ("bytes remain",)), ("zeros", bytes(5_000_000), "refused 2 reach 0", ("the mark RV",)))
     with tempfile.TemporaryDirectory() as folder:
         for name, data, line, parts in cases:
@@ -98,6 +98,8 @@ def reports():
     with tempfile.TemporaryDirectory() as folder:
         path = stored(os.path.join(folder, "zeros.river"), contents(TOWN) + b"NT" + bytes(14))
         expect("ammonia of zeros", run(path), (0, contents(TOWN[:-5] + "report").replace(b"\n", b" 0 0\n"), ""))
+        path = stored(os.path.join(folder, "ones.river"), contents(TOWN)[:4] + b"TH\3\xe8\3\xe8" + contents(TOWN)[4:])
+        expect("rate factors of 1,000", run(path), (0, contents(TOWN[:-5] + "report"), ""))
     due = contents(TOWN[:-5] + "report")
     expect("a pipe", run("/dev/stdin", given=contents(TOWN)), (0, due, ""))
     expect("another folder", run("town.river", folder=EXAMPLES), (0, due, ""))
@@ -118,6 +120,8 @@ def tables():
     expect("tables", (status, said.count(b"lowest oxygen"), complaint), (0, len(ACCEPTED), ""))
     status, said, _ = run("--table", TOWN, os.path.join(EXAMPLES, "refused", "4-too-warm.river"))
     expect("a table and a refusal", (status, b"temperature is 36, not from 0 to 35" in said), (1, True))
+    status, said, _ = run("--table", os.path.join(EXAMPLES, "refused", "4-factor.river"))
+    expect("a refusal with reach 0", (status, b"decay factor is 1101, not from 1000 to 1100" in said), (1, True))
     status, said, complaint = run("--collection", "examples")
     expect("the collection of examples", (status, f"{len(ACCEPTED)} rivers: {len(ACCEPTED)} accepted, 0 refused".encode() in said, complaint), (0, True, ""))
     status, said, complaint = run("--collection", "refused", folder=EXAMPLES)
@@ -152,12 +156,16 @@ def pictures():
             path = os.path.join(EXAMPLES, f"{name}.river")
             text = "".join(drawn(f"{name} and its beds", path, name=path).itertext())
             expect(f"sludge beds in {name}", (text.count("sludge bed of reach"), "sludge beds" in text), (beds, beds > 0))
+        for name, factors in (("two", 0), ("two-factors", 1)):
+            path = os.path.join(EXAMPLES, f"{name}.river")
+            text = "".join(drawn(f"{name} and its factors", path, "--limit", "7.0", name=path).itertext())
+            expect(f"rate factors in {name}", "by 1.047 for decay and 1.024 for aeration" in text, factors == 1)
         for name, feet, nitrifying in (("old-weir", 0, 0), ("two-ammonia", 2, 0), ("upper-stretch", 4, 3)):
             path = os.path.join(EXAMPLES, f"{name}.river")
             text = "".join(drawn(f"{name} and its ammonia", path, name=path).itertext())
             found = "nitrogenous BOD, mg/L" in text, text.count("foot: nitrogenous BOD "), text.count("nitrification of reach")
             expect(f"nitrogenous BOD in {name}", found, (feet > 0, feet, nitrifying))
-    return f"{2 * len(ACCEPTED) + 10} pictures"
+    return f"{2 * len(ACCEPTED) + 12} pictures"
 
 
 TESTS = (wrong_uses, refusals, reports, tables, pictures)

@@ -31,7 +31,7 @@ const MOST_TERMS: u64 = 4;
 const DAY_STEPS: u64 = 88_473_600;
 
 // The exponent of one step at the rate k, as a share of one.
-pub fn exponent(k: u16, volume: u32, flow: u32) -> u64
+pub fn exponent(k: u32, volume: u32, flow: u32) -> u64
     requires { ⌜ RatesPass k k volume flow ⌝ }
     ensures { λ r. ⌜ (r ≡ exponentOf k volume flow) × (r ≤ small) ⌝ }
 {
@@ -91,7 +91,7 @@ pub fn series(y: u64, z: u64) -> SeriesSum
 }
 
 // The shares of one step of a reach.
-pub fn step_of(k1: u16, k2: u16, volume: u32, flow: u32) -> Step
+pub fn step_of(k1: u32, k2: u32, volume: u32, flow: u32) -> Step
     requires { ⌜ RatesPass k1 k2 volume flow ⌝ }
     ensures { λ r. ⌜ r ≡ stepOf k1 k2 volume flow ⌝ }
 {

@@ -51,7 +51,7 @@ fn instants(s: Step)
 }
 
 // How many terms the series of each share of a step has.
-fn terms(k1: u16, k2: u16, volume: u32, flow: u32)
+fn terms(k1: u32, k2: u32, volume: u32, flow: u32)
     requires { ⌜ RatesPass k1 k2 volume flow ⌝ }
 {
     let y = decay::step::exponent(k1, volume, flow);
@@ -63,7 +63,7 @@ fn terms(k1: u16, k2: u16, volume: u32, flow: u32)
 }
 
 // A reach: its card's numbers, the shares of its step with their terms, and four instants.
-fn reach(k1: u16, k2: u16, volume: u32, flow: u32)
+fn reach(k1: u32, k2: u32, volume: u32, flow: u32)
     requires { ⌜ RatesPass k1 k2 volume flow ⌝ }
 {
     io::write_all(1, b"flow ");

@@ -6,6 +6,7 @@ use river::card::Dam;
 use river::card::LONGEST_FILE;
 use river::card::Nitrification;
 use river::card::REACHES;
+use river::card::RateFactors;
 use river::card::blank;
 use river::card::longest_file;
 use river::file::read_file;
@@ -105,6 +106,19 @@ fn card(c: Card) {
     end();
 }
 
+// The rate factors of a river, on a line where there are some.
+fn rate_factors(f: RateFactors) {
+    match f {
+        RateFactors::AsGiven => {}
+        RateFactors::PerDegree { decay, aeration } => {
+            io::write_all(1, b"factors ");
+            number(decay as u64);
+            io::print_decimal(1, aeration as u64);
+            end();
+        }
+    }
+}
+
 // The first cards of a river.
 fn cards(river: Cards) {
     let at = river.at;
@@ -132,8 +146,8 @@ fn buffer(out: &[u8]) {
 }
 
 // What writing a river answers and leaves in a buffer.
-fn written(river: Cards, out: &mut [u8]) {
-    match write_cards(river, out) {
+fn written(factors: RateFactors, river: Cards, out: &mut [u8]) {
+    match write_cards(factors, river, out) {
         Written::Length(n) => count(b"wrote ", n),
         Written::Refused(r) => refusal(r),
     }
@@ -159,6 +173,8 @@ pub fn show(file: &[u8]) {
         Outcome::Accepted => {
             let river = reading.cards;
             count(b"read ", river.count as usize);
+            let f = reading.factors;
+            rate_factors(f);
             cards(river);
             let mut out = [7u8; 100];
             rewritten(file, &mut out);
@@ -169,14 +185,19 @@ pub fn show(file: &[u8]) {
 // Writing of a river of one reach.
 pub fn wrote(c: Card, out: &mut [u8]) {
     let at = [c; REACHES];
-    written(Cards { at, count: 1 }, out);
+    written(RateFactors::AsGiven, Cards { at, count: 1 }, out);
+}
+
+// Writing of a river of two reaches with these rate factors.
+pub fn wrote_with(factors: RateFactors, c: Card, d: Card, out: &mut [u8]) {
+    let mut at = [d; REACHES];
+    at[0] = c;
+    written(factors, Cards { at, count: 2 }, out);
 }
 
 // Writing of a river of two reaches.
 pub fn wrote_two(c: Card, d: Card, out: &mut [u8]) {
-    let mut at = [d; REACHES];
-    at[0] = c;
-    written(Cards { at, count: 2 }, out);
+    wrote_with(RateFactors::AsGiven, c, d, out);
 }
 
 // The card of reach i of n in a chain.
@@ -210,16 +231,21 @@ fn reread(out: &[u8], l: usize) {
     }
 }
 
-// Writing of a chain of n reaches, and what the file is read as.
-pub fn many(n: u8) {
+// Writing of a chain of n reaches with these rate factors, and what the file is read as.
+pub fn many_with(factors: RateFactors, n: u8) {
     let mut out = [0u8; LONGEST_FILE];
-    match write_cards(chain(n), &mut out) {
+    match write_cards(factors, chain(n), &mut out) {
         Written::Refused(r) => refusal(r),
         Written::Length(l) => {
             count(b"wrote ", l);
             reread(&out, l);
         }
     }
+}
+
+// The same without rate factors.
+pub fn many(n: u8) {
+    many_with(RateFactors::AsGiven, n);
 }
 
 // The length of the longest file.

@@ -1,13 +1,16 @@
 // Vectors of the test program, made by tests/file_vectors.py from the reference program.
 use crate::shown::longest;
 use crate::shown::many;
+use crate::shown::many_with;
 use crate::shown::show;
 use crate::shown::wrote;
 use crate::shown::wrote_two;
+use crate::shown::wrote_with;
 use river::card::Amount;
 use river::card::Card;
 use river::card::Dam;
 use river::card::Nitrification;
+use river::card::RateFactors;
 
 // The plain card with this outlet, dam, take, pressure, sludge bed and nitrification.
 fn plain_in(
@@ -72,6 +75,11 @@ fn most(take: Amount) -> Card {
         sludge: Amount::Without,
         nitrification: Nitrification::Idle,
     }
+}
+
+// These rate factors.
+fn per_degree(decay: u16, aeration: u16) -> RateFactors {
+    RateFactors::PerDegree { decay, aeration }
 }
 
 fn headers1() {
@@ -461,6 +469,53 @@ fn ammonias5() {
     );
 }
 
+fn factors1() {
+    show(b"RV\x00\x01T");
+    show(b"RV\x00\x01TH");
+    show(b"RV\x00\x01TH\x04\x17\x04");
+    show(b"RV\x00\x01TH\x04\x17\x04\x00");
+    show(
+        b"RV\x00\x01TH\x03\xe7\x03\xe8RE\x00\x14\x01\x2c\x01\x90\x00\x00\x03\xe8\x00\x00\x0b\xb8\x00\x00\x07\xd0\x1f\x40\x00\x01\x11p",
+    );
+    show(
+        b"RV\x00\x01TH\x04M\x03\xe8RE\x00\x14\x01\x2c\x01\x90\x00\x00\x03\xe8\x00\x00\x0b\xb8\x00\x00\x07\xd0\x1f\x40\x00\x01\x11p",
+    );
+}
+
+fn factors2() {
+    show(
+        b"RV\x00\x01TH\x03\xe8\x03\xe7RE\x00\x14\x01\x2c\x01\x90\x00\x00\x03\xe8\x00\x00\x0b\xb8\x00\x00\x07\xd0\x1f\x40\x00\x01\x11p",
+    );
+    show(
+        b"RV\x00\x01TH\x03\xe8\x04MRE\x00\x14\x01\x2c\x01\x90\x00\x00\x03\xe8\x00\x00\x0b\xb8\x00\x00\x07\xd0\x1f\x40\x00\x01\x11p",
+    );
+    show(b"RV\x00\x81TH\x00\x00\x00\x00");
+    show(
+        b"RV\x00\x01TH\x03\xe7\x03\xe8RE\x01\x14\x01\x2c\x01\x90\x00\x00\x03\xe8\x00\x00\x0b\xb8\x00\x00\x07\xd0\x1f\x40\x00\x01\x11p",
+    );
+    show(
+        b"RV\x00\x01TH\x04\x17\x04\x00RE\x01\x14\x01\x2c\x01\x90\x00\x00\x03\xe8\x00\x00\x0b\xb8\x00\x00\x07\xd0\x1f\x40\x00\x01\x11p",
+    );
+    show(
+        b"RV\x00\x01TH\x04\x17\x04\x00TH\x04\x17\x04\x00RE\x00\x14\x01\x2c\x01\x90\x00\x00\x03\xe8\x00\x00\x0b\xb8\x00\x00\x07\xd0\x1f\x40\x00\x01\x11p",
+    );
+}
+
+fn factors3() {
+    show(
+        b"RV\x00\x01TH\x04\x17\x04\x00DM\x01\xf4\x00\x00\x03\xe8RE\x00\x14\x01\x2c\x01\x90\x00\x00\x03\xe8\x00\x00\x0b\xb8\x00\x00\x07\xd0\x1f\x40\x00\x01\x11p",
+    );
+    show(
+        b"RV\x00\x02RE\x02\x14\x01\x2c\x01\x90\x00\x00\x03\xe8\x00\x00\x0b\xb8\x00\x00\x07\xd0\x1f\x40\x00\x01\x11pTH\x04\x17\x04\x00RE\x00\x14\x01\x2c\x01\x90\x00\x00\x03\xe8\x00\x00\x0b\xb8\x00\x00\x07\xd0\x1f\x40\x00\x01\x11p",
+    );
+    show(
+        b"RV\x00\x01RE\x00\x14\x01\x2c\x01\x90\x00\x00\x03\xe8\x00\x00\x0b\xb8\x00\x00\x07\xd0\x1f\x40\x00\x01\x11pTH\x04\x17\x04\x00",
+    );
+    show(
+        b"TH\x04\x17\x04\x00RV\x00\x01RE\x00\x14\x01\x2c\x01\x90\x00\x00\x03\xe8\x00\x00\x0b\xb8\x00\x00\x07\xd0\x1f\x40\x00\x01\x11p",
+    );
+}
+
 fn trailing1() {
     show(
         b"RV\x00\x01RE\x00\x14\x01\x2c\x01\x90\x00\x00\x03\xe8\x00\x00\x0b\xb8\x00\x00\x07\xd0\x1f\x40\x00\x01\x11pD",
@@ -590,6 +645,18 @@ fn lawful5() {
     );
     show(
         b"RV\x00\x02RE\x02\x14\x01\x2c\x01\x90\x00\x00\x03\xe8\x00\x00\x0b\xb8\x00\x00\x07\xd0\x1f\x40\x00\x01\x11pRE\x00\x23N\x20N\x20\x3b\x9a\xca\x00\x05\xf5\xe1\x00\x00\x0fB\x40N\x20\xff\xff\xff\xffDM\x03\xe8\x05\xf5\xe1\x00WD\x00\x00\x00\x01BP\x01\xf4SD\x01\x00NT\x01\x01\x00\x01\x02\x03\x04\x03\x02\x01\x00\x00\x00\x00",
+    );
+}
+
+fn lawful6() {
+    show(
+        b"RV\x00\x01TH\x03\xe8\x03\xe8RE\x00\x14\x01\x2c\x01\x90\x00\x00\x03\xe8\x00\x00\x0b\xb8\x00\x00\x07\xd0\x1f\x40\x00\x01\x11p",
+    );
+    show(
+        b"RV\x00\x01TH\x04L\x04LRE\x00\x14\x01\x2c\x01\x90\x00\x00\x03\xe8\x00\x00\x0b\xb8\x00\x00\x07\xd0\x1f\x40\x00\x01\x11p",
+    );
+    show(
+        b"RV\x00\x02TH\x04\x17\x04\x00RE\x02\x14\x01\x2c\x01\x90\x00\x00\x03\xe8\x00\x00\x0b\xb8\x00\x00\x07\xd0\x1f\x40\x00\x01\x11pDM\x00\x07\x00\x00\x00\x08RE\x00\x14\x01\x2c\x01\x90\x00\x00\x03\xe8\x00\x00\x0b\xb8\x00\x00\x07\xd0\x1f\x40\x00\x01\x11pNT\x01\x2c\x00\x00\x0f\xa0\x00\x00\x00\x05\x00\x00\x00\x00",
     );
 }
 
@@ -999,6 +1066,59 @@ fn rivers13() {
     wrote_two(c, d, &mut out);
 }
 
+fn factored1() {
+    let c = plain(2, Dam::Absent, Amount::Without);
+    let d = plain(0, Dam::Absent, Amount::Without);
+    let mut out = [7u8; 63];
+    wrote_with(per_degree(1000, 1100), c, d, &mut out);
+    let c = plain(2, Dam::Absent, Amount::Without);
+    let d = plain(0, Dam::Absent, Amount::Without);
+    let mut out = [7u8; 61];
+    wrote_with(per_degree(1047, 1024), c, d, &mut out);
+    let c = plain(2, Dam::Absent, Amount::Without);
+    let d = plain(0, Dam::Absent, Amount::Without);
+    let mut out = [7u8; 10];
+    wrote_with(per_degree(1000, 1101), c, d, &mut out);
+    let mut c = plain(2, Dam::Absent, Amount::Without);
+    c.k1 = 20001;
+    let d = plain(0, Dam::Absent, Amount::Without);
+    let mut out = [7u8; 70];
+    wrote_with(per_degree(999, 1000), c, d, &mut out);
+}
+
+fn factored2() {
+    let mut c = plain(2, Dam::Absent, Amount::Without);
+    c.k1 = 20001;
+    let d = plain(0, Dam::Absent, Amount::Without);
+    let mut out = [7u8; 70];
+    wrote_with(per_degree(1047, 1024), c, d, &mut out);
+    let mut c = plain(2, Dam::Absent, Amount::Without);
+    c.k1 = 65836;
+    let d = plain(0, Dam::Absent, Amount::Without);
+    let mut out = [7u8; 70];
+    wrote_with(per_degree(1047, 1024), c, d, &mut out);
+    let c = plain(2, Dam::Absent, Amount::Without);
+    let mut d = plain(0, Dam::Absent, Amount::Without);
+    d.k2 = 65836;
+    let mut out = [7u8; 70];
+    wrote_with(per_degree(1047, 1024), c, d, &mut out);
+    let c = plain(2, Dam::Absent, Amount::Without);
+    let d = plain_in(
+        0,
+        Dam::Absent,
+        Amount::Without,
+        Amount::Without,
+        Amount::Without,
+        Nitrification::Nitrifying {
+            rate: 65836,
+            concentration: 0,
+            load: 0,
+        },
+    );
+    let mut out = [7u8; 90];
+    wrote_with(per_degree(1047, 1024), c, d, &mut out);
+}
+
 fn counts1() {
     many(0);
     many(1);
@@ -1006,6 +1126,8 @@ fn counts1() {
     many(127);
     many(128);
     many(129);
+    many_with(per_degree(1047, 1024), 128);
+    many_with(per_degree(999, 1000), 129);
     longest();
 }
 
@@ -1032,6 +1154,9 @@ pub fn all() {
     ammonias3();
     ammonias4();
     ammonias5();
+    factors1();
+    factors2();
+    factors3();
     trailing1();
     trailing2();
     lawful1();
@@ -1039,6 +1164,7 @@ pub fn all() {
     lawful3();
     lawful4();
     lawful5();
+    lawful6();
     rivers1();
     rivers2();
     rivers3();
@@ -1052,5 +1178,7 @@ pub fn all() {
     rivers11();
     rivers12();
     rivers13();
+    factored1();
+    factored2();
     counts1();
 }

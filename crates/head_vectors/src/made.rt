@@ -9,6 +9,7 @@ use river::card::HEADER_BYTES;
 use river::card::Nitrification;
 use river::card::REACH_BYTES;
 use river::card::REACHES;
+use river::card::RateFactors;
 use river::card::blank;
 use river::write::Written;
 use river::writer::write_cards;
@@ -67,7 +68,7 @@ fn river(star: bool) -> Cards {
 // Prints what the file of a river yields.
 fn show_river(river: Cards, first: u32, step: u32) {
     let mut file = [0u8; MANY];
-    match write_cards(river, &mut file) {
+    match write_cards(RateFactors::AsGiven, river, &mut file) {
         Written::Length(_) => show(&file, first, step),
         Written::Refused(_) => {}
     }

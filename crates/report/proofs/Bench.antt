@@ -1,4 +1,4 @@
--- The bench values of the river file paper that are to be proved, gathered as rows of one theorem: those of flows and heads, the two lines of
+-- The bench values of the river file paper that are to be proved, gathered as rows of one theorem: those of files, rates, flows and heads, the two lines of
 -- the printing program's example, the second of them below a dam, also at 700 mm, both with takes, and both with nitrogenous BOD.
 use mathlib.Core.Path.{_≡_, refl, sym, _∙_, ap}
 use mathlib.Core.Bool.{true, false}
@@ -64,10 +64,6 @@ second-keeps : (dam : Dam) (take pressure : Amount) (d : Demand) → rateOf d (s
 second-keeps dam take pressure Bod = refl
 second-keeps dam take pressure Nitrogenous = refl
 
--- and so their rates are in range
-slow : (card : Card) → ((d : Demand) → rateOf d card * 1000 ≡ 0) → (d : Demand) → rateOf d card ≤ 20_000
-slow card h d = omega (arith, h d)
-
 accepted-first : (take : Amount) (nitrification : Nitrification) → Still nitrification → amountOr 0 take < 3000 → AcceptedReach (upper take nitrification) none
 unfolding flowOf massOf DamRule
 accepted-first take nitrification still h =
@@ -75,7 +71,6 @@ accepted-first take nitrification still h =
       fields = omega arith;
       saturation = omega arith;
       dam = tt;
-      rates = slow (upper take nitrification) (upper-keeps take nitrification still);
       sludge = omega arith;
       flows =
           record {
@@ -84,6 +79,7 @@ accepted-first take nitrification still h =
             dam-rule = tt;
             mass-rule = omega (arith, still .few);
             take-rule = h;
+            range-rule = omega (arith, upper-keeps take nitrification still Nitrogenous);
             decay-rule = omega arith;
             aeration-rule = omega arith;
             nitrification-rule = omega (arith, upper-keeps take nitrification still Nitrogenous);
@@ -97,7 +93,6 @@ accepted-second dam take pressure conditions h k few within drawn-few some =
       fields = omega arith;
       saturation = conditions;
       dam = h;
-      rates = slow (second dam take pressure) (second-keeps dam take pressure);
       sludge = omega arith;
       flows =
           record {
@@ -106,6 +101,7 @@ accepted-second dam take pressure conditions h k few within drawn-few some =
             dam-rule = k;
             mass-rule = omega arith;
             take-rule = omega arith;
+            range-rule = omega arith;
             decay-rule = omega arith;
             aeration-rule = omega arith;
             nitrification-rule = omega arith;
@@ -234,7 +230,7 @@ below-weir pressure e =
     ap (λ (sum : ℤ). belowDam (second weir Without pressure) true 3000 (upstreamOxygen true 3000 sum)) (foot-1 Without Idle idle (omega arith) .oxygen-is) ∙ e
 
 -- the two reaches with a nitrification at the first
-abbrev laden : Nitrification → List Card
+abbrev pub laden : Nitrification → List Card
 laden nitrification = upper Without nitrification ∷ second Absent Without Without ∷ []
 
 -- the `RP` record of a record with an `RN` record is the record without

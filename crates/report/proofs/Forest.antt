@@ -14,7 +14,7 @@ use Rattle.river.specs.declared.source.Demand.{Demand}
 use Rattle.river.specs.declared.source.Demand.the-variants.{Bod, Nitrogenous}
 use Rattle.river.specs.Source.{rateOf}
 use Rattle.river.specs.Saturation.{SaturationInRange}
-use Rattle.river.proofs.range.Ranges.{lawful-at}
+use Rattle.river.proofs.range.Ranges.{asked-at}
 use Rattle.river.proofs.source.Ranges.{rate-small}
 use Rattle.river.proofs.head.Bounds.{conditions-in-range}
 use Rattle.river.proofs.flow.Table.{deepest-few}
@@ -27,7 +27,6 @@ pub record AcceptedReach (card : Card) (up : Feeders) : Type 0 where
   pub fields : FieldsInRange card
   pub saturation : SaturationInRange card
   pub dam : LawfulDam (card .dam)
-  pub rates : (d : Demand) → rateOf d card ≤ 20_000
   pub sludge : sludgeOf card ≤ 65_535
   pub flows : ReachPasses card up
 
@@ -40,8 +39,8 @@ demand-rule p Nitrogenous = p .nitrification-rule
 pub rates-pass : {card : Card} {up : Feeders} → AcceptedReach card up → (d : Demand) → RatesPass (rateOf d card) (card .k2) (card .volume) (reachFlow card up)
 rates-pass a d =
     record {
-      k1-range = a .rates d;
-      k2-range = a .fields .k2;
+      k1-range = rate-small (a .flows .range-rule) d;
+      k2-range = a .flows .range-rule .k2;
       volume-range = a .fields .volume;
       flow-above = flow-remains (a .flows);
       flow-below = flow-within (a .flows);
@@ -73,12 +72,11 @@ module _ (cards : List Card) (lawful : Lawful cards) (flows : Flows cards) where
   -- every reach of a river is accepted
   pub reach-accepted : (n : ℕ) → n < length cards → AcceptedReach (getD cards n blank) (feedersAmong cards n (suc n))
   reach-accepted n l =
-      let own = lawful-at lawful n l in
+      let own = asked-at lawful n l .regular in
       record {
         fields = own .in-range;
         saturation = conditions-in-range own;
         dam = own .dam;
-        rates = rate-small own;
         sludge = demand-small (getD cards n blank .sludge) (own .sludge);
         flows = flows .each n l;
       }

@@ -1,17 +1,21 @@
 -- A record depends only on its reach and the reaches above it: reaches with the same card and the same forest above them have the same figures,
--- whatever their numbers. Rivers that agree on a reach and on all above it have the same forest there.
+-- whatever their numbers. Rivers that agree on a reach and on all above it have the same forest there, and with the same rate factors also by the
+-- rates in force.
 use mathlib.Core.Path.{_≡_, refl, sym, ap, ap₂, _∙_, subst}
 use mathlib.Core.Bool.{Bool, true, false, _||_}
-use mathlib.Core.List.{List, [], _∷_}
-use Prim.Native.Nat.{ℕ, zero, suc, _+_, _-_, _*_, max}
-use native.Mathlib.Nat.{add-left-comm}
+use mathlib.Core.List.{List, [], _∷_, map}
+use Prim.Native.Nat.{ℕ, zero, suc, _+_, _-_, _*_, _<_, _≤_, max}
+use native.Mathlib.Nat.{le-of-lt, add-left-comm}
 use native.Mathlib.Omega.{arith}
-use lib.ListN.{getD}
+use lib.ListN.{length, getD}
 use lib.Dec.{T, eqb, eqb→eq}
 use lib.IntN.{ℤ, pos, _+ℤ_, _*ℤ_, +ℤ-assoc, +ℤ-comm}
 use Rattle.river.specs.declared.card.Card.{Card}
+use Rattle.river.specs.declared.card.RateFactors.{RateFactors}
 use Rattle.river.specs.Card.{blank}
-use Rattle.river.specs.Flow.{Feeders, joinedIf, feedersAmong, fed, takeOf, flowOf, ownMass, remainingMass, massOf, deepest}
+use Rattle.river.specs.Rates.{cardInForce}
+use Rattle.river.proofs.rates.InForce.{card-in-force}
+use Rattle.river.specs.Flow.{Feeders, none, more, joinedIf, feedersAmong, fed, takeOf, flowOf, ownMass, remainingMass, massOf, deepest}
 use Rattle.river.specs.declared.source.Demand.the-variants.{Bod, Nitrogenous}
 use Rattle.river.specs.Source.{sourceOf}
 use Rattle.river.specs.Saturation.{saturationOf}
@@ -183,3 +187,45 @@ module _ (here there : List Card) where
   -- and so the same reach
   pub agreed-reach : (i : ℕ) → Agree here there i → SameReach here i there i
   agreed-reach i a = record { card = same-but-outlet (a .own); forest = same-feeders i i a }
+
+-- ---- rates in force
+
+module _ (φ : RateFactors) where
+  -- the same but for the outlet, also by the rates in force
+  alike-in-force : {c d : Card} → SameButOutlet c d → SameButOutlet (cardInForce φ c) (cardInForce φ d)
+  unfolding withOutlet
+  alike-in-force same = record { rest = ap (cardInForce φ) (same .rest) }
+
+  -- a forest with the rates in force
+  forestInForce : Feeders → Feeders
+  forestInForce none = none
+  forestInForce (more card up others) = more (cardInForce φ card) (forestInForce up) (forestInForce others)
+
+  forest-in-force : {f g : Feeders} → SameForest f g → SameForest (forestInForce f) (forestInForce g)
+  unfolding forestInForce
+  forest-in-force bare = bare
+  forest-in-force (alike card forest others) = alike (alike-in-force card) (forest-in-force forest) (forest-in-force others)
+  forest-in-force exchanged = exchanged
+  forest-in-force (chained p q) = chained (forest-in-force p) (forest-in-force q)
+
+  joined-in-force : (t : Bool) (card : Card) (up others : Feeders) → joinedIf t (cardInForce φ card) (forestInForce up) (forestInForce others) ≡ forestInForce (joinedIf t card up others)
+  unfolding joinedIf forestInForce
+  joined-in-force true card up others = refl
+  joined-in-force false card up others = refl
+
+  -- the feeders of the cards with the rates in force are the feeders, with the rates in force
+  feeders-in-force : (cs : List Card) (n i : ℕ) → n ≤ length cs → feedersAmong (map (cardInForce φ) cs) n i ≡ forestInForce (feedersAmong cs n i)
+  unfolding feedersAmong forestInForce
+  feeders-in-force cs zero i l = refl
+  feeders-in-force cs (suc n) i l =
+      rw (card-in-force φ cs n l, feeders-in-force cs n (suc n) (le-of-lt l), feeders-in-force cs n i (le-of-lt l))
+      (joined-in-force (eqb ((getD cs n blank) .outlet) i) (getD cs n blank) (feedersAmong cs n (suc n)) (feedersAmong cs n i))
+
+  -- reaches that are the same on the cards as given are the same by the rates in force
+  pub reach-in-force : {here there : List Card} {i j : ℕ} → i < length here → j < length there → SameReach here i there j
+      → SameReach (map (cardInForce φ) here) i (map (cardInForce φ) there) j
+  reach-in-force {here} {there} {i} {j} l k same =
+      record {
+        card = rw (card-in-force φ here i l, card-in-force φ there j k) (alike-in-force (same .card));
+        forest = rw (feeders-in-force here i (suc i) (le-of-lt l), feeders-in-force there j (suc j) (le-of-lt k)) (forest-in-force (same .forest));
+      }

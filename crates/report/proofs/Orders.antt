@@ -3,9 +3,11 @@
 use mathlib.Core.Path.{_≡_, refl}
 use mathlib.Core.List.{[], _∷_}
 use Rattle.river.specs.Refusal.{refused, refuse, need, choose, after}
+use Rattle.river.specs.declared.card.RateFactors.the-variants.{AsGiven}
 use Rattle.river.specs.Card.{blank, countOk, inRange, outletOk}
+use Rattle.river.specs.River.{riverOf}
 use Rattle.river.specs.Optional.{readOptional, readOptionals}
-use Rattle.river.specs.Read.{readHeader, readReach, readReaches, readFile, cardAt}
+use Rattle.river.specs.Read.{readHeader, readReach, readReaches, readRest, readFile, cardAt}
 use Rattle.river.specs.Write.{encode}
 use Rattle.river.specs.Flow.{flowOf, massOf, feedersAmong, joinedIf, flowCheck, checksFrom, reachChecks}
 use Rattle.river.specs.Accept.{acceptFile}
@@ -15,9 +17,9 @@ pub record Reporting : Type 0 where
   -- an empty file
   pub file-and-room : reportAnswer [] 0 ≡ refused (refuse 1 0)
   -- a reach without water
-  pub flow-and-room : reportAnswer (encode (blank ∷ [])) 0 ≡ refused (refuse 7 1)
+  pub flow-and-room : reportAnswer (encode (riverOf AsGiven (blank ∷ []))) 0 ≡ refused (refuse 7 1)
 
 -- THEOREM: who breaks a rule of reading or of the flow check gets its number, not 12
 pub reporting-order : Reporting
-unfolding reportAnswer acceptFile readFile readHeader readReaches readReach readOptionals readOptional cardAt encode countOk inRange outletOk need after choose flowCheck checksFrom reachChecks flowOf massOf feedersAmong joinedIf
+unfolding reportAnswer acceptFile readFile readRest readHeader readReaches readReach readOptionals readOptional cardAt encode countOk inRange outletOk need after choose flowCheck checksFrom reachChecks flowOf massOf feedersAmong joinedIf
 reporting-order = record { file-and-room = refl; flow-and-room = refl }

@@ -10,10 +10,13 @@ use Rattle.river.specs.declared.card.Card.{Card}
 use Rattle.river.specs.declared.card.Dam.the-variants.{Absent}
 use Rattle.river.specs.declared.card.Nitrification.the-variants.{Idle}
 use Rattle.river.specs.declared.card.Amount.the-variants.{Without}
+use Rattle.river.specs.declared.card.RateFactors.the-variants.{AsGiven}
 use Rattle.river.specs.Refusal.{accepted, need, after, choose}
-use Rattle.river.specs.Card.{countOk, inRange, outletOk}
+use Rattle.river.specs.Card.{countOk, inRange, outletOk, ratesInRange}
+use Rattle.river.specs.River.{riverOf}
+use Rattle.river.specs.Rates.{decayInForce, aerationInForce}
 use Rattle.river.specs.Optional.{readOptional, readOptionals}
-use Rattle.river.specs.Read.{readFile, readHeader, readReaches, readReach, cardAt}
+use Rattle.river.specs.Read.{readFile, readRest, readHeader, readReaches, readReach, cardAt}
 use Rattle.river.specs.Write.{encode}
 use Rattle.river.specs.Flow.{cardOf, above, feedersAmong, joinedIf, fed, flowOf, massOf, deepest, damFits, flowCheck, checksFrom, reachChecks}
 use Rattle.river.specs.Accept.{acceptFile}
@@ -47,8 +50,8 @@ reach outlet inflow =
 abbrev pub two : List Card
 two = reach 2 10000 ∷ reach 0 0 ∷ []
 
-accepted-two : acceptFile (encode two) ≡ accepted two
-unfolding acceptFile encode readFile readHeader readReaches readReach readOptionals readOptional cardAt countOk inRange outletOk need after choose flowCheck checksFrom reachChecks damFits feedersAmong joinedIf fed flowOf massOf
+accepted-two : acceptFile (encode (riverOf AsGiven two)) ≡ accepted two
+unfolding decayInForce aerationInForce ratesInRange acceptFile encode readFile readRest readHeader readReaches readReach readOptionals readOptional cardAt countOk inRange outletOk need after choose flowCheck checksFrom reachChecks damFits feedersAmong joinedIf fed flowOf massOf
 accepted-two = refl
 
 abbrev allowed : ℕ → Fraction

@@ -1,6 +1,6 @@
 -- What holds of each reach of a river that reading and the flow check accept: ranges, ties and demand 3.
 -- Place i holds reach number i + 1.
-use mathlib.Core.Path.{_≡_, refl, subst}
+use mathlib.Core.Path.{_≡_, refl, sym, subst, _∙_}
 use mathlib.Core.Logic.{_⊎_, inl, inr}
 use mathlib.Core.List.{List}
 use Prim.Native.Nat.{ℕ, suc, _*_, _≤_, _<_, zero-le}
@@ -15,8 +15,13 @@ use Rattle.river.specs.Refusal.{accepted}
 use Rattle.river.specs.declared.source.Demand.{Demand}
 use Rattle.river.specs.declared.source.Demand.the-variants.{Bod, Nitrogenous}
 use Rattle.river.specs.Source.{rateOf}
-use Rattle.river.specs.Flow.{cardOf, above, sludgeOf, Flows}
-use Rattle.river.proofs.Acceptance.{accepts-exactly}
+use Rattle.river.specs.River.{River}
+use Rattle.river.specs.Rates.{inForce}
+use Rattle.river.specs.Read.{readFile}
+use Rattle.river.specs.Flow.{cardOf, above, sludgeOf, Flows, flowCheck}
+use Rattle.river.proofs.Answers.{after-accepted}
+use Rattle.river.proofs.flow.FlowCheck.{flows-of-accepted, accepted-of-flows}
+use Rattle.river.proofs.Acceptance.{accepts-exactly, accepted-lawful}
 use Rattle.report.specs.Program.{oxygenAtHead, demandAt, oxygenAt, figuresAt, figuresOf, lowest, foot}
 use Rattle.report.specs.Distance.{allowanceAt, WithinAllowance}
 use Rattle.report.specs.Ties.{NoDecay, NoChange, headFigure, footFigure, Tied}
@@ -35,7 +40,15 @@ pub record IsRiver (cards : List Card) : Type 0 where
 pub river-of-file : (file : List ℕ) {cards : List Card} → AreBytes file → acceptFile file ≡ accepted cards → IsRiver cards
 river-of-file file {cards} bytes e =
     let a = accepts-exactly file cards bytes .0 e in
-    record { lawful = a .lawful; flows = a .flows }
+    record { lawful = accepted-lawful a; flows = a .flows }
+
+-- its cards are those of the river that is read, with the rates in force
+pub cards-of-file : (file : List ℕ) {cards : List Card} {r : River} → acceptFile file ≡ accepted cards → readFile file ≡ accepted r → cards ≡ inForce r
+unfolding acceptFile
+cards-of-file file {cards} {r} e read =
+    let checked : flowCheck (inForce r) ≡ accepted cards = sym (after-accepted _ _ read) ∙ e in
+    let all = accepted-of-flows (flows-of-accepted checked) in
+    cc
 
 -- a rate of 0, or volume 0, makes the exponent 0
 no-rate : {k volume : ℕ} → (k ≡ 0) ⊎ (volume ≡ 0) → k * volume ≡ 0

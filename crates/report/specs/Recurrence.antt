@@ -1,5 +1,6 @@
 -- The exact recurrence of the river file paper at the series length N: the steps of a head and the formulas along a reach, with
--- nothing rounded, saturation included. A feeder's foot is the feeder's exact foot. Concentrations are in units.
+-- nothing rounded, saturation included. The rates of a card are those in force, rounded as specs/Rates of river has them. A feeder's foot is the
+-- feeder's exact foot. Concentrations are in units.
 use mathlib.Core.Bool.{Bool, true, false, cond}
 use Prim.Native.Nat.{ℕ, _+_, _*_, _-_}
 use lib.Dec.{eqb}

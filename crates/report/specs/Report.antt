@@ -1,4 +1,5 @@
--- "Reporting" of the river file paper: what a call of the entry returns and leaves in the report buffer, and the size of a file's records.
+-- "Reporting" of the river file paper: what a call of the entry returns and leaves in the report buffer, and the size of a file's records. The cards
+-- of an accepted file are those with the rates in force.
 use mathlib.Core.Path.{_≡_}
 use mathlib.Core.Logic.{_↔_}
 use mathlib.Core.List.{List, [], _++_}
@@ -8,6 +9,7 @@ use lib.ListN.{length, take, drop}
 use Rattle.river.specs.declared.card.Card.{Card}
 use Rattle.river.specs.Refusal.{Answer, accepted, refused, refuse, need, after, codeOf}
 use Rattle.river.specs.declared.refusal.Refusal.{Refusal}
+use Rattle.river.specs.River.{River}
 use Rattle.river.specs.Read.{readFile}
 use Rattle.river.specs.Flow.{cardOf, above, depthAt, flowAt}
 use Rattle.report.specs.Program.{oxygenAt, figuresAt}
@@ -70,7 +72,7 @@ pub record Reports (file before after : List ℕ) (result : ℕ) : Type 0 where
   pub answer : result ≡ resultOf (reportAnswer file (length before))
   -- any other than 0 has the number and the reach of the refusal
   pub refuses : (result ≡ 0 → ⊥) → reportAnswer file (length before) ≡ refused (refuse (result % 256) (result / 256))
-  -- a file is accepted exactly if it is the file of lawful cards that pass the flow rules
+  -- a file is accepted exactly if it is the file of a lawful river whose cards, with the rates in force, pass the flow rules
   pub lawful : (cards : List Card) → (acceptFile file ≡ accepted cards) ↔ AcceptedFile file cards
   -- the result is 0 exactly for an accepted river whose report the buffer can hold
   pub accepts : result ≡ 0 → Accepted file (length before)
@@ -108,8 +110,8 @@ pub record Reports (file before after : List ℕ) (result : ℕ) : Type 0 where
       (allowanceAt (river .cards) (suc i))
 
 -- the size of a file's records, by the answer of reading: 0 where it refuses
-unfoldable pub sizeAnswer : Answer (List Card) → ℕ
-sizeAnswer (accepted cards) = recordSize cards
+unfoldable pub sizeAnswer : Answer River → ℕ
+sizeAnswer (accepted river) = recordSize (river .cards)
 sizeAnswer (refused r) = 0
 
 -- reading refuses a file
@@ -122,5 +124,5 @@ pub record TellsSize (file : List ℕ) (result : ℕ) : Type 0 where
   -- the result, by the answer of reading
   pub answer : result ≡ sizeAnswer (readFile file)
   -- in short: that of the river's records where the file is read, and 0 exactly where it is not
-  pub size : (cards : List Card) → readFile file ≡ accepted cards → result ≡ recordSize cards
+  pub size : (river : River) → readFile file ≡ accepted river → result ≡ recordSize (river .cards)
   pub zero : (result ≡ 0) ↔ ReadingRefuses file

@@ -14,7 +14,7 @@ pub record Rewrites (file before after : List ℕ) (result : ℕ) : Type 0 where
   pub answer : result ≡ resultOf (rewriteAnswer file (length before))
   -- any other than 0 has the number and the reach of the refusal
   pub refuses : (result ≡ 0 → ⊥) → rewriteAnswer file (length before) ≡ refused (refuse (result % 256) (result / 256))
-  -- it is 0 exactly where the file is that of lawful cards and the buffer can hold it
+  -- it is 0 exactly where the file is that of a lawful river and the buffer can hold it
   pub exactly : (result ≡ 0) ↔ Rewritable file (length before)
   -- the whole buffer: the file's bytes and then what stood there, or untouched by a refusal
   pub written : result ≡ 0 → after ≡ file ++ drop (length file) before

@@ -1,4 +1,5 @@
 -- The ties of "Along a reach", and its critical point, on the figures of a record. `oxygen` gives the program's own oxygen at each instant.
+-- The rates of a card are those in force.
 use mathlib.Core.Path.{_≡_}
 use mathlib.Core.Logic.{_⊎_}
 use Prim.Native.Nat.{ℕ, _≤_, _<_}

@@ -38,13 +38,11 @@ pub extern "C" fn xylandreo_report(file: &[u8], report: &mut [u8]) -> u32
     match outcome {
         Outcome::Refused(r) => refusal::code(r),
         Outcome::Accepted => {
-            let cards = river.cards;
-            let size = record::report_size(cards);
+            let size = record::report_size(river.cards);
             if report.len() < size {
                 return refusal::code(refusal::refuse(12, 0));
             }
-            let flows = river.flows;
-            lines::report_all(cards, flows, report);
+            lines::report_all(river.cards, river.flows, report);
             0
         }
     }

@@ -1,6 +1,7 @@
--- Acceptance: a file is accepted by reading and flow check exactly when it is the encoding of lawful cards that pass the flow rules;
+-- Acceptance: a file is accepted by reading and flow check exactly when it is the encoding of a lawful river whose cards pass the flow rules with
+-- the rates in force;
 -- and by the rule on outlets the feeders of the definitions are all the reaches whose outlet a reach is.
-use mathlib.Core.Path.{_≡_, sym, ap, _∙_}
+use mathlib.Core.Path.{_≡_, sym, ap, subst, _∙_}
 use mathlib.Core.Logic.{⊎-elim, _↔_}
 use mathlib.Core.List.{List}
 use Prim.Native.Nat.{ℕ, zero, suc, _<_, _≤_}
@@ -16,49 +17,57 @@ use Rattle.river.specs.declared.flow.FlowTable.{FlowTable}
 use Rattle.river.specs.declared.flow.Checked.{Checked}
 use Rattle.river.specs.declared.accept.Acceptance.{Acceptance}
 use Rattle.river.specs.Bytes.{AreBytes}
-use Rattle.river.specs.Card.{Lawful, river, blank}
+use Rattle.river.specs.declared.card.Cards.{Cards}
+use Rattle.river.specs.Card.{Lawful, Regular, river, blank}
 use Rattle.river.specs.Refusal.{accepted, refused, outcomeOf}
 use Rattle.river.specs.Read.{readFile}
-use Rattle.river.specs.Write.{encode}
-use Rattle.river.specs.Flow.{above, feedersAmong, joinedIf, flowCheck}
+use Rattle.river.specs.River.{LawfulRiver}
+use Rattle.river.specs.Rates.{inForce}
+use Rattle.river.specs.Flow.{above, feedersAmong, joinedIf, Flows, flowCheck}
 use Rattle.river.specs.Accept.{Accepts, AcceptedFile, acceptFile}
 use Rattle.river.proofs.Answers.{no-refusal, after-accepted, after-refused, went}
 use Rattle.river.proofs.Files.{reads-lawful, reads-only-lawful}
-use Rattle.river.proofs.range.Ranges.{lawful-at, last-outlet, later-outlet}
+use Rattle.river.proofs.range.Ranges.{asked-at, last-outlet, later-outlet}
+use Rattle.river.proofs.rates.InForce.{regular-in-force, regular-of-lawful, lawful-of-flows}
 use Rattle.river.proofs.flow.Checks.{first-tabled}
 use Rattle.river.proofs.flow.FlowCheck.{flows-of-accepted, accepted-of-flows}
 use Rattle.river.specs.FlowTable.{Underway, FlowChecked}
-use Rattle.river.specs.File.{Reads}
+use Rattle.river.specs.File.{riverRead, Reads}
 
 accepts-only : (file : List ℕ) (cards : List Card) → AreBytes file → acceptFile file ≡ accepted cards → AcceptedFile file cards
 unfolding acceptFile
 accepts-only file cards b e =
-    let w = went (readFile file) flowCheck e in
+    let w = went (readFile file) (λ r. flowCheck (inForce r)) e in
     let f = reads-only-lawful file (w .value) b (w .first) in
     let k = flows-of-accepted (w .then) in
-    let same : w .value ≡ cards = let a = accepted-of-flows k in let c = w .then in cc in
-    record { bytes = f .bytes ∙ ap encode same; lawful = rw same at (f .lawful); flows = rw same at k }
+    let same : inForce (w .value) ≡ cards = let a = accepted-of-flows k in let c = w .then in cc in
+    record { river = w .value; bytes = f .bytes; lawful = f .lawful; in-force = sym same; flows = subst Flows same k }
 
 accepts-all : (file : List ℕ) (cards : List Card) → AcceptedFile file cards → acceptFile file ≡ accepted cards
 unfolding acceptFile
 accepts-all file cards a =
-    rw (a .bytes) (after-accepted _ _ (reads-lawful cards (a .lawful)) ∙ accepted-of-flows (a .flows))
+    rw (a .bytes)
+    (after-accepted _ _ (reads-lawful (a .river) (a .lawful)) ∙ ap flowCheck (sym (a .in-force)) ∙ accepted-of-flows (a .flows))
 
--- THEOREM: a file is accepted exactly when it is the encoding of lawful cards that pass the flow rules
+-- THEOREM: a file is accepted exactly when it is the encoding of a lawful river whose cards, with the rates in force, pass the flow rules
 pub accepts-exactly : (file : List ℕ) (cards : List Card) → AreBytes file → (acceptFile file ≡ accepted cards) ↔ AcceptedFile file cards
 accepts-exactly file cards b = (accepts-only file cards b, accepts-all file cards)
 
+-- the cards of an accepted file are lawful with the rates in force, too
+pub accepted-lawful : {file : List ℕ} {cards : List Card} → AcceptedFile file cards → Lawful cards
+accepted-lawful a = lawful-of-flows (rw (a .in-force) (regular-in-force (a .river) (a .lawful .cards))) (a .flows)
+
 -- no reach flows into itself or into an earlier reach
-outlet-later : {cards : List Card} → Lawful cards → (i j : ℕ) → i ≤ j → j < length cards → getD cards j blank .outlet ≡ suc i → ⊥
+outlet-later : {cards : List Card} → Regular cards → (i j : ℕ) → i ≤ j → j < length cards → getD cards j blank .outlet ≡ suc i → ⊥
 outlet-later {cards} h i j a b e =
-    let c = lawful-at h j b in
+    let c = asked-at h j b in
     ⊎-elim
     (λ (k : suc j ≡ length cards). omega (arith, last-outlet (length cards) (getD cards j blank .outlet) (rw k at (c .outlet))))
     (λ (k : suc j < length cards). omega (arith, later-outlet (length cards) (suc j) (getD cards j blank .outlet) k (c .outlet) .0))
     (eq-or-lt-of-le b)
 
--- THEOREM: what flows into a reach of a lawful river are all the reaches of the river whose outlet it is
-pub all-feeders : {cards : List Card} → Lawful cards → (i : ℕ) → i < length cards → above cards (suc i) ≡ feedersAmong cards (length cards) (suc i)
+-- THEOREM: what flows into a reach of regular cards are all the reaches whose outlet it is
+pub all-feeders : {cards : List Card} → Regular cards → (i : ℕ) → i < length cards → above cards (suc i) ≡ feedersAmong cards (length cards) (suc i)
 unfolding feedersAmong joinedIf
 all-feeders {cards} h i l = from-all (length cards) (le-of-lt l) (le-refl (length cards))
   where
@@ -73,16 +82,19 @@ all-feeders {cards} h i l = from-all (length cards) (le-of-lt l) (le-refl (lengt
         (λ (k : i < suc n). from-all n (le-of-suc-le-suc k) (le-of-lt b) ∙ sym (other n (le-of-suc-le-suc k) b))
         (eq-or-lt-of-le a)
 
--- The cards that a reading of bytes accepts are lawful.
-pub reading-lawful : {file : List ℕ} {r : Reading} → AreBytes file → Reads file r → r .outcome ≡ Outcome.Accepted → Lawful (river (r .cards))
-reading-lawful {file} {r} b h e =
-    reads-only-lawful file (river (r .cards)) b (sym (h .answer) ∙ ap (λ (o : Outcome). outcomeOf o (river (r .cards))) e) .lawful
+-- the river of a reading is the answer where the reading is accepted
+was-read : (file : List ℕ) {r : Reading} → Reads file r → r .outcome ≡ Outcome.Accepted → readFile file ≡ accepted (riverRead r)
+was-read file {r} h e = sym (h .answer) ∙ ap (λ (o : Outcome). outcomeOf o (riverRead r)) e
+
+-- the river that a reading of bytes accepts is lawful
+pub reading-lawful : {file : List ℕ} {r : Reading} → AreBytes file → Reads file r → r .outcome ≡ Outcome.Accepted → LawfulRiver (riverRead r)
+reading-lawful {file} {r} b h e = reads-only-lawful file (riverRead r) b (was-read file h e) .lawful
 
 -- a refused reading is the answer
 pub reading-refused : {file : List ℕ} {r : Reading} {x : Refusal} (t : FlowTable) → Reads file r → r .outcome ≡ Outcome.Refused x → Accepts file (record { outcome = r .outcome; cards = r .cards; flows = t })
 unfolding acceptFile
 reading-refused {file} {r} {x} t h e =
-    let read : readFile file ≡ refused x = sym (h .answer) ∙ ap (λ (o : Outcome). outcomeOf o (river (r .cards))) e in
+    let read : readFile file ≡ refused x = sym (h .answer) ∙ ap (λ (o : Outcome). outcomeOf o (riverRead r)) e in
     record {
       answer = ap (λ (o : Outcome). outcomeOf o (river (r .cards))) e ∙ sym (after-refused _ _ read);
       lawful = λ q. no-refusal (sym q ∙ e);
@@ -90,24 +102,29 @@ reading-refused {file} {r} {x} t h e =
       tabled = λ q. no-refusal (sym q ∙ e);
     }
 
--- a reading that is accepted goes on to the flow check
-pub reading-checked : {file : List ℕ} {r : Reading} {k : Checked} → AreBytes file → Reads file r → r .outcome ≡ Outcome.Accepted → FlowChecked (river (r .cards)) k → Accepts file (record { outcome = k .outcome; cards = r .cards; flows = k .flows })
-unfolding acceptFile
-reading-checked {file} {r} {k} b h e f =
-    let cards = river (r .cards) in
-    let read : readFile file ≡ accepted cards = sym (h .answer) ∙ ap (λ (o : Outcome). outcomeOf o cards) e in
-    record {
-      answer = f .answer ∙ sym (after-accepted _ _ read);
-      lawful = λ q. reading-lawful b h e;
-      sound = λ q. flows-of-accepted (sym (f .answer) ∙ ap (λ (o : Outcome). outcomeOf o cards) q);
-      tabled = f .tabled;
-    }
+-- a reading that is accepted goes on to the flow check of its cards with the rates in force
+module _ {file : List ℕ} {r : Reading} (cards : Cards) (b : AreBytes file) (h : Reads file r) (e : r .outcome ≡ Outcome.Accepted) (f : river cards ≡ inForce (riverRead r)) where
+  pub regular-read : Regular (river cards)
+  regular-read = rw f (regular-in-force (riverRead r) (reading-lawful b h e .cards))
+
+  pub reading-checked : {k : Checked} → FlowChecked (river cards) k → Accepts file (record { outcome = k .outcome; cards = cards; flows = k .flows })
+  unfolding acceptFile
+  reading-checked {k} c =
+      let passes : k .outcome ≡ Outcome.Accepted → Flows (river cards) =
+      λ q. flows-of-accepted (sym (c .answer) ∙ ap (λ (o : Outcome). outcomeOf o (river cards)) q)
+      in
+      record {
+        answer = c .answer ∙ ap flowCheck f ∙ sym (after-accepted _ _ (was-read file h e));
+        lawful = λ q. lawful-of-flows regular-read (passes q);
+        sound = passes;
+        tabled = c .tabled;
+      }
 
 -- THEOREM: an accepted river has, at every reach, what the flow check asks for from there on
 pub accepted-underway : {file : List ℕ} {r : Acceptance} → Accepts file r → r .outcome ≡ Outcome.Accepted → {i : ℕ} → i ≤ length (river (r .cards)) → Underway (river (r .cards)) i (r .flows)
 accepted-underway a e l =
     record {
-      lawful = a .lawful e;
+      regular = regular-of-lawful (a .lawful e);
       within = l;
       passed = record { sound = λ j k. a .sound e .each j (omega arith); tabled = first-tabled l (a .tabled e) };
     }

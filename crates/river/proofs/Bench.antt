@@ -1,9 +1,9 @@
--- The bench values of the river file paper for flows and heads, and the empty file, proved from the definitions by computation.
+-- The bench values of the river file paper for files, rates in force, flows and heads, proved from the definitions by computation.
 use mathlib.Core.Path.{_≡_, refl}
 use mathlib.Core.List.{List, [], _∷_, map}
-use Prim.Native.Nat.{ℕ, _*_}
+use Prim.Native.Nat.{ℕ, _+_, _*_}
 use lib.IntN.{pos}
-use lib.ListN.{take, set, replicate}
+use lib.ListN.{length, take, set, replicate}
 use Rattle.river.specs.declared.card.Dam.{Dam}
 use Rattle.river.specs.declared.card.Dam.the-variants.{Absent, Aerating}
 use Rattle.river.specs.declared.card.Amount.{Amount}
@@ -13,25 +13,29 @@ use Rattle.river.specs.declared.card.Nitrification.the-variants.{Idle, N
 use Rattle.river.specs.declared.card.Card.{Card}
 use Rattle.river.specs.declared.source.Demand.the-variants.{Bod, Nitrogenous}
 use Rattle.river.specs.Refusal.{accepted, refused, refuse, need, choose, after}
-use Rattle.river.specs.Card.{longestFile, countOk, inRange, outletOk, damInRange, amountInRange, nitrificationInRange}
+use Rattle.river.specs.declared.card.RateFactors.the-variants.{AsGiven, PerDegree}
+use Rattle.river.specs.Card.{countOk, inRange, outletOk, damInRange, amountInRange, nitrificationInRange, ratesInRange}
+use Rattle.river.specs.River.{River, riverOf, longestFile, factorInRange, factorsInRange}
 use Rattle.river.specs.Optional.{readOptional, readOptionals}
-use Rattle.river.specs.Read.{readFile, readHeader, readReaches, readReach, cardAt}
+use Rattle.river.specs.Read.{readFile, readRest, readHeader, readReaches, readReach, cardAt}
 use Rattle.river.specs.Write.{encode}
 use Rattle.river.specs.Source.{sourceOf}
 use Rattle.river.specs.Flow.{fed, cardOf, above, flowOf, massOf, deepest, feedersAmong, joinedIf, flowAt, massAt, depthAt, damFits, flowCheck, checksFrom, reachChecks}
 use Rattle.river.specs.Saturation.{saturation, saturationThousandths, saturationOf}
 use Rattle.river.specs.Head.{floor, upstreamDemand, upstreamOxygen, aerated, belowDam, headDemand, headOxygen}
+use Rattle.river.specs.Rates.{warmed, cooled, correctedRate, decayInForce, aerationInForce, inForce}
 use Rattle.river.specs.Accept.{acceptFile}
+use Rattle.river.proofs.rates.Rows.{Rows as RateRows, rows as rate-rows}
 use Rattle.river.proofs.head.SaturationRows.{Rows as SaturationRows, rows as saturation-rows}
 
--- a reach at 20 degrees
-abbrev pub reach : (outlet k1 volume inflow bod oxygen load : ℕ) → Dam → (take pressure sludge : Amount) → Nitrification → Card
-reach outlet k1 volume inflow bod oxygen load dam take pressure sludge nitrification =
+-- a reach by its temperature and k2 too, and one at 20 degrees without surface aeration
+abbrev reach-at : (temperature k2 outlet k1 volume inflow bod oxygen load : ℕ) → Dam → (take pressure sludge : Amount) → Nitrification → Card
+reach-at temperature k2 outlet k1 volume inflow bod oxygen load dam take pressure sludge nitrification =
     record {
       outlet = outlet;
-      temperature = 20;
+      temperature = temperature;
       k1 = k1;
-      k2 = 0;
+      k2 = k2;
       volume = volume;
       inflow = inflow;
       «inflow_bod» = bod;
@@ -43,6 +47,13 @@ reach outlet k1 volume inflow bod oxygen load dam take pressure sludge nitrifica
       sludge = sludge;
       nitrification = nitrification;
     }
+
+abbrev pub reach : (outlet k1 volume inflow bod oxygen load : ℕ) → Dam → (take pressure sludge : Amount) → Nitrification → Card
+reach = reach-at 20 0
+
+-- a river without rate factors
+abbrev given : List Card → River
+given = riverOf AsGiven
 
 -- the two reaches of the printing program's example, with a dam on reach 2 or without, and with takes or without
 abbrev pub first : Amount → Card
@@ -73,7 +84,7 @@ abbrev pub nitrified : (rate concentration load : ℕ) → List Card
 nitrified rate concentration load = first Without ∷ reach 0 0 1000 1000 30000 2000 0 Absent Without Without Without (Nitrifying rate concentration load) ∷ []
 
 abbrev nitrified-file : List ℕ
-nitrified-file = encode (nitrified 300 4_000 5)
+nitrified-file = encode (given (nitrified 300 4_000 5))
 
 -- one reach with a nitrification, by its volume, inflow and inflow BOD
 abbrev ammonia : (volume inflow bod : ℕ) → Nitrification → List Card
@@ -86,6 +97,14 @@ bed volume take = reach 0 0 volume 10000 0 0 0 Absent take Without (Given 1000) 
 -- one reach by its k1, volume, inflow and take
 abbrev one : (k1 volume inflow : ℕ) → Amount → List Card
 one k1 volume inflow take = reach 0 k1 volume inflow 0 0 0 Absent take Without Without Idle ∷ []
+
+-- the file of the two reaches with rate factors
+abbrev by-factors : (decay aeration : ℕ) → List ℕ
+by-factors decay aeration = encode (riverOf (PerDegree decay aeration) (two Absent))
+
+-- one reach of 10,000 litres a second by its temperature, rates and volume, in a river with rate factors
+abbrev warm : (temperature k1 k2 volume : ℕ) → River
+warm temperature k1 k2 volume = riverOf (PerDegree 1_047 1_024) (reach-at temperature k2 0 k1 volume 10000 0 0 0 Absent Without Without Without Idle ∷ [])
 
 -- one reach with Qm 3 and Mm 2,999,999
 abbrev full : Amount → List Card
@@ -135,22 +154,22 @@ pub record Rows : Type 0 where
   pub below-dam-700 : belowDam (second weir Without (Given 700)) (fed (above (hilly (Given 700)) 2)) (flowOf (above (hilly (Given 700)) 2)) (pos 8000000) ≡ pos 8103186
   pub oxygen-dam-700 : headOxygen (second weir Without (Given 700)) (fed (above (hilly (Given 700)) 2)) (flowOf (above (hilly (Given 700)) 2)) (pos (3000 * 8000000)) ≡ pos 6577389
   -- a pressure at either end of its range, and one past it
-  pub lowest-read : readFile (encode (hilly (Given 500))) ≡ accepted (hilly (Given 500))
-  pub highest-read : readFile (encode (hilly (Given 800))) ≡ accepted (hilly (Given 800))
-  pub too-low : readFile (encode (hilly (Given 499))) ≡ refused (refuse 4 2)
-  pub too-high : readFile (encode (hilly (Given 801))) ≡ refused (refuse 4 2)
+  pub lowest-read : readFile (encode (given (hilly (Given 500)))) ≡ accepted (given (hilly (Given 500)))
+  pub highest-read : readFile (encode (given (hilly (Given 800)))) ≡ accepted (given (hilly (Given 800)))
+  pub too-low : readFile (encode (given (hilly (Given 499)))) ≡ refused (refuse 4 2)
+  pub too-high : readFile (encode (given (hilly (Given 801)))) ≡ refused (refuse 4 2)
   -- 14 on its limit and past it, by the flow after the take
   pub bed-passes : flowCheck (bed 4_320_000 Without) ≡ accepted (bed 4_320_000 Without)
   pub bed-refused : flowCheck (bed 4_320_001 Without) ≡ refused (refuse 14 1)
   pub bed-after-take : flowCheck (bed 4_320_000 (Given 1)) ≡ refused (refuse 14 1)
   -- a sludge bed at either end of its range
-  pub none-demanded-read : readFile (encode (bedded (Given 0))) ≡ accepted (bedded (Given 0))
-  pub most-demanded-read : readFile (encode (bedded (Given 65_535))) ≡ accepted (bedded (Given 65_535))
+  pub none-demanded-read : readFile (encode (given (bedded (Given 0)))) ≡ accepted (given (bedded (Given 0)))
+  pub most-demanded-read : readFile (encode (given (bedded (Given 65_535)))) ≡ accepted (given (bedded (Given 65_535)))
   -- a nitrification at either end of its ranges, and past that of its rate and of its concentration
-  pub least-nitrified-read : readFile (encode (nitrified 0 0 0)) ≡ accepted (nitrified 0 0 0)
-  pub most-nitrified-read : readFile (encode (nitrified 20_000 1_000_000 4_294_967_295)) ≡ accepted (nitrified 20_000 1_000_000 4_294_967_295)
-  pub too-fast : readFile (encode (nitrified 20_001 0 0)) ≡ refused (refuse 4 2)
-  pub too-strong : readFile (encode (nitrified 0 1_000_001 0)) ≡ refused (refuse 4 2)
+  pub least-nitrified-read : readFile (encode (given (nitrified 0 0 0))) ≡ accepted (given (nitrified 0 0 0))
+  pub most-nitrified-read : readFile (encode (given (nitrified 20_000 1_000_000 4_294_967_295))) ≡ accepted (given (nitrified 20_000 1_000_000 4_294_967_295))
+  pub too-fast : readFile (encode (given (nitrified 20_001 0 0))) ≡ refused (refuse 4 2)
+  pub too-strong : readFile (encode (given (nitrified 0 1_000_001 0))) ≡ refused (refuse 4 2)
   -- its last four bytes, each of them other than 0; and cut there
   pub ends-in-zeros : map (λ (k : ℕ). readFile (set nitrified-file k 1)) (68 ∷ 69 ∷ 70 ∷ 71 ∷ []) ≡ replicate 4 (refused (refuse 4 2))
   pub cut-nitrified : readFile (take 71 nitrified-file) ≡ refused (refuse 1 2)
@@ -164,12 +183,31 @@ pub record Rows : Type 0 where
   -- M of both demands, and nitrogenous BOD mixed with what comes down
   pub mass-nitrified : massAt (nitrified 300 4_000 5) 2 ≡ 40_005_000
   pub nitrogenous-mixed : headDemand (sourceOf Nitrogenous (cardOf (nitrified 300 4_000 5) 2)) (fed (above (nitrified 300 4_000 5) 2)) (flowOf (above (nitrified 300 4_000 5) 2)) (3000 * 2000000) ≡ 2501250
+  -- corrected rates; 15 by them, at a rate that is in range at 20 degrees
+  pub corrected-rows : RateRows
+  pub warm-passes : acceptFile (encode (warm 20 0 20_000 0)) ≡ accepted (inForce (warm 20 0 20_000 0))
+  pub warm-refused : acceptFile (encode (warm 21 0 20_000 0)) ≡ refused (refuse 15 1)
+  pub warm-decay-refused : acceptFile (encode (warm 21 20_000 0 0)) ≡ refused (refuse 15 1)
+  -- 11 by the rate in force, 1,258, on its limit and past it
+  pub warm-volume-passes : flowCheck (inForce (warm 25 1_000 0 2_747_217)) ≡ accepted (inForce (warm 25 1_000 0 2_747_217))
+  pub warm-volume-refused : flowCheck (inForce (warm 25 1_000 0 2_747_218)) ≡ refused (refuse 11 1)
+  -- factors at either end of their range, and past it, and their record cut
+  pub least-factors-read : readFile (by-factors 1_000 1_000) ≡ accepted (riverOf (PerDegree 1_000 1_000) (two Absent))
+  pub most-factors-read : readFile (by-factors 1_100 1_100) ≡ accepted (riverOf (PerDegree 1_100 1_100) (two Absent))
+  pub decay-too-low : readFile (by-factors 999 1_000) ≡ refused (refuse 4 0)
+  pub decay-too-high : readFile (by-factors 1_101 1_000) ≡ refused (refuse 4 0)
+  pub aeration-too-low : readFile (by-factors 1_000 999) ≡ refused (refuse 4 0)
+  pub aeration-too-high : readFile (by-factors 1_000 1_101) ≡ refused (refuse 4 0)
+  pub cut-factors : readFile (take 9 (by-factors 1_047 1_024)) ≡ refused (refuse 1 0)
+  -- the two reaches with factors of 1,000, which change no rate (`rates/InForce.nothing-corrected`)
+  pub thousands : acceptFile (by-factors 1_000 1_000) ≡ accepted (two Absent)
+  pub thousands-longer : length (by-factors 1_000 1_000) ≡ length (encode (given (two Absent))) + 6
   -- the longest file
-  pub longest : longestFile ≡ 8_196
+  pub longest : longestFile ≡ 8_202
 
--- THEOREM: the bench values of the paper for flows and heads, and the empty file, a row each
+-- THEOREM: the bench values of the paper for files, rates in force, flows and heads, a row each
 pub bench : Rows
-unfolding saturation saturationThousandths saturationOf flowCheck checksFrom reachChecks need damFits fed flowOf massOf deepest feedersAmong joinedIf headDemand headOxygen upstreamDemand upstreamOxygen belowDam aerated floor acceptFile readFile readHeader readReaches readReach readOptionals readOptional cardAt countOk inRange outletOk damInRange amountInRange nitrificationInRange choose after encode
+unfolding saturation saturationThousandths saturationOf flowCheck checksFrom reachChecks need ratesInRange warmed cooled correctedRate decayInForce aerationInForce factorInRange factorsInRange damFits fed flowOf massOf deepest feedersAmong joinedIf headDemand headOxygen upstreamDemand upstreamOxygen belowDam aerated floor acceptFile readFile readRest readHeader readReaches readReach readOptionals readOptional cardAt countOk inRange outletOk damInRange amountInRange nitrificationInRange choose after encode
 bench =
     record {
       saturation-rows = saturation-rows;
@@ -228,5 +266,20 @@ bench =
       demand-load-refused = refl;
       mass-nitrified = refl;
       nitrogenous-mixed = refl;
+      corrected-rows = rate-rows;
+      warm-passes = refl;
+      warm-refused = refl;
+      warm-decay-refused = refl;
+      warm-volume-passes = refl;
+      warm-volume-refused = refl;
+      least-factors-read = refl;
+      most-factors-read = refl;
+      decay-too-low = refl;
+      decay-too-high = refl;
+      aeration-too-low = refl;
+      aeration-too-high = refl;
+      cut-factors = refl;
+      thousands = refl;
+      thousands-longer = refl;
       longest = refl;
     }

@@ -1,39 +1,46 @@
--- Reading yields cards exactly for the files of lawful cards; so each river has one file, of at most so many bytes.
+-- Reading yields a river exactly for the files of lawful rivers; so each river has one file, of at most so many bytes.
 -- Assumes nothing.
 use Prim.Native.Nat.{ℕ, zero, suc, _*_, _≤_}
 use mathlib.Core.Logic.{_↔_}
 use mathlib.Core.Path.{_≡_, refl, ap, sym, subst, _∙_}
 use mathlib.Core.List.{List, [], _∷_, _++_}
-use mathlib.Core.Bool.{true}
+use mathlib.Core.Bool.{true, false}
 use native.Mathlib.Nat.{div-add-mod'}
 use native.Mathlib.Omega.{arith}
 use lib.ListN.{length, drop, length-append}
+use lib.Seq.{drop-append-seam}
 use borrow.Author.Tests.{le-leb, leb-true, eqb-true}
-use Rattle.river.specs.Bytes.{AreBytes, twoAt}
-use Rattle.river.specs.Card.{Lawful, LawfulFrom, RV, optional, sizeOf, longestCard, longestFile}
+use Rattle.river.specs.Bytes.{AreBytes, twoAt, marked}
+use Rattle.river.specs.Card.{LawfulCard, EachFrom, RV, optional, sizeOf, longestCard}
 use Rattle.river.specs.File.{IsFile}
-use Rattle.river.specs.Read.{readHeader, readReaches, readFile}
+use Rattle.river.specs.Read.{readHeader, readReaches, readRest, readFile}
 use Rattle.river.specs.Refusal.{accepted}
+use Rattle.river.specs.River.{River, riverOf, LawfulFactors, LawfulRiver, TH, encodeFactors, factorsRecord, longestFile}
 use Rattle.river.specs.Write.{encode, encodeCard, encodeCards, encodeHeader}
 use Rattle.river.specs.declared.card.Amount.the-variants.{Without, Given}
 use Rattle.river.specs.declared.card.Card.{Card}
 use Rattle.river.specs.declared.card.Dam.the-variants.{Absent, Aerating}
 use Rattle.river.specs.declared.card.Nitrification.the-variants.{Idle, Nitrifying}
+use Rattle.river.specs.declared.card.RateFactors.the-variants.{AsGiven, PerDegree}
 use Rattle.river.proofs.Answers.{need-true, after-accepted, passed, went}
 use Rattle.river.proofs.bytes.Numbers.{are-bytes-drop, true-marked, twoBytes-twoAt, leads-spelled}
-use Rattle.river.proofs.range.Ranges.{countOk-true, true-countOk}
-use Rattle.river.proofs.card.Optional.{unmarked}
-use Rattle.river.proofs.card.Rows.{length-encodeCard, size-small}
+use Rattle.river.proofs.range.Ranges.{countOk-true, true-countOk, factorsInRange-true, true-factorsInRange}
+use Rattle.river.proofs.card.Optional.{unmarked, readOptional-encode, readOptional-is, optional-small}
+use Rattle.river.proofs.card.Rows.{sound-factors, length-encodeCard, size-small}
 use Rattle.river.proofs.read.Records.{readReach-encode, drop-encodeCard, readReach-is}
 
 -- Reading what was encoded.
 
--- no river's records begin with a record that may follow an `RE` record
+-- no cards' records begin with the record of rate factors or with one that may follow an `RE` record
+no-factors-first : (cs : List Card) → marked (encodeCards cs) TH ≡ false
+no-factors-first [] = refl
+no-factors-first (c ∷ cs) = refl
+
 none-first : (cs : List Card) → unmarked optional (encodeCards cs) ≡ true
 none-first [] = refl
 none-first (c ∷ cs) = refl
 
-readReaches-encode : (n i : ℕ) (cs : List Card) → LawfulFrom n i cs → readReaches n i (length cs) (encodeCards cs) ≡ accepted cs
+readReaches-encode : (n i : ℕ) (cs : List Card) → EachFrom LawfulCard n i cs → readReaches n i (length cs) (encodeCards cs) ≡ accepted cs
 unfolding readReaches
 readReaches-encode n i [] h = need-true _ _ _ _ refl
 readReaches-encode n i (c ∷ cs) h =
@@ -48,17 +55,24 @@ readHeader-encode n rest p q =
     need-true _ _ _ _ (rw div-add-mod' (countOk-true n p q)) ∙
     ap accepted (div-add-mod' n 256)
 
--- THEOREM: the file of lawful cards is read as these cards
-pub reads-lawful : (cs : List Card) → Lawful cs → readFile (encode cs) ≡ accepted cs
+readRest-encode : (r : River) → LawfulRiver r → readRest (length (r .cards)) (encodeFactors (r .factors) ++ encodeCards (r .cards)) ≡ accepted r
+unfolding readRest
+readRest-encode r h =
+    let cs = r .cards in
+    after-accepted _ _ (readOptional-encode factorsRecord sound-factors 0 (r .factors) (encodeCards cs) (factorsInRange-true (r .factors) (h .factors)) (no-factors-first cs)) ∙
+    after-accepted _ _ (rw drop-append-seam (readReaches-encode (length cs) 1 cs (h .cards .each)))
+
+-- THEOREM: the file of a lawful river is read as this river
+pub reads-lawful : (r : River) → LawfulRiver r → readFile (encode r) ≡ accepted r
 unfolding readFile encode
-reads-lawful cs h =
-    after-accepted _ _ (readHeader-encode (length cs) (encodeCards cs) (h .some) (h .few)) ∙
-    readReaches-encode (length cs) 1 cs (h .each)
+reads-lawful r h =
+    after-accepted _ _ (readHeader-encode (length (r .cards)) (encodeFactors (r .factors) ++ encodeCards (r .cards)) (h .cards .some) (h .cards .few)) ∙
+    readRest-encode r h
 
 -- What was read, encoded.
 
 record AreReaches (n i m : ℕ) (s : List ℕ) (cs : List Card) : Type 0 where
-  lawful : LawfulFrom n i cs
+  lawful : EachFrom LawfulCard n i cs
   count : length cs ≡ m
   bytes : s ≡ encodeCards cs
 
@@ -108,43 +122,79 @@ readHeader-is s n h e =
       bytes = leads-spelled _ s (leb-true _ _ (p .test)) (λ j. sym (m .first) j ∷ sym (m .second) j ∷ twoBytes-twoAt s 2 h j);
     })
 
--- THEOREM: whatever is read as cards is the file of these cards, and they are lawful
-pub reads-only-lawful : (s : List ℕ) (cs : List Card) → AreBytes s → readFile s ≡ accepted cs → IsFile s cs
+record IsRest (n : ℕ) (s : List ℕ) (r : River) : Type 0 where
+  factors : LawfulFactors (r .factors)
+  cards : EachFrom LawfulCard n 1 (r .cards)
+  count : length (r .cards) ≡ n
+  bytes : s ≡ encodeFactors (r .factors) ++ encodeCards (r .cards)
+
+readRest-is : (n : ℕ) (s : List ℕ) (r : River) → AreBytes s → readRest n s ≡ accepted r → IsRest n s r
+unfolding readRest
+readRest-is n s r h e =
+    let p = went _ _ e in
+    let q = went _ _ (p .then) in
+    let f = p .value in
+    let k = length (encodeFactors f) in
+    let a = readOptional-is factorsRecord sound-factors 0 s f h (p .first) in
+    let b = readReaches-is n 1 n (drop k s) (q .value) (are-bytes-drop k h) (q .first) in
+    let same : riverOf f (q .value) ≡ r = cc (q .then) in
+    subst (IsRest n s) same
+    (record {
+      factors = true-factorsInRange f (a .in-range);
+      cards = b .lawful;
+      count = b .count;
+      bytes = a .bytes ∙ ap (λ (x : List ℕ). encodeFactors f ++ x) (b .bytes);
+    })
+
+-- THEOREM: whatever is read as a river is the file of this river, and it is lawful
+pub reads-only-lawful : (s : List ℕ) (r : River) → AreBytes s → readFile s ≡ accepted r → IsFile s r
 unfolding readFile encode
-reads-only-lawful s cs h e =
+reads-only-lawful s r h e =
     let p = went _ _ e in
     let n = p .value in
     let a = readHeader-is s n h (p .first) in
-    let b = readReaches-is n 1 n (drop 4 s) cs (are-bytes-drop 4 h) (p .then) in
-    let same : n ≡ length cs = sym (b .count) in
+    let b = readRest-is n (drop 4 s) r (are-bytes-drop 4 h) (p .then) in
+    let same : n ≡ length (r .cards) = sym (b .count) in
     record {
       lawful =
           record {
-            some = rw same at (a .some);
-            few = rw same at (a .few);
-            each = rw same at (b .lawful);
+            factors = b .factors;
+            cards =
+                record {
+                  some = rw same at (a .some);
+                  few = rw same at (a .few);
+                  each = rw same at (b .cards);
+                };
           };
       bytes =
           a .bytes ∙
           ap (λ (x : List ℕ). encodeHeader n ++ x) (b .bytes) ∙
-          ap (λ (x : ℕ). encodeHeader x ++ encodeCards cs) same;
+          ap (λ (x : ℕ). encodeHeader x ++ encodeFactors (r .factors) ++ encodeCards (r .cards)) same;
     }
 
--- THEOREM: reading yields cards exactly for the files of lawful cards
-pub reads-exactly : (s : List ℕ) (cs : List Card) → AreBytes s → (readFile s ≡ accepted cs) ↔ IsFile s cs
-reads-exactly s cs h = (reads-only-lawful s cs h, λ f. rw (f .bytes) (reads-lawful cs (f .lawful)))
+-- THEOREM: reading yields a river exactly for the files of lawful rivers
+pub reads-exactly : (s : List ℕ) (r : River) → AreBytes s → (readFile s ≡ accepted r) ↔ IsFile s r
+reads-exactly s r h = (reads-only-lawful s r h, λ f. rw (f .bytes) (reads-lawful r (f .lawful)))
 
 -- THEOREM: each river has one file
-pub one-file : (s t : List ℕ) (cs : List Card) → AreBytes s → AreBytes t → readFile s ≡ accepted cs → readFile t ≡ accepted cs → s ≡ t
-one-file s t cs h k p q = reads-only-lawful s cs h p .bytes ∙ sym (reads-only-lawful t cs k q .bytes)
+pub one-file : (s t : List ℕ) (r : River) → AreBytes s → AreBytes t → readFile s ≡ accepted r → readFile t ≡ accepted r → s ≡ t
+one-file s t r h k p q = reads-only-lawful s r h p .bytes ∙ sym (reads-only-lawful t r k q .bytes)
 
 -- THEOREM: each file has one river
-pub one-river : (cs ds : List Card) → Lawful cs → Lawful ds → encode cs ≡ encode ds → cs ≡ ds
-one-river cs ds p q e =
-    let a = reads-lawful cs p in
-    let b = reads-lawful ds q in
+pub one-river : (x y : River) → LawfulRiver x → LawfulRiver y → encode x ≡ encode y → x ≡ y
+one-river x y p q e =
+    let a = reads-lawful x p in
+    let b = reads-lawful y q in
     let c = ap readFile e in
     cc
+
+-- THEOREM: rate factors make another river than none, whatever their numbers, 1,000 too
+pub factors-or-none : {decay aeration : ℕ} (x y : River) → x .factors ≡ AsGiven → y .factors ≡ PerDegree decay aeration → x ≡ y → ⊥
+factors-or-none x y p q e = let z : _≡_ {A = ℕ} 0 1 = cc (ap (λ (r : River). r .factors) e) in omega arith
+
+-- THEOREM: and another file
+pub factors-in-file : {decay aeration : ℕ} (x y : River) → LawfulRiver x → LawfulRiver y → x .factors ≡ AsGiven → y .factors ≡ PerDegree decay aeration → encode x ≡ encode y → ⊥
+factors-in-file x y l k p q e = factors-or-none x y p q (one-river x y l k e)
 
 -- THEOREM: a dam makes another card than no dam, whatever its numbers
 pub dam-or-none : {share generating : ℕ} (c d : Card) → c .dam ≡ Absent → d .dam ≡ Aerating share generating → c ≡ d → ⊥
@@ -172,7 +222,8 @@ cards-length [] = omega arith
 cards-length (c ∷ cs) =
     omega (arith, length-append (encodeCard c) (encodeCards cs), length-encodeCard c, size-small c, cards-length cs)
 
--- THEOREM: the file of lawful cards is at most as long as the longest file
-pub file-length : (cs : List Card) → Lawful cs → length (encode cs) ≤ longestFile
+-- THEOREM: the file of a lawful river is at most as long as the longest file
+pub file-length : (r : River) → LawfulRiver r → length (encode r) ≤ longestFile
 unfolding encode
-file-length cs h = omega (arith, cards-length cs, h .few)
+file-length r h =
+    omega (arith, length-append (encodeFactors (r .factors)) (encodeCards (r .cards)), optional-small factorsRecord sound-factors (r .factors), cards-length (r .cards), h .cards .few)

@@ -1,4 +1,4 @@
--- The orders of the checks: a file, a list of cards or a river that breaks two rules is refused by the earlier one.
+-- The orders of the checks: a file or a river that breaks two rules is refused by the earlier one.
 -- Computed from the definitions, and named by the laws of reading, writing and the flow check, so that these rows are checked first.
 use mathlib.Core.Path.{_≡_, refl}
 use mathlib.Core.List.{List, [], _∷_, _++_}
@@ -11,11 +11,14 @@ use Rattle.river.specs.declared.card.Dam.{Dam}
 use Rattle.river.specs.declared.card.Dam.the-variants.{Absent, Aerating}
 use Rattle.river.specs.declared.card.Nitrification.{Nitrification}
 use Rattle.river.specs.declared.card.Nitrification.the-variants.{Idle, Nitrifying}
-use Rattle.river.specs.Refusal.{accepted, refused, refuse, need, choose, after}
-use Rattle.river.specs.Card.{countOk, inRange, outletOk, encodeDam, damInRange, takeLayout, pressureLayout, sludgeLayout, encodeAmount, amountInRange, encodeNitrification, nitrificationInRange}
+use Rattle.river.specs.declared.card.RateFactors.{RateFactors}
+use Rattle.river.specs.declared.card.RateFactors.the-variants.{AsGiven, PerDegree}
+use Rattle.river.specs.Refusal.{Answer, accepted, refused, refuse, need, choose, after}
+use Rattle.river.specs.Card.{countOk, inRange, outletOk, encodeDam, damInRange, takeLayout, pressureLayout, sludgeLayout, encodeAmount, amountInRange, encodeNitrification, nitrificationInRange, ratesInRange}
 use Rattle.river.specs.Optional.{readOptional, readOptionals, optionalsInRange}
-use Rattle.river.specs.Read.{readHeader, readReach, readReaches, readFile, cardAt}
-use Rattle.river.specs.Write.{encode, encodeCard, encodeHeader, checkCard, checkFrom, writeAnswer}
+use Rattle.river.specs.River.{riverOf, factorInRange, factorsInRange, encodeFactors}
+use Rattle.river.specs.Read.{readHeader, readReach, readReaches, readRest, readFile, cardAt}
+use Rattle.river.specs.Write.{encode, encodeCard, encodeHeader, encodeOpening, checkCard, checkFrom, checkRiver, writeAnswer}
 use Rattle.river.specs.Rewrite.{rewriteAnswer}
 use Rattle.river.specs.Flow.{fed, flowOf, massOf, feedersAmong, joinedIf, damFits, flowCheck, checksFrom, reachChecks}
 
@@ -76,14 +79,39 @@ nitrifying = Nitrifying 0 0 0
 abbrev bed : (sludge inflow : ℕ) (amount : Amount) → List Card
 bed sludge inflow amount = reach-on (Given sludge) Without 0 20 100 inflow 0 Absent amount ∷ []
 
--- the file of one reach, whatever its fields
+-- factors in range, and the first and the second out of range
+abbrev factors : RateFactors
+factors = PerDegree 1_047 1_024
+
+abbrev first-out : RateFactors
+first-out = PerDegree 999 1_000
+
+abbrev second-out : RateFactors
+second-out = PerDegree 1_000 1_101
+
+-- the file of one reach, whatever its fields, without rate factors and with some
 abbrev file : Card → List ℕ
 file c = encodeHeader 1 ++ encodeCard c
+
+abbrev file-by : RateFactors → Card → List ℕ
+file-by f c = encodeOpening 1 f ++ encodeCard c
+
+-- the refusal of writing one reach to no room, where n are counted
+abbrev written : ℕ → RateFactors → Card → Answer ℕ
+written n f c = writeAnswer n (riverOf f (c ∷ [])) 0
 
 pub record Reading : Type 0 where
   -- the header: 1, 2, 3
   pub cut-header : readFile (88 ∷ 86 ∷ 0 ∷ []) ≡ refused (refuse 1 0)
   pub wrong-header : readFile (88 ∷ 86 ∷ 0 ∷ 0 ∷ []) ≡ refused (refuse 2 0)
+  -- then the rate factors: 1, 4
+  pub count-and-factors : readFile (encodeOpening 0 first-out) ≡ refused (refuse 3 0)
+  pub cut-factors : readFile (take 9 (file-by first-out (reach 9 36 0 1 0 Absent Without))) ≡ refused (refuse 1 0)
+  pub factors-and-reach : readFile (file-by first-out (reach 9 36 0 1 0 Absent Without)) ≡ refused (refuse 4 0)
+  pub second-factor-and-reach : readFile (take 12 (file-by second-out (reach 9 36 0 1 0 Absent Without))) ≡ refused (refuse 4 0)
+  -- a second record of rate factors is no record that is due, nor is one behind a reach
+  pub factors-twice : readFile (encodeOpening 1 factors ++ encodeFactors factors ++ encodeCard (reach 0 20 0 1 0 Absent Without)) ≡ refused (refuse 2 1)
+  pub reach-then-factors : readFile (file (reach 0 20 0 1 0 Absent Without) ++ encodeFactors factors) ≡ refused (refuse 6 0)
   -- a reach: 1, 2, 4, 5
   pub cut-reach : readFile (82 ∷ 86 ∷ 0 ∷ 1 ∷ 88 ∷ 69 ∷ []) ≡ refused (refuse 1 1)
   pub wrong-reach : readReach 1 1 (88 ∷ 69 ∷ drop 2 (encodeCard (reach 0 36 0 1 0 Absent Without))) ≡ refused (refuse 2 1)
@@ -129,30 +157,36 @@ pub record Reading : Type 0 where
   pub nitrification-and-more : readFile (file (reach-in nitrification-out Without Without 0 20 0 1 0 Absent Without) ++ (0 ∷ [])) ≡ refused (refuse 4 1)
 
 pub record Writing : Type 0 where
-  -- 3, then 4 and 5 of a reach, then the 4 of its dam, its take, its pressure, its sludge bed and its nitrification, then 12
-  pub count-and-range : writeAnswer 0 (reach 9 36 0 1 0 Absent Without ∷ []) 0 ≡ refused (refuse 3 0)
-  pub range-and-outlet : writeAnswer 1 (reach 9 36 0 1 0 Absent Without ∷ []) 0 ≡ refused (refuse 4 1)
-  pub outlet-and-dam : writeAnswer 1 (reach 9 20 0 1 0 weir-out Without ∷ []) 0 ≡ refused (refuse 5 1)
-  pub outlet-and-take : writeAnswer 1 (reach 9 20 0 1 0 Absent take-out ∷ []) 0 ≡ refused (refuse 5 1)
-  pub outlet-and-pressure : writeAnswer 1 (reach-at pressure-out 9 20 0 1 0 Absent Without ∷ []) 0 ≡ refused (refuse 5 1)
-  pub outlet-and-sludge : writeAnswer 1 (reach-on sludge-out Without 9 20 0 1 0 Absent Without ∷ []) 0 ≡ refused (refuse 5 1)
-  pub outlet-and-nitrification : writeAnswer 1 (reach-in nitrification-out Without Without 9 20 0 1 0 Absent Without ∷ []) 0 ≡ refused (refuse 5 1)
-  pub nitrification-and-room : writeAnswer 1 (reach-in nitrification-out (Given 0) (Given 760) 0 20 0 1 0 weir (Given 0) ∷ []) 0 ≡ refused (refuse 4 1)
-  pub sludge-and-room : writeAnswer 1 (reach-on sludge-out (Given 760) 0 20 0 1 0 weir (Given 0) ∷ []) 0 ≡ refused (refuse 4 1)
-  pub pressure-and-room : writeAnswer 1 (reach-at pressure-out 0 20 0 1 0 weir (Given 0) ∷ []) 0 ≡ refused (refuse 4 1)
-  pub take-and-room : writeAnswer 1 (reach 0 20 0 1 0 weir take-out ∷ []) 0 ≡ refused (refuse 4 1)
-  pub dam-and-room : writeAnswer 1 (reach 0 20 0 1 0 weir-out Without ∷ []) 0 ≡ refused (refuse 4 1)
+  -- 3, then 4 of the rate factors, then 4 and 5 of a reach, then the 4 of its dam, its take, its pressure, its sludge bed and its nitrification, then 12
+  pub count-and-range : written 0 AsGiven (reach 9 36 0 1 0 Absent Without) ≡ refused (refuse 3 0)
+  pub count-and-factors : written 0 first-out (reach 9 36 0 1 0 Absent Without) ≡ refused (refuse 3 0)
+  pub factors-and-range : written 1 first-out (reach 9 36 0 1 0 Absent Without) ≡ refused (refuse 4 0)
+  pub second-factor-and-room : written 1 second-out (reach 0 20 0 1 0 Absent Without) ≡ refused (refuse 4 0)
+  pub range-and-outlet : written 1 AsGiven (reach 9 36 0 1 0 Absent Without) ≡ refused (refuse 4 1)
+  pub outlet-and-dam : written 1 AsGiven (reach 9 20 0 1 0 weir-out Without) ≡ refused (refuse 5 1)
+  pub outlet-and-take : written 1 AsGiven (reach 9 20 0 1 0 Absent take-out) ≡ refused (refuse 5 1)
+  pub outlet-and-pressure : written 1 AsGiven (reach-at pressure-out 9 20 0 1 0 Absent Without) ≡ refused (refuse 5 1)
+  pub outlet-and-sludge : written 1 AsGiven (reach-on sludge-out Without 9 20 0 1 0 Absent Without) ≡ refused (refuse 5 1)
+  pub outlet-and-nitrification : written 1 AsGiven (reach-in nitrification-out Without Without 9 20 0 1 0 Absent Without) ≡ refused (refuse 5 1)
+  pub nitrification-and-room : written 1 AsGiven (reach-in nitrification-out (Given 0) (Given 760) 0 20 0 1 0 weir (Given 0)) ≡ refused (refuse 4 1)
+  pub sludge-and-room : written 1 AsGiven (reach-on sludge-out (Given 760) 0 20 0 1 0 weir (Given 0)) ≡ refused (refuse 4 1)
+  pub pressure-and-room : written 1 AsGiven (reach-at pressure-out 0 20 0 1 0 weir (Given 0)) ≡ refused (refuse 4 1)
+  pub take-and-room : written 1 AsGiven (reach 0 20 0 1 0 weir take-out) ≡ refused (refuse 4 1)
+  pub dam-and-room : written 1 AsGiven (reach 0 20 0 1 0 weir-out Without) ≡ refused (refuse 4 1)
   -- rewriting: a rule of reading, then 12
   pub cut-and-room : rewriteAnswer (88 ∷ 86 ∷ 0 ∷ []) 0 ≡ refused (refuse 1 0)
 
 pub record Flowing : Type 0 where
-  -- 7, 8, 9, 10, 13, 11, 14, each with the next rule that the same reach can break
+  -- 7, 8, 9, 10, 13, 15, 11, 14, each with the next rule that the same reach can break
   pub none-and-dam : flowCheck (reach 0 20 0 0 0 weir Without ∷ []) ≡ refused (refuse 7 1)
   pub flow-and-dam : flowCheck (reach 0 20 0 100_000_001 0 weir Without ∷ []) ≡ refused (refuse 8 1)
   pub dam-and-load : flowCheck (reach 0 20 0 1 1_001 weir Without ∷ []) ≡ refused (refuse 9 1)
   pub load-and-rate : flowCheck (reach 0 20 346 1 1_001 Absent Without ∷ []) ≡ refused (refuse 10 1)
   pub load-and-take : flowCheck (reach 0 20 0 1 1_001 Absent (Given 1) ∷ []) ≡ refused (refuse 10 1)
   pub take-and-rate : flowCheck (reach 0 20 346 1 0 Absent (Given 1) ∷ []) ≡ refused (refuse 13 1)
+  pub take-and-range : flowCheck (reach-in nitrification-out Without Without 0 20 0 1 0 Absent (Given 1) ∷ []) ≡ refused (refuse 13 1)
+  pub range-and-rate : flowCheck (reach-in nitrification-out Without Without 0 20 346 1 0 Absent Without ∷ []) ≡ refused (refuse 15 1)
+  pub range-and-bed : flowCheck (reach-in nitrification-out (Given 65_535) Without 0 20 7 1 0 Absent Without ∷ []) ≡ refused (refuse 15 1)
   pub nitrogenous-rate-and-bed : flowCheck (reach-in (Nitrifying 3_457 0 0) (Given 4_321) Without 0 20 100 1 0 Absent Without ∷ []) ≡ refused (refuse 11 1)
   pub take-and-nitrogenous-rate : flowCheck (reach-in (Nitrifying 3_457 0 0) Without Without 0 20 100 1 0 Absent (Given 1) ∷ []) ≡ refused (refuse 13 1)
   pub rate-and-bed : flowCheck (reach-on (Given 4_321) Without 0 20 346 1 0 Absent Without ∷ []) ≡ refused (refuse 11 1)
@@ -164,17 +198,24 @@ pub record Flowing : Type 0 where
   pub bed-past : flowCheck (bed 4_321 1 Without) ≡ refused (refuse 14 1)
   pub bed-by-the-rest-most : flowCheck (bed 4_320 2 (Given 1)) ≡ accepted (bed 4_320 2 (Given 1))
   pub bed-by-the-rest : flowCheck (bed 4_321 2 (Given 1)) ≡ refused (refuse 14 1)
-  -- and 11 or 14 of a reach before 10 of the next
+  -- and 15, 11 or 14 of a reach before 10 of the next
+  pub range-and-next : flowCheck (reach-in nitrification-out Without Without 2 20 0 1 0 Absent Without ∷ reach 0 20 0 1 2_001 Absent Without ∷ []) ≡ refused (refuse 15 1)
   pub rate-and-next : flowCheck (reach 2 20 346 1 0 Absent Without ∷ reach 0 20 0 1 2_001 Absent Without ∷ []) ≡ refused (refuse 11 1)
   pub bed-and-next : flowCheck (reach-on (Given 4_321) Without 2 20 100 1 0 Absent Without ∷ reach 0 20 0 1 2_001 Absent Without ∷ []) ≡ refused (refuse 14 1)
 
 -- THEOREM: whoever breaks two rules of reading gets the earlier one's number
 pub reading-order : Reading
-unfolding readFile readHeader readReaches readReach readOptionals readOptional cardAt countOk inRange outletOk damInRange amountInRange nitrificationInRange need after choose
+unfolding readFile readHeader readRest readReaches readReach readOptionals readOptional cardAt countOk factorInRange factorsInRange inRange outletOk damInRange amountInRange nitrificationInRange need after choose
 reading-order =
     record {
       cut-header = refl;
       wrong-header = refl;
+      count-and-factors = refl;
+      cut-factors = refl;
+      factors-and-reach = refl;
+      second-factor-and-reach = refl;
+      factors-twice = refl;
+      reach-then-factors = refl;
       cut-reach = refl;
       wrong-reach = refl;
       range-and-outlet = refl;
@@ -210,10 +251,13 @@ reading-order =
 
 -- THEOREM: the same for writing and rewriting
 pub writing-order : Writing
-unfolding rewriteAnswer readFile readHeader writeAnswer checkFrom checkCard encode countOk inRange outletOk damInRange amountInRange nitrificationInRange optionalsInRange need after
+unfolding rewriteAnswer readFile readHeader writeAnswer checkRiver checkFrom checkCard encode countOk factorInRange factorsInRange inRange outletOk damInRange amountInRange nitrificationInRange optionalsInRange need after
 writing-order =
     record {
       count-and-range = refl;
+      count-and-factors = refl;
+      factors-and-range = refl;
+      second-factor-and-room = refl;
       range-and-outlet = refl;
       outlet-and-dam = refl;
       outlet-and-take = refl;
@@ -230,7 +274,7 @@ writing-order =
 
 -- THEOREM: the same for the flow check
 pub flow-order : Flowing
-unfolding flowCheck checksFrom reachChecks need damFits fed flowOf massOf feedersAmong joinedIf
+unfolding flowCheck checksFrom reachChecks need damFits ratesInRange fed flowOf massOf feedersAmong joinedIf
 flow-order =
     record {
       none-and-dam = refl;
@@ -239,6 +283,9 @@ flow-order =
       load-and-rate = refl;
       load-and-take = refl;
       take-and-rate = refl;
+      take-and-range = refl;
+      range-and-rate = refl;
+      range-and-bed = refl;
       nitrogenous-rate-and-bed = refl;
       take-and-nitrogenous-rate = refl;
       rate-and-bed = refl;
@@ -248,6 +295,7 @@ flow-order =
       bed-past = refl;
       bed-by-the-rest-most = refl;
       bed-by-the-rest = refl;
+      range-and-next = refl;
       rate-and-next = refl;
       bed-and-next = refl;
     }

@@ -7,23 +7,28 @@ use Rattle.river.specs.declared.refusal.Outcome.{Outcome}
 use Rattle.river.specs.declared.accept.Acceptance.{Acceptance}
 use Rattle.river.specs.declared.card.Card.{Card}
 use Rattle.river.specs.Card.{Lawful, river}
+use Rattle.river.specs.River.{River, LawfulRiver}
+use Rattle.river.specs.Rates.{inForce}
 use Rattle.river.specs.Flow.{Flows, flowCheck}
 use Rattle.river.specs.FlowTable.{Tabled}
 use Rattle.river.specs.Refusal.{outcomeOf, Answer, after}
 use Rattle.river.specs.Read.{readFile}
 use Rattle.river.specs.Write.{encode}
 
--- a river file that was read without refusal goes on to the flow check
+-- a river file that was read without refusal goes on to the flow check of its cards with the rates in force, and these are the answer
 unfoldable pub acceptFile : List ℕ → Answer (List Card)
-acceptFile file = after (readFile file) flowCheck
+acceptFile file = after (readFile file) (λ r. flowCheck (inForce r))
 
--- the file of lawful cards that pass the flow rules
+-- the file of a lawful river whose cards, with the rates in force, pass the flow rules
 pub record AcceptedFile (file : List ℕ) (cards : List Card) : Type 0 where
-  pub bytes : file ≡ encode cards
-  pub lawful : Lawful cards
+  pub river : River
+  pub bytes : file ≡ encode river
+  pub lawful : LawfulRiver river
+  pub in-force : cards ≡ inForce river
   pub flows : Flows cards
 
--- the answer of reading and flow check; the cards of an accepted river are lawful and pass the flow rules, and the tables are theirs
+-- the answer of reading and flow check; the cards of an accepted river are lawful, too, with the rates in force, and pass the flow rules, and
+-- the tables are theirs
 pub record Accepts (file : List ℕ) (r : Acceptance) : Type 0 where
   pub answer : outcomeOf (r .outcome) (river (r .cards)) ≡ acceptFile file
   pub lawful : r .outcome ≡ Outcome.Accepted → Lawful (river (r .cards))

@@ -15,6 +15,10 @@ pub record AreBytes (s : List ℕ) : Type 0 where
 abbrev pub twoBytes : ℕ → List ℕ
 twoBytes x = x / 256 ∷ x % 256 ∷ []
 
+-- a number as two bytes, modulo 65,536, for a field whose numbers in range are smaller
+abbrev pub narrowBytes : ℕ → List ℕ
+narrowBytes x = twoBytes (x % 65_536)
+
 -- a number as four bytes
 abbrev pub fourBytes : ℕ → List ℕ
 fourBytes x = twoBytes (x / 65_536) ++ twoBytes (x % 65_536)

@@ -1,9 +1,9 @@
--- Cards: the ranges of their fields, outlets, the lawful lists of cards, which are the rivers that have a file, and the records of a card.
+-- Cards: the ranges of their fields, outlets, the lawful lists of cards, and the records of a card.
 use mathlib.Core.Path.{_≡_}
 use mathlib.Core.Bool.{Bool, true, false, _&&_, cond}
 use mathlib.Core.List.{List, [], _∷_, _++_}
 use Prim.Native.Char.{code}
-use Prim.Native.Nat.{ℕ, suc, _+_, _*_, _%_, _≤_, _<_}
+use Prim.Native.Nat.{ℕ, suc, _+_, _≤_, _<_}
 use lib.ListN.{length, take}
 use lib.Dec.{leb, ltb, eqb}
 use Rattle.river.specs.declared.card.Card.{Card}
@@ -15,10 +15,12 @@ use Rattle.river.specs.declared.card.Amount.the-variants.{Without, Given
 use Rattle.river.specs.declared.card.Layout.{Layout}
 use Rattle.river.specs.declared.card.Nitrification.{Nitrification}
 use Rattle.river.specs.declared.card.Nitrification.the-variants.{Idle, Nitrifying}
-use Rattle.river.specs.Bytes.{Mark, mark, markBytes, twoBytes, fourBytes, twoAt, fourAt}
+use Rattle.river.specs.declared.source.Demand.the-variants.{Nitrogenous}
+use Rattle.river.specs.Bytes.{Mark, mark, markBytes, twoBytes, narrowBytes, fourBytes, twoAt, fourAt}
 use Rattle.river.specs.Optional.{Kind, Values, encodeOptionals, sizes}
+use Rattle.river.specs.Source.{rateOf}
 
--- the river of a `Cards` value: its first `count` cards; reach i is element i - 1
+-- the cards of a river's `Cards` value: its first `count`; reach i is element i - 1
 abbrev pub river : Cards → List Card
 river cs = take (cs .count) (cs .at)
 
@@ -47,11 +49,9 @@ blank =
       nitrification = Idle;
     }
 
--- the ranges of an `RE` record's fields
+-- the ranges of an `RE` record's fields, its rates aside
 pub record FieldsInRange (c : Card) : Type 0 where
   pub temperature : c .temperature ≤ 35
-  pub k1 : c .k1 ≤ 20_000
-  pub k2 : c .k2 ≤ 20_000
   pub volume : c .volume ≤ 1_000_000_000
   pub inflow : c .inflow ≤ 100_000_000
   pub inflow-bod : c .«inflow_bod» ≤ 1_000_000
@@ -84,22 +84,32 @@ abbrev pub LawfulAmount : Layout → Amount → Type 0
 LawfulAmount l Without = Unit
 LawfulAmount l (Given n) = (l .least ≤ n) × (n ≤ l .most)
 
--- the ranges of an `NT` record's fields; any load that four bytes hold will do
-pub record NitrificationInRange (r c : ℕ) : Type 0 where
-  pub rate : r ≤ 20_000
+-- the ranges of an `NT` record's fields, its rate aside; any load that four bytes hold will do
+pub record NitrificationInRange (c l : ℕ) : Type 0 where
   pub concentration : c ≤ 1_000_000
+  pub load : l < 4_294_967_296
 
--- a nitrification is none, or has its numbers in range
-abbrev pub LawfulNitrification : Nitrification → Type 0
-LawfulNitrification Idle = Unit
-LawfulNitrification (Nitrifying r c l) = NitrificationInRange r c × (l < 4_294_967_296)
+-- a nitrification is none, or has its numbers in range, its rate aside
+abbrev pub RegularNitrification : Nitrification → Type 0
+RegularNitrification Idle = Unit
+RegularNitrification (Nitrifying r c l) = NitrificationInRange c l
+
+-- the most that a rate may be, on a card as in force
+abbrev pub rateMost : ℕ
+rateMost = 20_000
+
+-- the ranges of a card's rates; one without nitrification has a nitrogenous rate of 0
+pub record RatesInRange (c : Card) : Type 0 where
+  pub k1 : c .k1 ≤ rateMost
+  pub k2 : c .k2 ≤ rateMost
+  pub nitrogenous : rateOf Nitrogenous c ≤ rateMost
 
 -- the outlet of reach i of n: a larger number, at most n; 0 for the last reach and for no other
 unfoldable pub outletOk : ℕ → ℕ → ℕ → Bool
 outletOk n i o = cond (eqb i n) (eqb o 0) (ltb i o && leb o n)
 
--- a lawful card of reach i of n; any load that four bytes hold will do
-pub record LawfulCard (n i : ℕ) (c : Card) : Type 0 where
+-- what is asked of the card of reach i of n, its rates aside, so of a card with the rates in force too; any load that four bytes hold will do
+pub record RegularCard (n i : ℕ) (c : Card) : Type 0 where
   pub in-range : FieldsInRange c
   pub load : c .load < 4_294_967_296
   pub outlet : outletOk n i (c .outlet) ≡ true
@@ -107,25 +117,37 @@ pub record LawfulCard (n i : ℕ) (c : Card) : Type 0 where
   pub take : LawfulAmount takeLayout (c .take)
   pub pressure : LawfulAmount pressureLayout (c .pressure)
   pub sludge : LawfulAmount sludgeLayout (c .sludge)
-  pub nitrification : LawfulNitrification (c .nitrification)
+  pub nitrification : RegularNitrification (c .nitrification)
 
--- lawful cards of the reaches from i on, of n
-abbrev pub LawfulFrom : ℕ → ℕ → List Card → Type 0
-LawfulFrom n i [] = Unit
-LawfulFrom n i (c ∷ cs) = LawfulCard n i c × LawfulFrom n (suc i) cs
+-- a lawful card of reach i of n: a regular one with its rates in range
+pub record LawfulCard (n i : ℕ) (c : Card) : Type 0 where
+  pub regular : RegularCard n i c
+  pub rates : RatesInRange c
 
--- lawful cards: 1 to 128 of them, numbered from 1, each lawful
-pub record Lawful (cs : List Card) : Type 0 where
+-- each card of the reaches from i on, of n, is as asked, by the reach count and its number
+abbrev pub EachFrom : (ℕ → ℕ → Card → Type 0) → ℕ → ℕ → List Card → Type 0
+EachFrom asked n i [] = Unit
+EachFrom asked n i (c ∷ cs) = asked n i c × EachFrom asked n (suc i) cs
+
+-- 1 to 128 cards, numbered from 1, each as asked
+pub record Each (asked : ℕ → ℕ → Card → Type 0) (cs : List Card) : Type 0 where
   pub some : 1 ≤ length cs
   pub few : length cs ≤ 128
-  pub each : LawfulFrom (length cs) 1 cs
+  pub each : EachFrom asked (length cs) 1 cs
 
--- the tests of these ranges
+-- lawful cards, and regular ones
+abbrev pub Lawful : List Card → Type 0
+Lawful = Each LawfulCard
+
+abbrev pub Regular : List Card → Type 0
+Regular = Each RegularCard
+
+-- the tests of these ranges; that of a record has its rates, too
 unfoldable pub inRange : Card → Bool
 inRange c =
     leb (c .temperature) 35 &&
-    (leb (c .k1) 20_000 &&
-    (leb (c .k2) 20_000 &&
+    (leb (c .k1) rateMost &&
+    (leb (c .k2) rateMost &&
     (leb (c .volume) 1_000_000_000 &&
     (leb (c .inflow) 100_000_000 && (leb (c .«inflow_bod») 1_000_000 && leb (c .«inflow_oxygen») 20_000)))))
 
@@ -135,7 +157,10 @@ damInRange (Aerating s g) = leb s 1000 && leb g 100_000_000
 
 unfoldable pub nitrificationInRange : Nitrification → Bool
 nitrificationInRange Idle = true
-nitrificationInRange (Nitrifying r c l) = leb r 20_000 && (leb c 1_000_000 && ltb l 4_294_967_296)
+nitrificationInRange (Nitrifying r c l) = leb r rateMost && (leb c 1_000_000 && ltb l 4_294_967_296)
+
+unfoldable pub ratesInRange : Card → Bool
+ratesInRange c = leb (c .k1) rateMost && (leb (c .k2) rateMost && leb (rateOf Nitrogenous c) rateMost)
 
 -- the test of a reach count
 unfoldable pub countOk : ℕ → Bool
@@ -187,10 +212,10 @@ abbrev pub numberAt : (wide : Bool) → List ℕ → ℕ
 numberAt true s = fourAt s 2
 numberAt false s = twoAt s 2
 
--- a number as its bytes; in two bytes modulo 65,536, for a layout whose numbers in range are smaller
+-- a number as its bytes
 abbrev pub numberBytes : (wide : Bool) → ℕ → List ℕ
 numberBytes true n = fourBytes n
-numberBytes false n = twoBytes (n % 65_536)
+numberBytes false n = narrowBytes n
 
 -- the record of an amount, no byte for none
 abbrev pub encodeAmount : Layout → Amount → List ℕ
@@ -235,7 +260,7 @@ nitrificationAt s = Nitrifying (twoAt s 2) (fourAt s 4) (fourAt s 8)
 
 abbrev pub encodeNitrification : Nitrification → List ℕ
 encodeNitrification Idle = []
-encodeNitrification (Nitrifying r c l) = markBytes NT ++ twoBytes r ++ fourBytes c ++ fourBytes l ++ fourBytes 0
+encodeNitrification (Nitrifying r c l) = markBytes NT ++ narrowBytes r ++ fourBytes c ++ fourBytes l ++ fourBytes 0
 
 abbrev pub nitrificationRecord : Kind
 nitrificationRecord =
@@ -264,7 +289,3 @@ sizeOf c = reachBytes + length (encodeOptionals optional (optionalOf c))
 
 abbrev pub longestCard : ℕ
 longestCard = reachBytes + sizes optional
-
--- the length of the longest file: the header, and 128 of the longest cards
-abbrev pub longestFile : ℕ
-longestFile = headerBytes + 128 * longestCard

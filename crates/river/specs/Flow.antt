@@ -1,4 +1,5 @@
--- "Flows and depth" of the river file paper: what flows into a reach, its flow, undecayed BOD and depth, and the flow check.
+-- "Flows and depth" of the river file paper: what flows into a reach, its flow, undecayed BOD and depth, and the flow check. Cards have the rates
+-- in force.
 use mathlib.Core.Path.{_≡_}
 use mathlib.Core.Bool.{Bool, true, false, _&&_}
 use mathlib.Core.List.{List}
@@ -9,7 +10,7 @@ use Rattle.river.specs.declared.card.Dam.{Dam}
 use Rattle.river.specs.declared.card.Dam.the-variants.{Absent, Aerating}
 use Rattle.river.specs.declared.card.Card.{Card}
 use Rattle.river.specs.Refusal.{Answer, accepted, need}
-use Rattle.river.specs.Card.{blank, amountOr}
+use Rattle.river.specs.Card.{blank, amountOr, RatesInRange, ratesInRange}
 use Rattle.river.specs.declared.source.Demand.the-variants.{Bod, Nitrogenous}
 use Rattle.river.specs.Source.{sourceOf, rateOf, sourceMass}
 
@@ -151,6 +152,10 @@ loadRule Qm Mm i = need (leb Mm (massLimit * Qm)) 10 i
 unfoldable pub takeRule : (take Qm i : ℕ) → Checks
 takeRule take Qm i = need (ltb take Qm) 13 i
 
+-- 15: a rate in force, k1, k2 or nitrogenous, above 20,000
+unfoldable pub rangeRule : Card → (i : ℕ) → Checks
+rangeRule card i = need (ratesInRange card) 15 i
+
 -- 11: k1, k2 or the nitrogenous rate, each × volume, above 345,600 × Q
 unfoldable pub rateRules : Card → (Q i : ℕ) → Checks
 rateRules card Q i =
@@ -166,11 +171,12 @@ unfoldable pub checksOf : Card → (fed : Bool) (Qu Qm Mm i : ℕ) → Checks
 checksOf card fed Qu Qm Mm i =
     flowRules (card .dam) fed Qu Qm i then
     loadRule Qm Mm i then
-    takeRule (takeOf card) Qm i then rateRules card (Qm - takeOf card) i then bedRule card (Qm - takeOf card) i
+    takeRule (takeOf card) Qm i then
+    rangeRule card i then rateRules card (Qm - takeOf card) i then bedRule card (Qm - takeOf card) i
 
 -- the checks of reach i with this card, with what flows into it; to unfold them is to unfold their groups
 unfoldable pub reachChecks : Card → Feeders → ℕ → Checks
-unfolding checksOf flowRules loadRule takeRule rateRules bedRule _then_
+unfolding checksOf flowRules loadRule takeRule rangeRule rateRules bedRule _then_
 reachChecks card up i = checksOf card (fed up) (flowOf up) (mixedFlow card up) (mixedMass card up) i
 
 -- the checks by reach number, of m reaches from i on
@@ -187,13 +193,14 @@ unfoldable pub DamRule : Dam → Feeders → Type 0
 DamRule Absent up = Unit
 DamRule (Aerating share generating) up = (fed up ≡ true) × (generating ≤ flowOf up)
 
--- what checks 7 to 11, 13 and 14 ask of a reach with this card, with what flows into it
+-- what checks 7 to 11 and 13 to 15 ask of a reach with this card, with what flows into it
 pub record ReachPasses (card : Card) (up : Feeders) : Type 0 where
   pub flowing : 0 < mixedFlow card up
   pub bounded : mixedFlow card up ≤ flowLimit
   pub dam-rule : DamRule (card .dam) up
   pub mass-rule : mixedMass card up ≤ massLimit * mixedFlow card up
   pub take-rule : takeOf card < mixedFlow card up
+  pub range-rule : RatesInRange card
   pub decay-rule : card .k1 * card .volume ≤ rateLimit * reachFlow card up
   pub aeration-rule : card .k2 * card .volume ≤ rateLimit * reachFlow card up
   pub nitrification-rule : rateOf Nitrogenous card * card .volume ≤ rateLimit * reachFlow card up

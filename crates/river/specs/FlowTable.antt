@@ -4,15 +4,16 @@ use mathlib.Core.Path.{_≡_}
 use mathlib.Core.Bool.{Bool, true, false}
 use mathlib.Core.List.{List}
 use Prim.Native.Nat.{ℕ, zero, suc, _+_, _<_, _≤_, _^_, max}
-use lib.ListN.{length, getD, set, replicate}
+use lib.ListN.{length, getD, replicate}
 use lib.Dec.{eqb}
 use Rattle.river.specs.declared.card.Card.{Card}
 use Rattle.river.specs.declared.refusal.Outcome.{Outcome}
 use Rattle.river.specs.declared.flow.FlowTable.{FlowTable}
 use Rattle.river.specs.declared.flow.Checked.{Checked}
+use Rattle.river.specs.declared.flow.ReachChecked.{ReachChecked}
 use Rattle.river.specs.declared.flow.Upstream.{Upstream}
 use Rattle.river.specs.Refusal.{Answer, outcomeOf, goOn}
-use Rattle.river.specs.Card.{Lawful}
+use Rattle.river.specs.Card.{Regular}
 use Rattle.river.specs.Flow.{Checks, ReachPasses, cardOf, above, flowAt, massAt, depthAt, reachChecks, flowCheck}
 
 -- an outcome of the program decides a group of checks: it goes on, or is refused, as they do
@@ -38,27 +39,23 @@ abbrev pub feederSum : (outlets values : List ℕ) (i : ℕ) → ℕ
 feederSum outlets values i = tableSum outlets values i (suc i)
 
 -- what the sums over the feeders of reach i + 1 need: they fit eight bytes
-pub record SumsFit (t : FlowTable) (i : ℕ) : Type 0 where
+pub record SumsFit (outlets flows masses : List ℕ) (i : ℕ) : Type 0 where
   pub few : i < 128
-  pub flow : feederSum (t .outlet) (t .flow) i < 2 ^ 64
-  pub mass : feederSum (t .outlet) (t .mass) i < 2 ^ 64
+  pub flow : feederSum outlets flows i < 2 ^ 64
+  pub mass : feederSum outlets masses i < 2 ^ 64
 
 -- the sums over the feeders of reach i + 1, and the depth of the deepest
-pub record UpstreamOf (t : FlowTable) (i : ℕ) (up : Upstream) : Type 0 where
-  pub flow : up .flow ≡ feederSum (t .outlet) (t .flow) i
-  pub mass : up .mass ≡ feederSum (t .outlet) (t .mass) i
-  pub deepest : up .deepest ≡ tableMax (t .outlet) (t .depth) i (suc i)
+abbrev pub upstreamOf : (outlets flows masses depths : List ℕ) (i : ℕ) → Upstream
+upstreamOf outlets flows masses depths i =
+    record { flow = feederSum outlets flows i; mass = feederSum outlets masses i; deepest = tableMax outlets depths i (suc i) }
+
+-- the same by the tables of the flow check
+abbrev pub upstreamBy : FlowTable → (i : ℕ) → Upstream
+upstreamBy t i = upstreamOf (t .outlet) (t .flow) (t .mass) (t .depth) i
 
 -- tables of no reach
 abbrev pub noFlows : FlowTable
 noFlows = record { outlet = replicate 128 0; flow = replicate 128 0; mass = replicate 128 0; depth = replicate 128 0 }
-
--- tables with the outlet, flow and undecayed BOD after the take, and depth of reach i + 1 entered
-pub record Entered (t : FlowTable) (i o Q M d : ℕ) (u : FlowTable) : Type 0 where
-  pub outlet : u .outlet ≡ set (t .outlet) i o
-  pub flow : u .flow ≡ set (t .flow) i Q
-  pub mass : u .mass ≡ set (t .mass) i M
-  pub depth : u .depth ≡ set (t .depth) i d
 
 -- tables of the first n reaches: outlet, flow and undecayed BOD after the take, and depth
 pub record Tabled (cards : List Card) (n : ℕ) (t : FlowTable) : Type 0 where
@@ -72,28 +69,32 @@ pub record PassedFirst (cards : List Card) (n : ℕ) (t : FlowTable) : Type 0 wh
   pub sound : (j : ℕ) → j < n → ReachPasses (cardOf cards (suc j)) (above cards (suc j))
   pub tabled : Tabled cards n t
 
--- the flow check of a lawful river, after its first i reaches
+-- the flow check of regular cards, after the first i reaches
 pub record Underway (cards : List Card) (i : ℕ) (t : FlowTable) : Type 0 where
-  pub lawful : Lawful cards
+  pub regular : Regular cards
   pub within : i ≤ length cards
   pub passed : PassedFirst cards i t
 
--- what the check of reach i + 1 yields: its answer, and its tables where it passes
-pub record NextChecked (cards : List Card) (i : ℕ) (r : Checked) : Type 0 where
+-- what the check of reach i + 1 yields: its answer, and where it passes its flow and undecayed BOD after the take and its depth
+pub record NextChecked (cards : List Card) (i : ℕ) (r : ReachChecked) : Type 0 where
   pub answer : Decides (r .outcome) (reachChecks (cardOf cards (suc i)) (above cards (suc i)) (suc i))
-  pub tabled : r .outcome ≡ Outcome.Accepted → Tabled cards (suc i) (r .flows)
+  pub flow : r .outcome ≡ Outcome.Accepted → r .flow ≡ flowAt cards (suc i)
+  pub mass : r .outcome ≡ Outcome.Accepted → r .mass ≡ massAt cards (suc i)
+  pub depth : r .outcome ≡ Outcome.Accepted → r .depth ≡ depthAt cards (suc i)
 
--- what the check of reach i + 1 needs, which is handed its card and not all cards: a river whose first i reaches passed and have these
--- tables, and in which that card is the next
-pub record CheckAt (card : Card) (t : FlowTable) (i : ℕ) : Type 0 where
+-- what the check of reach i + 1 needs, which is handed its card and what flows into it, and no tables: a river whose first i reaches passed,
+-- with tables by which this flows into the next, and in which that card is the next
+pub record CheckAt (card : Card) (up : Upstream) (i : ℕ) : Type 0 where
   pub cards : List Card
-  pub underway : Underway cards i t
+  pub flows : FlowTable
+  pub underway : Underway cards i flows
+  pub gathered : up ≡ upstreamBy flows i
   pub within : i < length cards
   pub own : card ≡ cardOf cards (suc i)
 
 -- for every such river the check yields what it is to yield there
-abbrev pub NextBy : Card → FlowTable → ℕ → Checked → Type 0
-NextBy card t i r = (here : CheckAt card t i) → NextChecked (here .cards) i r
+abbrev pub NextBy : Card → Upstream → ℕ → ReachChecked → Type 0
+NextBy card up i r = (here : CheckAt card up i) → NextChecked (here .cards) i r
 
 -- what the flow check of a river yields: its answer, and the tables of every reach of an accepted river
 pub record FlowChecked (cards : List Card) (r : Checked) : Type 0 where

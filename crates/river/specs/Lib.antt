@@ -2,9 +2,11 @@ pub mod Bytes
 pub mod Refusal
 pub mod Optional
 pub mod Card
+pub mod River
 pub mod Read
 pub mod Write
 pub mod Source
+pub mod Rates
 pub mod Flow
 pub mod Saturation
 pub mod Head

@@ -1,4 +1,4 @@
--- Reading: the cards of a river file, or the first refusal in file order.
+-- Reading: the river of a river file, or the first refusal in file order.
 use mathlib.Core.List.{List, [], _∷_}
 use Prim.Native.Nat.{ℕ, zero, suc, _+_}
 use lib.ListN.{length, drop}
@@ -7,7 +7,9 @@ use Rattle.river.specs.declared.card.Card.{Card}
 use Rattle.river.specs.declared.card.Dam.{Dam}
 use Rattle.river.specs.declared.card.Amount.{Amount}
 use Rattle.river.specs.declared.card.Nitrification.{Nitrification}
+use Rattle.river.specs.declared.card.RateFactors.{RateFactors}
 use Rattle.river.specs.declared.refusal.Refusal.{Refusal}
+use Rattle.river.specs.declared.read.FactorsRead.{FactorsRead}
 use Rattle.river.specs.declared.read.DamRead.{DamRead}
 use Rattle.river.specs.declared.read.AmountRead.{AmountRead}
 use Rattle.river.specs.declared.read.NitrificationRead.{NitrificationRead}
@@ -15,8 +17,9 @@ use Rattle.river.specs.declared.read.Header.{Header}
 use Rattle.river.specs.declared.read.Reach.{Reach}
 use Rattle.river.specs.Bytes.{byteAt, twoAt, fourAt, marked}
 use Rattle.river.specs.Card.{RV, RE, headerBytes, reachBytes, optional, countOk, inRange, outletOk, sizeOf}
-use Rattle.river.specs.Optional.{Values, absent, readOptionals}
+use Rattle.river.specs.Optional.{Values, absent, readOptional, readOptionals}
 use Rattle.river.specs.Refusal.{Answer, accepted, refused, refuse, need, after}
+use Rattle.river.specs.River.{River, riverOf, encodeFactors, factorsRecord}
 
 -- the header of a file: 1, 2, 3, with reach 0, or the reach count
 unfoldable pub readHeader : List ℕ → Answer ℕ
@@ -60,14 +63,24 @@ readReaches n i (suc m) s =
     after (readReach n i s)
     (λ c. after (readReaches n (suc i) m (drop (sizeOf c) s)) (λ cs. accepted (c ∷ cs)))
 
--- a river file: the header, then card after card
-unfoldable pub readFile : List ℕ → Answer (List Card)
-readFile s = after (readHeader s) (λ n. readReaches n 1 n (drop headerBytes s))
+-- the rate factors, with reach 0, where `TH` is the mark behind the header, and then card after card, of n
+unfoldable pub readRest : ℕ → List ℕ → Answer River
+readRest n s =
+    after (readOptional factorsRecord 0 s)
+    (λ f. after (readReaches n 1 n (drop (length (encodeFactors f)) s)) (λ cs. accepted (riverOf f cs)))
 
--- the answers of the program, case by case: the header's, a dam's, an amount's, a nitrification's, and a reach's at a position
+-- a river file: the header, and what follows it
+unfoldable pub readFile : List ℕ → Answer River
+readFile s = after (readHeader s) (λ n. readRest n (drop headerBytes s))
+
+-- the answers of the program, case by case: the header's, the factors', a dam's, an amount's, a nitrification's, and a reach's at a position
 abbrev pub headerOf : Answer ℕ → Header
 headerOf (accepted n) = Header.Count n headerBytes
 headerOf (refused r) = Header.Refused r
+
+abbrev pub factorsReadOf : Answer RateFactors → FactorsRead
+factorsReadOf (accepted f) = FactorsRead.Found f
+factorsReadOf (refused r) = FactorsRead.Refused r
 
 abbrev pub damOf : Answer Dam → DamRead
 damOf (accepted d) = DamRead.Found d
@@ -89,6 +102,10 @@ reachOf at (refused r) = Reach.Refused r
 abbrev pub headerRefusal : Header → Refusal
 headerRefusal (Header.Count n next) = refuse 0 0
 headerRefusal (Header.Refused r) = r
+
+abbrev pub factorsRefusal : FactorsRead → Refusal
+factorsRefusal (FactorsRead.Found f) = refuse 0 0
+factorsRefusal (FactorsRead.Refused r) = r
 
 abbrev pub damRefusal : DamRead → Refusal
 damRefusal (DamRead.Found d) = refuse 0 0

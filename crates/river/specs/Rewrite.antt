@@ -1,18 +1,17 @@
--- A file that is read and written back, and cards that are written and read back.
+-- A file that is read and written back, and a river that is written and read back.
 use mathlib.Core.Path.{_≡_}
 use mathlib.Core.Logic.{_↔_}
 use mathlib.Core.List.{List, _++_}
 use Prim.Native.Nat.{ℕ, _≤_}
 use lib.ListN.{length, drop}
 use lib.Dec.{leb}
-use Rattle.river.specs.declared.card.Card.{Card}
 use Rattle.river.specs.declared.refusal.Outcome.{Outcome}
 use Rattle.river.specs.declared.file.Reading.{Reading}
 use Rattle.river.specs.declared.write.Written.{Written}
-use Rattle.river.specs.Card.{river}
+use Rattle.river.specs.River.{River}
 use Rattle.river.specs.Refusal.{Answer, accepted, refused, need, after, outcomeOf}
 use Rattle.river.specs.Read.{readFile}
-use Rattle.river.specs.File.{answerOf, IsFile}
+use Rattle.river.specs.File.{riverRead, answerOf, IsFile}
 use Rattle.river.specs.Write.{encode, writeAnswer, bufferWritten, HasRoom}
 
 -- rewriting refuses as reading, then 12 with reach 0 for a buffer shorter than the file
@@ -24,10 +23,10 @@ unfoldable pub bufferRewritten : Answer Unit → (file before : List ℕ) → Li
 bufferRewritten (accepted u) file before = file ++ drop (length file) before
 bufferRewritten (refused r) file before = before
 
--- the file is that of lawful cards, and a buffer of so many bytes can hold it
+-- the file is that of a lawful river, and a buffer of so many bytes can hold it
 pub record Rewritable (file : List ℕ) (room : ℕ) : Type 0 where
-  pub cards : List Card
-  pub is-file : IsFile file cards
+  pub river : River
+  pub is-file : IsFile file river
   pub holds : length file ≤ room
 
 -- a file is read and written back: the outcome, when it is accepted, and the whole buffer
@@ -41,13 +40,13 @@ abbrev pub WrittenFits : Written → ℕ → Type 0
 WrittenFits (Written.Length l) room = l ≤ room
 WrittenFits (Written.Refused r) room = Unit
 
--- the answer where cards are written and their file is read: the refusal of writing, or the cards themselves
-abbrev pub cardsBack : List Card → ℕ → Answer (List Card)
-cardsBack cs room = after (writeAnswer (length cs) cs room) (λ _. accepted cs)
+-- the answer where a river is written and its file is read: the refusal of writing, or the river itself
+abbrev pub riverBack : River → ℕ → Answer River
+riverBack x room = after (writeAnswer (length (x .cards)) x room) (λ _. accepted x)
 
--- cards are written and their file is read: the reading, when it is accepted, the cards that it has, and the whole buffer
-pub record ReadsBack (cs : List Card) (before : List ℕ) (r : Reading) (left : List ℕ) : Type 0 where
-  pub answer : answerOf r ≡ cardsBack cs (length before)
-  pub exactly : (r .outcome ≡ Outcome.Accepted) ↔ HasRoom cs (length before) (length (encode cs))
-  pub same : r .outcome ≡ Outcome.Accepted → river (r .cards) ≡ cs
-  pub buffer : left ≡ bufferWritten (writeAnswer (length cs) cs (length before)) cs before
+-- a river is written and its file is read: the reading, when it is accepted, the river that it has, and the whole buffer
+pub record ReadsBack (x : River) (before : List ℕ) (r : Reading) (left : List ℕ) : Type 0 where
+  pub answer : answerOf r ≡ riverBack x (length before)
+  pub exactly : (r .outcome ≡ Outcome.Accepted) ↔ HasRoom x (length before) (length (encode x))
+  pub same : r .outcome ≡ Outcome.Accepted → riverRead r ≡ x
+  pub buffer : left ≡ bufferWritten (writeAnswer (length (x .cards)) x (length before)) x before

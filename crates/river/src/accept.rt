@@ -1,13 +1,14 @@
-// Acceptance of a river file: reading, then the flow check.
+// Acceptance of a river file: reading, then the flow check of its cards with the rates in force.
 ghost use Rattle.river.specs.Accept.{Accepts};
 use crate::card::Cards;
 use crate::file::read_file;
 use crate::flow::FlowTable;
 use crate::flow::flow_check;
 use crate::flow::no_flows;
+use crate::rates::in_force;
 use crate::refusal::Outcome;
 
-// What reading and the flow check of a file yield: the cards and their flows if the river is accepted, or a refusal.
+// What reading and the flow check of a file yield: the cards with the rates in force and their flows if the river is accepted, or a refusal.
 pub struct Acceptance {
     pub outcome: Outcome,
     pub cards: Cards,
@@ -19,9 +20,9 @@ pub fn accept(file: &[u8]) -> Acceptance
     ensures { λ r. ⌜ Accepts (now (file .entry)) r ⌝ }
 {
     let reading = read_file(file);
-    let cards = reading.cards;
     let read = reading.outcome;
     let Outcome::Accepted = read else {
+        let cards = reading.cards;
         let flows = no_flows();
         return Acceptance {
             outcome: read,
@@ -29,6 +30,8 @@ pub fn accept(file: &[u8]) -> Acceptance
             flows,
         };
     };
+    let factors = reading.factors;
+    let cards = in_force(factors, reading.cards);
     let checked = flow_check(cards);
     let outcome = checked.outcome;
     let flows = checked.flows;

@@ -3,7 +3,7 @@ ghost use mathlib.Core.Path.{_≡_};
 ghost use mathlib.Core.List.{[], _∷_};
 ghost use Prim.Native.Nat.{_+_, _≤_, _<_};
 ghost use lib.ListN.{length, drop};
-ghost use Rattle.river.specs.Bytes.{byteAt, twoAt, fourAt, mark, marked, twoBytes, fourBytes, Put};
+ghost use Rattle.river.specs.Bytes.{byteAt, twoAt, fourAt, mark, marked, twoBytes, narrowBytes, fourBytes, Put};
 
 // The byte at a place, 0 past the end.
 pub fn byte_at(s: &[u8], k: usize) -> u8
@@ -79,11 +79,22 @@ pub fn put_two(out: &mut [u8], at: usize, x: u16) -> usize
     put_pair(out, at, (x / 256) as u8, (x % 256) as u8)
 }
 
+// How many numbers two bytes hold.
+const TWO_BYTES: u32 = 65_536;
+
+// A number as two bytes, modulo 65,536.
+pub fn put_narrow(out: &mut [u8], at: usize, x: u32) -> usize
+    requires { ⌜ at + 2 ≤ length (now out) ⌝ }
+    ensures { λ r. ⌜ Put (now (out .entry)) at (narrowBytes x) (now (out .exit)) r ⌝ }
+{
+    put_two(out, at, (x % TWO_BYTES) as u16)
+}
+
 // A number as four bytes.
 pub fn put_four(out: &mut [u8], at: usize, x: u32) -> usize
     requires { ⌜ at + 4 ≤ length (now out) ⌝ }
     ensures { λ r. ⌜ Put (now (out .entry)) at (fourBytes x) (now (out .exit)) r ⌝ }
 {
-    let next = put_two(out, at, (x / 65_536) as u16);
-    put_two(out, next, (x % 65_536) as u16)
+    let next = put_two(out, at, (x / TWO_BYTES) as u16);
+    put_two(out, next, (x % TWO_BYTES) as u16)
 }

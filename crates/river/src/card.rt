@@ -1,10 +1,13 @@
-// One reach of a river file.
+// The cards of a river, and its rate factors.
 ghost use mathlib.Core.Path.{_≡_};
 ghost use lib.ListN.{length};
-ghost use Rattle.river.specs.Card.{blank, encodeDam, layoutSize, encodeAmount, amountOr, encodeNitrification, sizeOf, longestFile};
+ghost use Rattle.river.specs.Card.{blank, encodeDam, layoutSize, encodeAmount, amountOr, encodeNitrification, sizeOf};
+ghost use Rattle.river.specs.River.{encodeFactors, longestFile};
 
-// The lengths of the records `RV`, `RE`, `DM`, `WD`, `BP`, `SD` and `NT`.
+// The lengths of the records `RV`, `TH`, `RE`, `DM`, `WD`, `BP`, `SD` and `NT`.
 pub const HEADER_BYTES: usize = 4;
+
+pub const FACTORS_BYTES: usize = 6;
 
 pub const REACH_BYTES: usize = 26;
 
@@ -37,7 +40,7 @@ pub const LONGEST_CARD: usize = REACH_BYTES
     + SLUDGE_BYTES
     + NITRIFICATION_BYTES;
 
-pub const LONGEST_FILE: usize = HEADER_BYTES + REACHES * LONGEST_CARD;
+pub const LONGEST_FILE: usize = HEADER_BYTES + FACTORS_BYTES + REACHES * LONGEST_CARD;
 
 // A dam is either none or an aeration share, in thousandths, with a generating flow, in litres a second.
 pub enum Dam {
@@ -50,10 +53,17 @@ pub enum Dam {
 pub enum Nitrification {
     Idle,
     Nitrifying {
-        rate: u16,
+        rate: u32,
         concentration: u32,
         load: u32,
     },
+}
+
+// The rate factors of a river are either none, and its rates are in force as its cards give them, or two, in thousandths for each degree: one
+// for the decay of both demands and one for surface aeration.
+pub enum RateFactors {
+    AsGiven,
+    PerDegree { decay: u16, aeration: u16 },
 }
 
 // A number that a card has or has not.
@@ -99,13 +109,14 @@ pub(crate) const SLUDGE: Layout = Layout {
 };
 
 // A reach card: the numbers of its `RE` record, the short ones first so that there is no padding between them, its dam, its take in litres a
-// second, its pressure in mm of mercury, the demand of its sludge bed, in thousandths of mg/L a day, and its nitrification.
+// second, its pressure in mm of mercury, the demand of its sludge bed, in thousandths of mg/L a day, and its nitrification. A rate has two bytes in
+// a file; a card with the rates in force may have larger ones, which check 15 refuses.
 pub struct Card {
     pub outlet: u8,
     pub temperature: u8,
-    pub k1: u16,
-    pub k2: u16,
     pub inflow_oxygen: u16,
+    pub k1: u32,
+    pub k2: u32,
     pub volume: u32,
     pub inflow: u32,
     pub inflow_bod: u32,
@@ -169,6 +180,19 @@ pub(crate) fn nitrification_size(nitrification: Nitrification) -> usize
             concentration: _,
             load: _,
         } => NITRIFICATION_BYTES,
+    }
+}
+
+// The length of the record of rate factors, if there is one.
+pub(crate) fn factors_size(factors: RateFactors) -> usize
+    ensures { λ r. ⌜ r ≡ length (encodeFactors factors) ⌝ }
+{
+    match factors {
+        RateFactors::AsGiven => 0,
+        RateFactors::PerDegree {
+            decay: _,
+            aeration: _,
+        } => FACTORS_BYTES,
     }
 }
 

@@ -4,6 +4,7 @@ ghost use Rattle.river.specs.Reader.{ReadingIsOver};
 ghost use Rattle.river.specs.File.{Yields, Reads};
 use crate::card::Cards;
 use crate::card::REACHES;
+use crate::card::RateFactors;
 use crate::card::blank;
 use crate::reader::Progress;
 use crate::reader::begin;
@@ -12,9 +13,10 @@ use crate::refusal::Outcome;
 use crate::refusal::Refusal;
 use crate::refusal::refuse;
 
-// What reading a file yields: the cards if it was accepted, or a refusal and no card.
+// What reading a file yields: the river's rate factors and cards if it was accepted, or a refusal and no card.
 pub struct Reading {
     pub outcome: Outcome,
+    pub factors: RateFactors,
     pub cards: Cards,
 }
 
@@ -26,11 +28,12 @@ pub fn refused(r: Refusal) -> Reading
     let at = [none; REACHES];
     Reading {
         outcome: Outcome::Refused(r),
+        factors: RateFactors::AsGiven,
         cards: Cards { at, count: 0 },
     }
 }
 
-// The end of reading: the cards if no byte of the file remains, or the refusal.
+// The end of reading: the river if no byte of the file remains, or the refusal.
 pub fn finish(p: Progress, file: &[u8]) -> Reading
     requires { ⌜ ReadingIsOver (now file) p ⌝ }
     ensures { λ r. ⌜ Reads (now (file .entry)) r ⌝ }
@@ -43,8 +46,10 @@ pub fn finish(p: Progress, file: &[u8]) -> Reading
                 return refused(refuse(6, 0));
             }
             let cards = p.at;
+            let factors = p.factors;
             Reading {
                 outcome,
+                factors,
                 cards: Cards {
                     at: cards,
                     count: p.count,
@@ -54,7 +59,7 @@ pub fn finish(p: Progress, file: &[u8]) -> Reading
     }
 }
 
-// A river file: the header, then card after card, then its end.
+// A river file: its opening, then card after card, then its end.
 pub fn read_file(file: &[u8]) -> Reading
     ensures { λ r. ⌜ Reads (now (file .entry)) r ⌝ }
 {

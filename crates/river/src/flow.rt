@@ -3,15 +3,16 @@ ghost use mathlib.Core.Path.{_≡_};
 ghost use Prim.Native.Nat.{_<_, _≤_, _^_, max};
 ghost use lib.Dec.{ltb};
 ghost use lib.ListN.{length};
-ghost use Rattle.river.specs.Card.{Lawful, river};
+ghost use Rattle.river.specs.Card.{Regular, river};
 ghost use Rattle.river.specs.Source.{SourcesInRange};
-ghost use Rattle.river.specs.Flow.{flowLimit, takeOf, sludgeOf, ownMass, remainingMass, damFits, rateFits, flowRules, loadRule, takeRule, rateRules, bedRule, checksOf};
-ghost use Rattle.river.specs.FlowTable.{Decides, tableSum, tableMax, SumsFit, UpstreamOf, noFlows, Entered, Underway, CheckAt, NextBy, FlowChecked};
+ghost use Rattle.river.specs.Flow.{flowLimit, takeOf, sludgeOf, ownMass, remainingMass, damFits, rateFits, flowRules, loadRule, takeRule, rangeRule, rateRules, bedRule, checksOf};
+ghost use Rattle.river.specs.FlowTable.{Decides, tableSum, tableMax, SumsFit, upstreamOf, noFlows, Underway, CheckAt, NextBy, FlowChecked};
 use crate::card::Card;
 use crate::card::Cards;
 use crate::card::Dam;
 use crate::card::REACHES;
 use crate::card::amount_or;
+use crate::range::rates_in_range;
 use crate::refusal::Outcome;
 use crate::refusal::refuse;
 use crate::source::Demand;
@@ -43,6 +44,14 @@ pub struct FlowTable {
 pub struct Checked {
     pub outcome: Outcome,
     pub flows: FlowTable,
+}
+
+// What the check of a reach yields: its flow and undecayed BOD after the take and its depth if it passes, or a refusal.
+pub struct ReachChecked {
+    pub outcome: Outcome,
+    pub flow: u64,
+    pub mass: u64,
+    pub depth: u8,
 }
 
 // What flows into a reach: the sums of its feeders' flow and undecayed BOD, and the depth of the deepest.
@@ -96,15 +105,21 @@ fn feeder_depth<'a>(outlet: &'a [u8; REACHES], depth: &'a [u8; REACHES], n: usiz
     deepest
 }
 
-// What flows into the reach after the first n.
-fn upstream_of(flows: FlowTable, n: usize) -> Upstream
-    requires { ⌜ SumsFit flows n ⌝ }
-    ensures { λ r. ⌜ UpstreamOf flows n r ⌝ }
+// What flows into reach i + 1, by tables of the reaches before.
+fn upstream_of<'a>(
+    outlet: &'a [u8; REACHES],
+    flow: &'a [u64; REACHES],
+    mass: &'a [u64; REACHES],
+    depth: &'a [u8; REACHES],
+    i: usize,
+) -> Upstream
+    requires { ⌜ SumsFit (now outlet) (now flow) (now mass) i ⌝ }
+    ensures { λ r. ⌜ r ≡ upstreamOf (now (outlet .entry)) (now (flow .entry)) (now (mass .entry)) (now (depth .entry)) i ⌝ }
 {
-    let reach = (n + 1) as u8;
-    let flow = feeder_sum(&flows.outlet, &flows.flow, n, reach);
-    let mass = feeder_sum(&flows.outlet, &flows.mass, n, reach);
-    let deepest = feeder_depth(&flows.outlet, &flows.depth, n, reach);
+    let reach = (i + 1) as u8;
+    let flow = feeder_sum(outlet, flow, i, reach);
+    let mass = feeder_sum(outlet, mass, i, reach);
+    let deepest = feeder_depth(outlet, depth, i, reach);
     Upstream {
         flow,
         mass,
@@ -132,7 +147,7 @@ fn dam_fits(dam: Dam, up: Upstream) -> bool
 }
 
 // Whether a rate passes check 11.
-fn rate_fits(rate: u16, volume: u32, flow: u64) -> bool
+fn rate_fits(rate: u32, volume: u32, flow: u64) -> bool
     requires { ⌜ flow ≤ flowLimit ⌝ }
     ensures { λ r. ⌜ r ≡ rateFits rate volume flow ⌝ }
 {
@@ -172,6 +187,16 @@ fn take_rule(take: u64, flow: u64, reach: u8) -> Outcome
 {
     if flow <= take {
         return Outcome::Refused(refuse(13, reach));
+    }
+    Outcome::Accepted
+}
+
+// Check 15.
+fn range_rule(card: Card, reach: u8) -> Outcome
+    ensures { λ r. ⌜ Decides r (rangeRule card reach) ⌝ }
+{
+    if !rates_in_range(card) {
+        return Outcome::Refused(refuse(15, reach));
     }
     Outcome::Accepted
 }
@@ -239,6 +264,10 @@ fn check(card: Card, up: Upstream, flow: u64, mass: u64, reach: u8) -> Outcome
     let Outcome::Accepted = taken else {
         return taken;
     };
+    let ranges = range_rule(card, reach);
+    let Outcome::Accepted = ranges else {
+        return ranges;
+    };
     let left = flow - take;
     let rates = rate_rules(card, left, reach);
     let Outcome::Accepted = rates else {
@@ -265,36 +294,32 @@ fn remaining_mass(take: u64, flow: u64, mass: u64) -> u64
     if most < left { most } else { left }
 }
 
-// The tables with one more reach.
-fn entered(flows: FlowTable, i: usize, outlet: u8, flow: u64, mass: u64, depth: u8) -> FlowTable
-    requires { ⌜ i < 128 ⌝ }
-    ensures { λ r. ⌜ Entered flows i outlet flow mass depth r ⌝ }
+// The check of reach i + 1, which has this card, by what flows into it. What passes is told as it is after its take.
+fn check_next(card: Card, up: Upstream, i: usize) -> ReachChecked
+    requires { ⌜ CheckAt card up i ⌝ }
+    ensures { λ r. ⌜ NextBy card up i r ⌝ }
 {
-    let mut flows = flows;
-    flows.outlet[i] = outlet;
-    flows.flow[i] = flow;
-    flows.mass[i] = mass;
-    flows.depth[i] = depth;
-    flows
-}
-
-// The check of the reach after the first i, which passed; it has this card. A refusal enters nothing; what passes is entered as it is after its
-// take.
-fn check_next(card: Card, flows: FlowTable, i: usize) -> Checked
-    requires { ⌜ CheckAt card flows i ⌝ }
-    ensures { λ r. ⌜ NextBy card flows i r ⌝ }
-{
-    let up = upstream_of(flows, i);
     let flow = up.flow + card.inflow as u64;
     let mass = up.mass + own_mass(card);
     let outcome = check(card, up, flow, mass, (i + 1) as u8);
     let Outcome::Accepted = outcome else {
-        return Checked { outcome, flows };
+        return ReachChecked {
+            outcome,
+            flow: 0,
+            mass: 0,
+            depth: 0,
+        };
     };
     let take = take_of(card);
-    let left = remaining_mass(take, flow, mass);
-    let flows = entered(flows, i, card.outlet, flow - take, left, up.deepest + 1);
-    Checked { outcome, flows }
+    let left = flow - take;
+    let mass = remaining_mass(take, flow, mass);
+    let depth = up.deepest + 1;
+    ReachChecked {
+        outcome,
+        flow: left,
+        mass,
+        depth,
+    }
 }
 
 // How many reaches the river of the cards has.
@@ -328,12 +353,16 @@ pub fn check_from(cards: Cards, flows: FlowTable, i: usize) -> Checked
     let mut i = i;
     while i < count {
         let card = cards.at[i];
-        let next = check_next(card, flows, i);
+        let up = upstream_of(&flows.outlet, &flows.flow, &flows.mass, &flows.depth, i);
+        let next = check_next(card, up, i);
         let outcome = next.outcome;
         let Outcome::Accepted = outcome else {
-            return next;
+            return Checked { outcome, flows };
         };
-        flows = next.flows;
+        flows.outlet[i] = card.outlet;
+        flows.flow[i] = next.flow;
+        flows.mass[i] = next.mass;
+        flows.depth[i] = next.depth;
         i = i + 1;
     }
     Checked {
@@ -342,9 +371,9 @@ pub fn check_from(cards: Cards, flows: FlowTable, i: usize) -> Checked
     }
 }
 
-// The flow check of a river. `accept` has lawful cards from its reading.
+// The flow check of a river, by its cards with the rates in force. `accept` has regular cards from its reading and their correction.
 pub(crate) fn flow_check(cards: Cards) -> Checked
-    requires { ⌜ Lawful (river cards) ⌝ }
+    requires { ⌜ Regular (river cards) ⌝ }
     ensures { λ r. ⌜ FlowChecked (river cards) r ⌝ }
 {
     check_from(cards, no_flows(), 0)

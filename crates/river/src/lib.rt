@@ -7,6 +7,7 @@ pub mod flow;
 pub mod head;
 pub mod put;
 pub mod range;
+pub mod rates;
 pub mod read;
 pub mod reader;
 pub mod refusal;

@@ -2,11 +2,13 @@
 ghost use Prim.Native.Nat.{_+_, _≤_};
 ghost use mathlib.Core.List.{_∷_, _++_};
 ghost use lib.ListN.{length};
-ghost use Rattle.river.specs.Bytes.{Put, markBytes, twoBytes, fourBytes};
+ghost use Rattle.river.specs.Bytes.{Put, markBytes, twoBytes, narrowBytes, fourBytes};
 ghost use Rattle.river.specs.Card.{RE, headerBytes, reachBytes, encodeDam, encodeAmount, encodeNitrification, optional, optionalOf, sizeOf};
 ghost use Rattle.river.specs.Optional.{encodeOptionals};
-ghost use Rattle.river.specs.Write.{encodeReach, encodeCard, encodeHeader};
+ghost use Rattle.river.specs.River.{encodeFactors, openingSize};
+ghost use Rattle.river.specs.Write.{encodeReach, encodeCard, encodeHeader, encodeOpening};
 use crate::bytes::put_four;
+use crate::bytes::put_narrow;
 use crate::bytes::put_pair;
 use crate::bytes::put_two;
 use crate::card::Amount;
@@ -15,11 +17,9 @@ use crate::card::Dam;
 use crate::card::Layout;
 use crate::card::Nitrification;
 use crate::card::PRESSURE;
+use crate::card::RateFactors;
 use crate::card::SLUDGE;
 use crate::card::TAKE;
-
-// How many numbers two bytes hold.
-const TWO_BYTES: u32 = 65_536;
 
 // The `RV` record of a reach count.
 pub fn put_header(out: &mut [u8], count: u16) -> usize
@@ -30,15 +30,37 @@ pub fn put_header(out: &mut [u8], count: u16) -> usize
     put_two(out, next, count)
 }
 
+// The `TH` record of rate factors, if there are some.
+fn put_factors(out: &mut [u8], at: usize, factors: RateFactors) -> usize
+    requires { ⌜ at + length (encodeFactors factors) ≤ length (now out) ⌝ }
+    ensures { λ r. ⌜ Put (now (out .entry)) at (encodeFactors factors) (now (out .exit)) r ⌝ }
+{
+    let RateFactors::PerDegree { decay, aeration } = factors else {
+        return at;
+    };
+    let next = put_pair(out, at, b'T', b'H');
+    let next = put_two(out, next, decay);
+    put_two(out, next, aeration)
+}
+
+// The opening of a file: the header, and the record of rate factors, if there are some.
+pub fn put_opening(out: &mut [u8], count: u16, factors: RateFactors) -> usize
+    requires { ⌜ openingSize factors ≤ length (now out) ⌝ }
+    ensures { λ r. ⌜ Put (now (out .entry)) 0 (encodeOpening count factors) (now (out .exit)) r ⌝ }
+{
+    let next = put_header(out, count);
+    put_factors(out, next, factors)
+}
+
 // The start of a card's `RE` record: its mark, outlet, temperature and rates.
 fn put_rates(out: &mut [u8], at: usize, c: Card) -> usize
     requires { ⌜ at + 8 ≤ length (now out) ⌝ }
-    ensures { λ r. ⌜ Put (now (out .entry)) at (markBytes RE ++ c .outlet ∷ c .temperature ∷ twoBytes (c .k1) ++ twoBytes (c .k2)) (now (out .exit)) r ⌝ }
+    ensures { λ r. ⌜ Put (now (out .entry)) at (markBytes RE ++ c .outlet ∷ c .temperature ∷ narrowBytes (c .k1) ++ narrowBytes (c .k2)) (now (out .exit)) r ⌝ }
 {
     let next = put_pair(out, at, b'R', b'E');
     let next = put_pair(out, next, c.outlet, c.temperature);
-    let next = put_two(out, next, c.k1);
-    put_two(out, next, c.k2)
+    let next = put_narrow(out, next, c.k1);
+    put_narrow(out, next, c.k2)
 }
 
 // The middle of a card's `RE` record: its volume, inflow and inflow BOD.
@@ -95,7 +117,7 @@ fn put_amount(out: &mut [u8], at: usize, layout: Layout, amount: Amount) -> usiz
     if layout.wide {
         return put_four(out, next, n);
     }
-    put_two(out, next, (n % TWO_BYTES) as u16)
+    put_narrow(out, next, n)
 }
 
 // The `NT` record of a nitrification, if there is one.
@@ -112,7 +134,7 @@ fn put_nitrification(out: &mut [u8], at: usize, nitrification: Nitrification) ->
         return at;
     };
     let next = put_pair(out, at, b'N', b'T');
-    let next = put_two(out, next, rate);
+    let next = put_narrow(out, next, rate);
     let next = put_four(out, next, concentration);
     let next = put_four(out, next, load);
     put_four(out, next, 0)

@@ -1,7 +1,8 @@
-// The tests that reading and writing share: ranges, outlets and the reach count.
+// The tests that reading and writing share: ranges, outlets and the reach count; and that of check 15.
 ghost use mathlib.Core.Path.{_≡_};
-ghost use Rattle.river.specs.Card.{optional, optionalOf, inRange, damInRange, amountInRange, nitrificationInRange, outletOk, countOk};
+ghost use Rattle.river.specs.Card.{optional, optionalOf, inRange, damInRange, amountInRange, nitrificationInRange, ratesInRange, outletOk, countOk};
 ghost use Rattle.river.specs.Optional.{optionalsInRange};
+ghost use Rattle.river.specs.River.{factorInRange, factorsInRange};
 use crate::card::Amount;
 use crate::card::Card;
 use crate::card::Dam;
@@ -10,13 +11,16 @@ use crate::card::Layout;
 use crate::card::Nitrification;
 use crate::card::PRESSURE;
 use crate::card::REACHES;
+use crate::card::RateFactors;
 use crate::card::SLUDGE;
 use crate::card::TAKE;
+use crate::source::Demand;
+use crate::source::rate_of;
 
-// The largest values of the fields of `RE`, `DM` and `NT` records.
+// The largest values of the fields of `RE`, `DM` and `NT` records; that of a rate is the limit of check 15, too.
 const TEMPERATURE_MOST: u8 = 35;
 
-const RATE_MOST: u16 = 20_000;
+const RATE_MOST: u32 = 20_000;
 
 const VOLUME_MOST: u32 = 1_000_000_000;
 
@@ -25,6 +29,11 @@ const BOD_MOST: u32 = 1_000_000;
 const OXYGEN_MOST: u16 = 20_000;
 
 const SHARE_MOST: u16 = 1_000;
+
+// The range of a rate factor.
+const FACTOR_LEAST: u16 = 1_000;
+
+const FACTOR_MOST: u16 = 1_100;
 
 // Whether the fields of a card's `RE` record are in range.
 pub fn in_range(c: Card) -> bool
@@ -49,6 +58,19 @@ pub fn in_range(c: Card) -> bool
         return false;
     }
     c.inflow_oxygen <= OXYGEN_MOST
+}
+
+// Whether the rates of a card are in range.
+pub(crate) fn rates_in_range(c: Card) -> bool
+    ensures { λ r. ⌜ r ≡ ratesInRange c ⌝ }
+{
+    if RATE_MOST < c.k1 {
+        return false;
+    }
+    if RATE_MOST < c.k2 {
+        return false;
+    }
+    rate_of(Demand::Nitrogenous, c) <= RATE_MOST
 }
 
 // Whether the fields of a dam's `DM` record are in range.
@@ -93,6 +115,29 @@ pub(crate) fn nitrification_in_range(n: Nitrification) -> bool
         return false;
     }
     concentration <= BOD_MOST
+}
+
+// Whether a rate factor is in range.
+fn factor_in_range(factor: u16) -> bool
+    ensures { λ r. ⌜ r ≡ factorInRange factor ⌝ }
+{
+    if factor < FACTOR_LEAST {
+        return false;
+    }
+    factor <= FACTOR_MOST
+}
+
+// Whether the fields of the `TH` record of rate factors are in range.
+pub(crate) fn factors_in_range(factors: RateFactors) -> bool
+    ensures { λ r. ⌜ r ≡ factorsInRange factors ⌝ }
+{
+    let RateFactors::PerDegree { decay, aeration } = factors else {
+        return true;
+    };
+    if !factor_in_range(decay) {
+        return false;
+    }
+    factor_in_range(aeration)
 }
 
 // Whether the fields of the records that follow a card's `RE` record are in range.

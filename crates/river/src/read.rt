@@ -5,7 +5,8 @@ ghost use lib.ListN.{drop};
 ghost use Rattle.river.specs.Card.{reachBytes, damRecord, amountRecord, numberAt, nitrificationRecord, optional};
 ghost use Rattle.river.specs.Optional.{readOptional, readOptionals};
 ghost use Rattle.river.specs.Refusal.{accepted, after};
-ghost use Rattle.river.specs.Read.{readHeader, headerOf, headerRefusal, cardAt, damOf, damRefusal, amountOf, amountRefusal, nitrificationOf, nitrificationRefusal, readReach, reachOf, reachRefusal};
+ghost use Rattle.river.specs.River.{factorsRecord};
+ghost use Rattle.river.specs.Read.{readHeader, headerOf, headerRefusal, factorsReadOf, factorsRefusal, cardAt, damOf, damRefusal, amountOf, amountRefusal, nitrificationOf, nitrificationRefusal, readReach, reachOf, reachRefusal};
 use crate::bytes::behind;
 use crate::bytes::byte_at;
 use crate::bytes::four_at;
@@ -15,12 +16,14 @@ use crate::card::Amount;
 use crate::card::Card;
 use crate::card::DAM_BYTES;
 use crate::card::Dam;
+use crate::card::FACTORS_BYTES;
 use crate::card::HEADER_BYTES;
 use crate::card::Layout;
 use crate::card::NITRIFICATION_BYTES;
 use crate::card::Nitrification;
 use crate::card::PRESSURE;
 use crate::card::REACH_BYTES;
+use crate::card::RateFactors;
 use crate::card::SLUDGE;
 use crate::card::TAKE;
 use crate::card::amount_size;
@@ -30,6 +33,7 @@ use crate::card::size_of;
 use crate::range::amount_in_range;
 use crate::range::count_ok;
 use crate::range::dam_in_range;
+use crate::range::factors_in_range;
 use crate::range::in_range;
 use crate::range::nitrification_in_range;
 use crate::range::outlet_ok;
@@ -39,6 +43,12 @@ use crate::refusal::refuse;
 // What reading the header finds: the reach count and the next position, or a refusal.
 pub enum Header {
     Count { count: u8, next: usize },
+    Refused(Refusal),
+}
+
+// What reading the rate factors finds: the factors, or a refusal.
+pub enum FactorsRead {
+    Found(RateFactors),
     Refused(Refusal),
 }
 
@@ -86,6 +96,26 @@ pub fn read_header(file: &[u8]) -> Header
     }
 }
 
+// The rate factors in the `TH` record at the start, if there is one: refusals 1 and 4.
+pub fn read_factors(s: &[u8]) -> FactorsRead
+    ensures { λ r. ⌜ r ≡ factorsReadOf (readOptional factorsRecord 0 (now (s .entry))) ⌝ }
+{
+    if !marked(s, b'T', b'H') {
+        return FactorsRead::Found(RateFactors::AsGiven);
+    }
+    if s.len() < FACTORS_BYTES {
+        return FactorsRead::Refused(refuse(1, 0));
+    }
+    let factors = RateFactors::PerDegree {
+        decay: two_at(s, 2),
+        aeration: two_at(s, 4),
+    };
+    if !factors_in_range(factors) {
+        return FactorsRead::Refused(refuse(4, 0));
+    }
+    FactorsRead::Found(factors)
+}
+
 // The card in an `RE` record, with a dam, a take, a pressure, a sludge bed and a nitrification.
 pub fn card_at(
     s: &[u8],
@@ -100,8 +130,8 @@ pub fn card_at(
     Card {
         outlet: byte_at(s, 2),
         temperature: byte_at(s, 3),
-        k1: two_at(s, 4),
-        k2: two_at(s, 6),
+        k1: two_at(s, 4) as u32,
+        k2: two_at(s, 6) as u32,
         volume: four_at(s, 8),
         inflow: four_at(s, 12),
         inflow_bod: four_at(s, 16),
@@ -174,7 +204,7 @@ pub fn read_nitrification(s: &[u8], reach: u8) -> NitrificationRead
         return NitrificationRead::Refused(refuse(1, reach));
     }
     let nitrification = Nitrification::Nitrifying {
-        rate: two_at(s, 2),
+        rate: two_at(s, 2) as u32,
         concentration: four_at(s, 4),
         load: four_at(s, 8),
     };
@@ -267,6 +297,16 @@ pub fn header_refusal(answer: Header) -> Refusal
     match answer {
         Header::Refused(r) => r,
         Header::Count { count: _, next: _ } => refuse(0, 0),
+    }
+}
+
+// The refusal in an answer about the rate factors.
+pub fn factors_refusal(answer: FactorsRead) -> Refusal
+    ensures { λ r. ⌜ r ≡ factorsRefusal answer ⌝ }
+{
+    match answer {
+        FactorsRead::Refused(r) => r,
+        FactorsRead::Found(_) => refuse(0, 0),
     }
 }
 

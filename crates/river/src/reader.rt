@@ -4,17 +4,24 @@ ghost use mathlib.Core.Path.{_≡_};
 ghost use Prim.Native.Nat.{_<_, _≤_};
 ghost use lib.ListN.{drop};
 ghost use Rattle.river.specs.Read.{readReach, reachOf};
-ghost use Rattle.river.specs.Reader.{ReadingGoesOn, ReadingIsOver, Takes};
+ghost use Rattle.river.specs.Reader.{haltedAt, ReadingGoesOn, ReadingIsOver, Takes};
+use crate::bytes::behind;
 use crate::card::Card;
 use crate::card::REACHES;
+use crate::card::RateFactors;
 use crate::card::blank;
+use crate::card::factors_size;
+use crate::read::FactorsRead;
 use crate::read::Header;
 use crate::read::Reach;
+use crate::read::factors_refusal;
 use crate::read::header_refusal;
 use crate::read::reach_refusal;
+use crate::read::read_factors;
 use crate::read::read_header;
 use crate::read::read_reach;
 use crate::refusal::Outcome;
+use crate::refusal::Refusal;
 
 // A file, and how far it has been read.
 pub struct Reader<'a> {
@@ -22,13 +29,14 @@ pub struct Reader<'a> {
     pub at: usize,
 }
 
-// What has been read of a file: a refusal, or the first cards of so many, and the position behind them.
+// What has been read of a file: a refusal, or the first cards of so many, the position behind them, and the rate factors.
 pub struct Progress {
     pub outcome: Outcome,
     pub at: [Card; REACHES],
     pub count: u8,
     pub read: u8,
     pub next: usize,
+    pub factors: RateFactors,
 }
 
 impl<'a> Reader<'a> {
@@ -57,28 +65,41 @@ impl<'a> Reader<'a> {
     }
 }
 
-// No card is read yet: what the header of a file says is due.
+// A refusal, after which no reach is due.
+fn halted(at: [Card; REACHES], r: Refusal) -> Progress
+    ensures { λ p. ⌜ p ≡ haltedAt at r ⌝ }
+{
+    Progress {
+        outcome: Outcome::Refused(r),
+        at,
+        count: 0,
+        read: 0,
+        next: 0,
+        factors: RateFactors::AsGiven,
+    }
+}
+
+// No card is read yet: the rate factors, and what the header of a file says is due.
 pub fn begin(file: &[u8]) -> Progress
     ensures { λ p. ⌜ ReadingGoesOn (now (file .entry)) p ⌝ }
 {
-    let header = read_header(file);
     let none = blank();
     let at = [none; REACHES];
+    let header = read_header(file);
     let Header::Count { count, next } = header else {
-        return Progress {
-            outcome: Outcome::Refused(header_refusal(header)),
-            at,
-            count: 0,
-            read: 0,
-            next: 0,
-        };
+        return halted(at, header_refusal(header));
+    };
+    let found = read_factors(behind(file, next));
+    let FactorsRead::Found(factors) = found else {
+        return halted(at, factors_refusal(found));
     };
     Progress {
         outcome: Outcome::Accepted,
         at,
         count,
         read: 0,
-        next,
+        next: next + factors_size(factors),
+        factors,
     }
 }
 
@@ -90,14 +111,9 @@ pub fn take(p: Progress, reach: Reach) -> Progress
     let mut at = p.at;
     let count = p.count;
     let read = p.read;
+    let factors = p.factors;
     let Reach::Read { card, next } = reach else {
-        return Progress {
-            outcome: Outcome::Refused(reach_refusal(reach)),
-            at,
-            count: 0,
-            read: 0,
-            next: 0,
-        };
+        return halted(at, reach_refusal(reach));
     };
     let k = read as usize;
     at[k] = card;
@@ -107,6 +123,7 @@ pub fn take(p: Progress, reach: Reach) -> Progress
         count,
         read: read + 1,
         next,
+        factors,
     }
 }
 

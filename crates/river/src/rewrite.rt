@@ -1,11 +1,13 @@
-// A file that is read and written back, and cards that are written and read back.
+// A file that is read and written back, and a river that is written and read back.
 ghost use lib.ListN.{length, take};
 ghost use Rattle.river.specs.Read.{readFile};
 ghost use Rattle.river.specs.Refusal.{after};
+ghost use Rattle.river.specs.River.{riverOf};
 ghost use Rattle.river.specs.File.{Yields};
 ghost use Rattle.river.specs.Write.{writtenOf};
 ghost use Rattle.river.specs.Rewrite.{WritesBack, WrittenFits, ReadsBack};
 use crate::card::Card;
+use crate::card::RateFactors;
 use crate::file::Reading;
 use crate::file::read_file;
 use crate::file::refused;
@@ -23,9 +25,10 @@ pub fn rewrite(file: &[u8], out: &mut [u8]) -> Outcome
     let Outcome::Accepted = outcome else {
         return outcome;
     };
+    let factors = reading.factors;
     let cards = reading.cards;
     let at = cards.at;
-    match write_first(at, cards.count as usize, out) {
+    match write_first(factors, at, cards.count as usize, out) {
         Written::Length(_) => Outcome::Accepted,
         Written::Refused(r) => Outcome::Refused(r),
     }
@@ -42,9 +45,9 @@ fn read_written(w: Written, out: &[u8]) -> Reading
     }
 }
 
-// Lent cards are written and their file is read: the same cards, or the refusal of writing.
-pub fn written_back(cards: &[Card], out: &mut [u8]) -> Reading
-    ensures { λ r. ⌜ ReadsBack (now (cards .entry)) (now (out .entry)) r (now (out .exit)) ⌝ }
+// Rate factors and lent cards are written and their file is read: the same river, or the refusal of writing.
+pub fn written_back(factors: RateFactors, cards: &[Card], out: &mut [u8]) -> Reading
+    ensures { λ r. ⌜ ReadsBack (riverOf factors (now (cards .entry))) (now (out .entry)) r (now (out .exit)) ⌝ }
 {
-    read_written(write(cards, out), out)
+    read_written(write(factors, cards, out), out)
 }

@@ -40,7 +40,7 @@ fn nitrogenous_source(inflow: u32, nitrification: Nitrification) -> Source
 }
 
 // The rate of nitrogenous BOD, in thousandths a day.
-fn nitrogenous_rate(nitrification: Nitrification) -> u16
+fn nitrogenous_rate(nitrification: Nitrification) -> u32
     ensures { λ r. ⌜ r ≡ nitrogenousRate nitrification ⌝ }
 {
     match nitrification {
@@ -71,7 +71,7 @@ pub(crate) fn source_of(demand: Demand, card: Card) -> Source
 }
 
 // The rate of a demand of a reach, in thousandths a day.
-pub fn rate_of(demand: Demand, card: Card) -> u16
+pub fn rate_of(demand: Demand, card: Card) -> u32
     ensures { λ r. ⌜ r ≡ rateOf demand card ⌝ }
 {
     match demand {

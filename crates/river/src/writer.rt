@@ -1,31 +1,37 @@
-// The writer: it is lent the cards, one for each reach. It goes through them once to check them and once to put their file, and hands each
-// card by value to the functions that check and put one.
+// The writer: it gets the rate factors and is lent the cards, one for each reach. It goes through the cards once to check them and once to put
+// their file, and hands each by value to the functions that check and put one.
 ghost use mathlib.Core.Path.{_≡_};
 ghost use Prim.Native.Nat.{_+_, _*_, _≤_, _<_};
 ghost use lib.ListN.{length, take};
 ghost use Rattle.river.specs.Write.{checkCard, Writes};
 ghost use Rattle.river.specs.Writer.{stoppedAt, startChecking, nextChecking, ChecksAll, PutsStart, PutsNext};
-ghost use Rattle.river.specs.Card.{headerBytes, longestCard, sizeOf, river};
+ghost use Rattle.river.specs.Card.{longestCard, sizeOf, river};
+ghost use Rattle.river.specs.River.{riverOf, openingSize, longestOpening};
 use crate::card::Card;
 use crate::card::Cards;
 use crate::card::HEADER_BYTES;
 use crate::card::REACHES;
+use crate::card::RateFactors;
+use crate::card::factors_size;
 use crate::card::size_of;
 use crate::put::put_card;
-use crate::put::put_header;
+use crate::put::put_opening;
 use crate::range::count_ok;
+use crate::range::factors_in_range;
 use crate::refusal::Outcome;
 use crate::refusal::Refusal;
 use crate::refusal::refuse;
 use crate::write::Written;
 use crate::write::check_card;
 
-// What checking the lent cards has come to: a refusal, or how many of those due have passed, and the length of their file.
+// What checking the rate factors and the lent cards has come to: a refusal, or how many of the cards due have passed, the length of their file,
+// and the factors.
 pub struct Checking {
     pub check: Outcome,
     pub due: usize,
     pub passed: usize,
     pub length: usize,
+    pub factors: RateFactors,
 }
 
 // What putting the lent cards has come to: the answer, how many of those due are put, and the next place.
@@ -45,31 +51,37 @@ fn stopped(r: Refusal) -> Checking
         due: 0,
         passed: 0,
         length: HEADER_BYTES,
+        factors: RateFactors::AsGiven,
     }
 }
 
-// The start of checking: all n cards are due, or the count is out of range, which is refusal 3.
-fn start(n: usize) -> Checking
-    ensures { λ s. ⌜ s ≡ startChecking n ⌝ }
+// The start of checking: all n cards are due, or the count is out of range, which is refusal 3, or a rate factor, which is 4.
+fn start(factors: RateFactors, n: usize) -> Checking
+    ensures { λ s. ⌜ s ≡ startChecking factors n ⌝ }
 {
     if !count_ok(n) {
         return stopped(refuse(3, 0));
+    }
+    if !factors_in_range(factors) {
+        return stopped(refuse(4, 0));
     }
     Checking {
         check: Outcome::Accepted,
         due: n,
         passed: 0,
-        length: HEADER_BYTES,
+        length: HEADER_BYTES + factors_size(factors),
+        factors,
     }
 }
 
 // One card more is checked: it has passed, or its refusal is the answer and no card is due.
 fn check_next(s: Checking, c: Card) -> Checking
-    requires { ⌜ (s .passed < s .due) × (s .due ≤ 128) × (s .length ≤ headerBytes + longestCard * s .passed) ⌝ }
+    requires { ⌜ (s .passed < s .due) × (s .due ≤ 128) × (s .length ≤ longestOpening + longestCard * s .passed) ⌝ }
     ensures { λ t. ⌜ t ≡ nextChecking (checkCard (s .due) (s .passed + 1) c) s c ⌝ }
 {
     let due = s.due;
     let passed = s.passed;
+    let factors = s.factors;
     match check_card(c, due as u8, (passed + 1) as u8) {
         Outcome::Refused(r) => stopped(r),
         Outcome::Accepted => {
@@ -78,19 +90,21 @@ fn check_next(s: Checking, c: Card) -> Checking
                 due,
                 passed: passed + 1,
                 length: s.length + size_of(c),
+                factors,
             }
         }
     }
 }
 
-// The header, where the cards have passed and the buffer has room for their file.
+// The opening, where factors and cards have passed and the buffer has room for their file.
 fn put_start(s: Checking, out: &mut [u8]) -> Putting
-    requires { ⌜ (s .due ≤ 128) × (headerBytes ≤ s .length) ⌝ }
+    requires { ⌜ (s .due ≤ 128) × (openingSize (s .factors) ≤ s .length) ⌝ }
     ensures { λ p. ⌜ PutsStart s (now (out .entry)) p (now (out .exit)) ⌝ }
 {
     let check = s.check;
     let due = s.due;
     let length = s.length;
+    let factors = s.factors;
     match check {
         Outcome::Refused(r) => Putting {
             answer: Written::Refused(r),
@@ -107,7 +121,7 @@ fn put_start(s: Checking, out: &mut [u8]) -> Putting
                     next: 0,
                 };
             }
-            let next = put_header(out, due as u16);
+            let next = put_opening(out, due as u16, factors);
             Putting {
                 answer: Written::Length(length),
                 due,
@@ -143,11 +157,11 @@ fn answer(p: Putting) -> Written
     p.answer
 }
 
-// The lent cards are checked, card after card.
-fn check_all(cards: &[Card]) -> Checking
-    ensures { λ s. ⌜ ChecksAll (now (cards .entry)) s ⌝ }
+// The factors and the lent cards are checked, card after card.
+fn check_all(factors: RateFactors, cards: &[Card]) -> Checking
+    ensures { λ s. ⌜ ChecksAll (riverOf factors (now (cards .entry))) s ⌝ }
 {
-    let mut s = start(cards.len());
+    let mut s = start(factors, cards.len());
     while s.passed < s.due {
         let i = s.passed;
         s = check_next(s, cards[i]);
@@ -155,11 +169,11 @@ fn check_all(cards: &[Card]) -> Checking
     s
 }
 
-// The file of the lent cards, or the first refusal.
-pub fn write(cards: &[Card], out: &mut [u8]) -> Written
-    ensures { λ r. ⌜ Writes (length (now (cards .entry))) (now (cards .entry)) (now (out .entry)) r (now (out .exit)) ⌝ }
+// The file of the factors and the lent cards, or the first refusal.
+pub fn write(factors: RateFactors, cards: &[Card], out: &mut [u8]) -> Written
+    ensures { λ r. ⌜ Writes (length (now (cards .entry))) (riverOf factors (now (cards .entry))) (now (out .entry)) r (now (out .exit)) ⌝ }
 {
-    let mut p = put_start(check_all(cards), out);
+    let mut p = put_start(check_all(factors, cards), out);
     while p.put < p.due {
         let i = p.put;
         p = put_next(p, cards[i], out);
@@ -167,22 +181,22 @@ pub fn write(cards: &[Card], out: &mut [u8]) -> Written
     answer(p)
 }
 
-// The file of the first n cards of an array, which are lent to the writer.
-pub fn write_first(at: [Card; REACHES], n: usize, out: &mut [u8]) -> Written
+// The file of the factors and the first n cards of an array, which are lent to the writer.
+pub fn write_first(factors: RateFactors, at: [Card; REACHES], n: usize, out: &mut [u8]) -> Written
     requires { ⌜ n ≤ 128 ⌝ }
-    ensures { λ r. ⌜ Writes (length (take n at)) (take n at) (now (out .entry)) r (now (out .exit)) ⌝ }
+    ensures { λ r. ⌜ Writes (length (take n at)) (riverOf factors (take n at)) (now (out .entry)) r (now (out .exit)) ⌝ }
 {
-    write(&at[..n], out)
+    write(factors, &at[..n], out)
 }
 
 // The file of a river, or the first refusal.
-pub fn write_cards(cards: Cards, out: &mut [u8]) -> Written
-    ensures { λ r. ⌜ Writes (cards .count) (river cards) (now (out .entry)) r (now (out .exit)) ⌝ }
+pub fn write_cards(factors: RateFactors, cards: Cards, out: &mut [u8]) -> Written
+    ensures { λ r. ⌜ Writes (cards .count) (riverOf factors (river cards)) (now (out .entry)) r (now (out .exit)) ⌝ }
 {
     let n = cards.count as usize;
     if !count_ok(n) {
         return Written::Refused(refuse(3, 0));
     }
     let at = cards.at;
-    write_first(at, n, out)
+    write_first(factors, at, n, out)
 }

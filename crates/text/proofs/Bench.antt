@@ -1,13 +1,14 @@
--- Texts of the river file paper, computed from the definitions: both lines of the printing program's example, also with takes and a pressure, and its refusal;
--- a line with nitrification and without; and a few numbers.
+-- Texts of the river file paper, computed from the definitions: both lines of the printing program's example, also with takes, a pressure and ammonia, and its
+-- refusal; a line with nitrification and without; and a few numbers.
 use mathlib.Core.Path.{_≡_, refl}
 use mathlib.Core.Bool.{true, false}
 use lib.IntN.{pos, negsuc}
 use Rattle.river.specs.declared.card.Dam.the-variants.{Absent}
 use Rattle.river.specs.declared.card.Amount.the-variants.{Without, Given}
+use Rattle.river.specs.declared.card.Nitrification.the-variants.{Nitrifying}
 use Rattle.river.specs.Refusal.{accepted, refused, refuse}
 use Rattle.river.proofs.Bench.{two, drawn, hilly}
-use Rattle.report.proofs.Bench.{bench}
+use Rattle.report.proofs.Bench.{bench, laden}
 use Rattle.report.proofs.record.Bytes.{small}
 use Rattle.report.specs.Record.{nitrifies, isNitrified, hasNitrification}
 use Rattle.text.specs.Text.{ascii, digitsBy, decimal, number, signed, afterWord, line, numbersOf, reachLine, linesOf, refusalLine, textOf}
@@ -21,6 +22,8 @@ pub record Rows : Type 0 where
       textOf (accepted (drawn Without (Given 1000))) ≡ ascii "1 1 3000 2000000 2000000 8000000 0 8000000 8000000\n2 2 3000 9000000 9000000 6500000 0 6500000 6500000\n"
   pub hilly-700 :
       textOf (accepted (hilly (Given 700))) ≡ ascii "1 1 3000 2000000 2000000 8000000 0 8000000 8000000\n2 2 4000 9000000 9000000 6577389 0 6577389 6577389\n"
+  pub laden-4000 :
+      textOf (accepted (laden (Nitrifying 0 4000 0))) ≡ ascii "1 1 3000 2000000 2000000 8000000 0 8000000 8000000 4000000 4000000\n2 2 4000 9000000 9000000 6500000 0 6500000 6500000 3000000 3000000\n"
   pub without : reachLine false 7 small ≡ ascii "7 1 2 3 256 4 257 -1 -2\n"
   pub nitrified : reachLine true 7 small ≡ ascii "7 1 2 3 256 4 257 -1 -2 65541 6\n"
   pub refusal : textOf (refused (refuse 5 2)) ≡ ascii "refused 5 reach 2\n"
@@ -38,6 +41,7 @@ text-bench =
       drawn-1 = rw (bench .drawn-1-line-1, bench .drawn-1-line-2);
       drawn-2 = rw (bench .drawn-2-line-1, bench .drawn-2-line-2);
       hilly-700 = rw (bench .hilly-line-1, bench .hilly-line-2);
+      laden-4000 = rw (bench .laden-line-1, bench .laden-line-2);
       without = refl;
       nitrified = refl;
       refusal = refl;

@@ -6,13 +6,15 @@ use Prim.Native.Nat.{ℕ, zero, suc, _*_, _/_, _%_, _≤_, _<_}
 use native.Mathlib.Nat.{div-add-mod', mul-le-mul}
 use native.Mathlib.Omega.{arith}
 use lib.Dec.{ltb}
-use lib.ListN.{length, drop}
+use lib.ListN.{length, drop, length-map}
 use lib.Seq.{length-take-le}
 use Rattle.io.specs.Counts.{Counts}
 use Rattle.river.specs.declared.card.Card.{Card}
 use Rattle.river.specs.Accept.{acceptFile}
 use Rattle.river.specs.Bytes.{AreBytes, twoAt}
 use Rattle.river.specs.declared.refusal.Refusal.{Refusal}
+use Rattle.river.specs.Rates.{cardInForce}
+use Rattle.river.specs.Read.{readFile}
 use Rattle.river.specs.Refusal.{Answer, accepted, refused, refuse}
 use Rattle.river.specs.Write.{encode}
 use Rattle.river.proofs.Acceptance.{accepts-exactly}
@@ -22,6 +24,7 @@ use Rattle.river.proofs.bytes.Puts.{put-at-start}
 use Rattle.report.specs.Program.{figuresAt}
 use Rattle.report.specs.Record.{hasNitrification, Figures, plainBytes, recordBytes}
 use Rattle.report.specs.Report.{reportAnswer, Reports, TellsSize}
+use Rattle.report.proofs.Size.{nitrification-in-force}
 use Rattle.report.proofs.record.Encoding.{record-bounds}
 use Rattle.text.specs.Text.{reachLine, linesOf, refusalLine, textOf, Renders}
 use Rattle.text.specs.Held.{recorded, PutWithin}
@@ -44,13 +47,17 @@ module _ {file : List ℕ} (bytes : AreBytes file) where
   unfolding encode
   counted {cards} e =
       let a = accepts-exactly file cards bytes .0 e in
-      (ap (λ (s : List ℕ). twoAt s 2) (a .bytes) ∙ div-add-mod' (length cards) 256, a .lawful .few)
+      let given = a .river .cards in
+      let same : length cards ≡ length given = ap length (a .in-force) ∙ length-map given (cardInForce (a .river .factors)) in
+      (ap (λ (s : List ℕ). twoAt s 2) (a .bytes) ∙ div-add-mod' (length given) 256 ∙ sym same, rw same (a .lawful .cards .few))
 
   -- and its size of records tells whether it has nitrification
   pub nitrified-is : {cards : List Card} {size : ℕ} → acceptFile file ≡ accepted cards → TellsSize file size → ltb plainBytes size ≡ hasNitrification cards
   nitrified-is {cards} e tells =
       let a = accepts-exactly file cards bytes .0 e in
-      ap (ltb plainBytes) (tells .size cards (rw (a .bytes) (reads-lawful cards (a .lawful)))) ∙ told (hasNitrification cards)
+      ap (ltb plainBytes) (tells .size (a .river) (ap readFile (a .bytes) ∙ reads-lawful (a .river) (a .lawful)))
+      ∙ told (hasNitrification (a .river .cards))
+      ∙ sym (ap hasNitrification (a .in-force) ∙ nitrification-in-force (a .river .factors) (a .river .cards))
 
   module _ {before after : List ℕ} {result : ℕ} (long : length before ≡ 39 * 128) (reports : Reports file before after result) where
     -- a result of 0: the lines of the records are those of the river

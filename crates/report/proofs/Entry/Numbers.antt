@@ -10,7 +10,7 @@ use lib.Dec.{lit<}
 use Rattle.river.specs.declared.card.Card.{Card}
 use Rattle.river.specs.Refusal.{Answer, accepted, refused, refuse, need, choose, after}
 use Rattle.river.specs.Optional.{Kind, readOptional, readOptionals}
-use Rattle.river.specs.Read.{readHeader, readReach, readReaches, readFile}
+use Rattle.river.specs.Read.{readHeader, readReach, readReaches, readRest, readFile}
 use Rattle.river.specs.Flow.{reachChecks, checksFrom, flowCheck}
 use Rattle.report.specs.Report.{roomAnswer, reportAnswer, resultOf}
 use Rattle.river.specs.Accept.{acceptFile}
@@ -43,10 +43,14 @@ module _ {A : Type 0} where
   read-refusal (accepted a) n e h = absurd (h e)
   read-refusal (refused r) {result} n e h = ap₂ (λ (k i : ℕ). refused (refuse k i)) (omega arith) (omega arith)
 
+optional : (k : Kind) (i : ℕ) (s : List ℕ) → Numbered (readOptional k i s)
+unfolding readOptional
+optional k i s = search (needs, either, lit<) depth 12
+
 optionals : (ks : List Kind) (i : ℕ) (s : List ℕ) → Numbered (readOptionals ks i s)
-unfolding readOptionals readOptional
+unfolding readOptionals
 optionals [] i s = tt
-optionals (k ∷ ks) i s = search (needs, either, next, lit<, optionals ks i) depth 12
+optionals (k ∷ ks) i s = search (next, optional, optionals ks i) depth 12
 
 reach : (n i : ℕ) (s : List ℕ) → Numbered (readReach n i s)
 unfolding readReach
@@ -57,6 +61,10 @@ unfolding readReaches
 reaches n i zero s = search (needs, lit<)
 reaches n i (suc m) s = search (next, reach, reaches n (suc i) m)
 
+rest : (n : ℕ) (s : List ℕ) → Numbered (readRest n s)
+unfolding readRest
+rest n s = search (next, optional, reaches) depth 12
+
 checks : (cards : List Card) (i m : ℕ) → Numbered (checksFrom cards i m)
 unfolding checksFrom reachChecks
 checks cards i zero = tt
@@ -64,8 +72,8 @@ checks cards i (suc m) = search (needs, lit<, checks cards (suc i) m) depth 12
 
 pub report-numbered : (file : List ℕ) (room : ℕ) → Numbered (reportAnswer file room)
 unfolding reportAnswer roomAnswer acceptFile readFile readHeader flowCheck
-report-numbered file room = search (needs, next, reaches, checks, lit<) depth 12
+report-numbered file room = search (needs, next, rest, checks, lit<) depth 12
 
 pub rewrite-numbered : (file : List ℕ) (room : ℕ) → Numbered (rewriteAnswer file room)
 unfolding rewriteAnswer readFile readHeader
-rewrite-numbered file room = search (needs, next, reaches, lit<) depth 12
+rewrite-numbered file room = search (needs, next, rest, lit<) depth 12

@@ -11,7 +11,7 @@ use Rattle.report.proofs.xylandreo_report.Tie as tie
 
 report-size-requires : tie.Need-report-size-requires
 report-size-requires c κs =
-    c .before .before .before .accept .ensures .lawful (c .before .enum-told .given .1) .few
+    c .before .before .accept .ensures .lawful (c .enum-told .given .1) .few
 
 -- the elements of the file are bytes
 are-bytes : (c : tie.After-shared-slice-known) → AreBytes (c .before .args .file .now)
@@ -20,16 +20,16 @@ are-bytes c = record { below = λ k. c .shared-slice-known .given k .fits }
 returns : tie.Need-returns
 returns c =
     let t = c .before .before in
-    let a = t .before .before .before .before .before in
+    let a = t .before .before .before .before in
     reports-refusal (are-bytes (a .before .before))
-    (file-short (a .accept .ensures) _ (t .before .before .before .enum-told .given .1) (omega (arith, t .if1 .taken, t .before .report-size .ensures)))
+    (file-short (a .accept .ensures) _ (t .before .before .enum-told .given .1) (omega (arith, t .if1 .taken, t .before .report-size .ensures)))
     (c .code2 .ensures ∙ ap codeOf (c .before .refuse .ensures))
 
 report-all-requires : tie.Need-report-all-requires
 report-all-requires c κs =
-    let a = c .before .before .before .before .before .before .before in (
-      file-ready (a .accept .ensures) (c .before .before .before .before .before .enum-told .given .1),
-      omega (arith, c .before .before .if1 .left, c .before .before .before .report-size .ensures),
+    let a = c .before .before .before .before .before in (
+      file-ready (a .accept .ensures) (c .before .before .before .enum-told .given .1),
+      omega (arith, c .before .if1 .left, c .before .before .report-size .ensures),
     )
 
 returns-2 : tie.Need-returns-2
@@ -39,10 +39,10 @@ returns-2 c =
 
 returns-3 : tie.Need-returns-3
 returns-3 c =
-    let a = c .before .before .before .before .before .before .before .before .before .before in
+    let a = c .before .before .before .before .before .before .before .before in
     reports-river (are-bytes (a .before .before))
-    (file-held (a .accept .ensures) _ (c .before .before .before .before .before .before .before .before .enum-told .given .1)
-    (omega (arith, c .before .before .before .before .before .if1 .left, c .before .before .before .before .before .before .report-size .ensures)))
+    (file-held (a .accept .ensures) _ (c .before .before .before .before .before .before .enum-told .given .1)
+    (omega (arith, c .before .before .before .before .if1 .left, c .before .before .before .before .before .report-size .ensures)))
     (c .before .before .report-all .ensures)
 
 pub xylandreo-report-spec : {M : Type 1} → statement M

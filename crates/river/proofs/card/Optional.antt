@@ -33,12 +33,12 @@ pub record Sound (k : Kind) : Type 0 where
   pub spells : (s : List ℕ) → AreBytes s → HasMark s (k .mark) → k .test s ≡ true → k .encode (k .decode s) ≡ bytesFrom s (k .size) 0
 
 -- what is read as a value: it is in range, and its bytes lead
-record IsOptional (k : Kind) (s : List ℕ) (v : k .Value) : Type 0 where
-  in-range : k .inRange v ≡ true
-  bytes : Leads (k .encode v) s
+pub record IsOptional (k : Kind) (s : List ℕ) (v : k .Value) : Type 0 where
+  pub in-range : k .inRange v ≡ true
+  pub bytes : Leads (k .encode v) s
 
 module _ (k : Kind) (law : Sound k) (i : ℕ) where
-  readOptional-encode : (v : k .Value) (post : List ℕ) → k .inRange v ≡ true → marked post (k .mark) ≡ false
+  pub readOptional-encode : (v : k .Value) (post : List ℕ) → k .inRange v ≡ true → marked post (k .mark) ≡ false
       → readOptional k i (k .encode v ++ post) ≡ accepted v
   unfolding readOptional
   readOptional-encode v post r e = go (law .cases v)
@@ -54,7 +54,7 @@ module _ (k : Kind) (law : Sound k) (i : ℕ) where
           need-true _ _ _ _ (p .passes post r) ∙
           ap accepted (p .back post r)
 
-  readOptional-is : (s : List ℕ) (v : k .Value) → AreBytes s → readOptional k i s ≡ accepted v → IsOptional k s v
+  pub readOptional-is : (s : List ℕ) (v : k .Value) → AreBytes s → readOptional k i s ≡ accepted v → IsOptional k s v
   unfolding readOptional
   readOptional-is s v h e = go (marked s (k .mark)) refl
     where
@@ -170,12 +170,15 @@ readOptionals-are (k ∷ ks) laws i s vs h e =
     (are-more k ks (readOptional-is k (laws .0) i s (p .value) h (p .first))
     (readOptionals-are ks (laws .1) i (drop n s) (q .value) (are-bytes-drop n h) (q .first)))
 
--- the records are at most as long as all of them
+-- a record is at most as long as its kind says, and records are at most as long as those of all their kinds
+pub optional-small : (k : Kind) → Sound k → (v : k .Value) → length (k .encode v) ≤ k .size
+optional-small k law v = go (law .cases v)
+  where
+    go : (v ≡ k .none) ⊎ Present k v → length (k .encode v) ≤ k .size
+    go (inl p) = rw (p, law .none-empty) (omega arith)
+    go (inr p) = omega (arith, p .long)
+
 pub optionals-small : (ks : List Kind) → AllSound ks → (vs : Values ks) → length (encodeOptionals ks vs) ≤ sizes ks
 optionals-small [] laws vs = omega arith
 optionals-small (k ∷ ks) laws vs =
-    omega (arith, length-append (k .encode (vs .0)) (encodeOptionals ks (vs .1)), go (laws .0 .cases (vs .0)), optionals-small ks (laws .1) (vs .1))
-  where
-    go : (vs .0 ≡ k .none) ⊎ Present k (vs .0) → length (k .encode (vs .0)) ≤ k .size
-    go (inl p) = rw (p, laws .0 .none-empty) (omega arith)
-    go (inr p) = omega (arith, p .long)
+    omega (arith, length-append (k .encode (vs .0)) (encodeOptionals ks (vs .1)), optional-small k (laws .0) (vs .0), optionals-small ks (laws .1) (vs .1))

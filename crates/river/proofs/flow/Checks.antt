@@ -1,19 +1,18 @@
 -- The check of one more reach: what the tables of the reaches that passed say of the next, and the tables after it.
-use mathlib.Core.Path.{_≡_, refl, sym, ap, _∙_}
+use mathlib.Core.Path.{_≡_, refl, sym, _∙_}
 use mathlib.Core.List.{List}
 use Prim.Native.Nat.{ℕ, suc, _+_, _-_, _*_, _<_, _≤_}
 use native.Mathlib.Nat.{le-trans, lt-of-le-of-lt}
 use native.Mathlib.Omega.{arith}
-use lib.ListN.{length}
+use lib.ListN.{length, set, length-set}
 use lib.Dec.{ltb, lit<}
 use Rattle.river.specs.declared.card.Card.{Card}
 use Rattle.river.specs.declared.refusal.Outcome.{Outcome}
 use Rattle.river.specs.declared.flow.FlowTable.{FlowTable}
 use Rattle.river.specs.declared.refusal.Refusal.{Refusal}
-use Rattle.river.specs.declared.flow.Checked.{Checked}
 use Rattle.river.specs.declared.flow.Upstream.{Upstream}
 use Rattle.river.specs.Flow.{flowLimit, massLimit, cardOf, above, flowOf, massOf, deepest, takeOf, reachFlow, remainingMass, reachMass, reachDepth, ownMass, flowAt, massAt, depthAt, checksOf, reachChecks}
-use Rattle.river.specs.FlowTable.{Decides, feederSum, SumsFit, UpstreamOf, Entered, Tabled, Underway, NextChecked}
+use Rattle.river.specs.FlowTable.{Decides, feederSum, SumsFit, upstreamBy, Tabled, Underway, NextChecked}
 use Rattle.river.proofs.Answers.{no-refusal}
 use Rattle.river.proofs.flow.Take.{flow-within, mass-bounded}
 use Rattle.river.proofs.flow.Table.{entered, Adds, TableOf, sum-of-feeders, sum-bounded, max-of-feeders, deepest-few, fed-deepest}
@@ -54,19 +53,35 @@ pub record Full (t : FlowTable) : Type 0 where
   pub mass : length (t .mass) ≡ 128
   pub depth : length (t .depth) ≡ 128
 
--- the tables with one more reach
-next-table : {cards : List Card} {i : ℕ} {t u : FlowTable} {o q m d : ℕ} → Tabled cards i t → i < 128 → Full t → Entered t i o q m d u → o ≡ cardOf cards (suc i) .outlet → q ≡ flowAt cards (suc i) → m ≡ massAt cards (suc i) → d ≡ depthAt cards (suc i) → Tabled cards (suc i) u
-next-table {cards} {i} {t} {u} {o} {q} {m} {d} h few room e eo eq em ed =
+-- tables with outlet, flow, undecayed BOD and depth of reach i + 1
+abbrev pub withReach : FlowTable → (i outlet flow mass depth : ℕ) → FlowTable
+withReach t i outlet flow mass depth =
+    record { outlet = set (t .outlet) i outlet; flow = set (t .flow) i flow; mass = set (t .mass) i mass; depth = set (t .depth) i depth }
+
+-- they stay full with one more reach
+pub full-next : {t : FlowTable} (i o q m d : ℕ) → Full t → Full (withReach t i o q m d)
+full-next {t} i o q m d full =
     record {
-      outlet = λ j l. rw (e .outlet) (entered (t .outlet) i o (λ k x. x ≡ cardOf cards (suc k) .outlet) (rw (room .outlet) few) eo (h .outlet) j l);
-      flow = λ j l. rw (e .flow) (entered (t .flow) i q (λ k x. x ≡ flowAt cards (suc k)) (rw (room .flow) few) eq (h .flow) j l);
-      mass = λ j l. rw (e .mass) (entered (t .mass) i m (λ k x. x ≡ massAt cards (suc k)) (rw (room .mass) few) em (h .mass) j l);
-      depth = λ j l. rw (e .depth) (entered (t .depth) i d (λ k x. x ≡ depthAt cards (suc k)) (rw (room .depth) few) ed (h .depth) j l);
+      outlet = length-set (t .outlet) i o ∙ full .outlet;
+      flow = length-set (t .flow) i q ∙ full .flow;
+      mass = length-set (t .mass) i m ∙ full .mass;
+      depth = length-set (t .depth) i d ∙ full .depth;
+    }
+
+-- the tables with one more reach
+pub next-table : {cards : List Card} {i : ℕ} {t : FlowTable} {o q m d : ℕ} → Tabled cards i t → i < 128 → Full t → o ≡ cardOf cards (suc i) .outlet → q ≡ flowAt cards (suc i) → m ≡ massAt cards (suc i) → d ≡ depthAt cards (suc i)
+    → Tabled cards (suc i) (withReach t i o q m d)
+next-table {cards} {i} {t} {o} {q} {m} {d} h few room eo eq em ed =
+    record {
+      outlet = entered (t .outlet) i o (λ k x. x ≡ cardOf cards (suc k) .outlet) (rw (room .outlet) few) eo (h .outlet);
+      flow = entered (t .flow) i q (λ k x. x ≡ flowAt cards (suc k)) (rw (room .flow) few) eq (h .flow);
+      mass = entered (t .mass) i m (λ k x. x ≡ massAt cards (suc k)) (rw (room .mass) few) em (h .mass);
+      depth = entered (t .depth) i d (λ k x. x ≡ depthAt cards (suc k)) (rw (room .depth) few) ed (h .depth);
     }
 
 module _ {cards : List Card} {i : ℕ} {t : FlowTable} (h : Underway cards i t × (i < length cards)) where
   pub index-few : i < 128
-  index-few = omega (arith, h .0 .lawful .few)
+  index-few = omega (arith, h .0 .regular .few)
 
   -- the sums over the feeders are small
   flow-small : feederSum (t .outlet) (t .flow) i ≤ 128 * flowLimit
@@ -81,7 +96,7 @@ module _ {cards : List Card} {i : ℕ} {t : FlowTable} (h : Underway cards i t �
       (sum-bounded (t .outlet) (t .mass) (massLimit * flowLimit) i (suc i) (λ j k. rw (h .0 .passed .tabled .mass j k) (mass-bounded (h .0 .passed .sound j k))))
       (omega (arith, index-few))
 
-  pub sums-fit : SumsFit t i
+  pub sums-fit : SumsFit (t .outlet) (t .flow) (t .mass) i
   sums-fit =
       record {
         few = index-few;
@@ -89,37 +104,43 @@ module _ {cards : List Card} {i : ℕ} {t : FlowTable} (h : Underway cards i t �
         mass = lt-of-le-of-lt mass-small (lit< tt);
       }
 
-  module _ {u : Upstream} (e : UpstreamOf t i u) where
-    -- what flows into the reach is what the program gathered of it
-    flow-here : u .flow ≡ flowOf (above cards (suc i))
-    flow-here = e .flow ∙ sum-of-feeders flows-add (flow-table (h .0 .passed .tabled)) (suc i)
+  -- what flows into the reach is what the program gathered of it
+  flow-here : upstreamBy t i .flow ≡ flowOf (above cards (suc i))
+  flow-here = sum-of-feeders flows-add (flow-table (h .0 .passed .tabled)) (suc i)
 
-    mass-here : u .mass ≡ massOf (above cards (suc i))
-    mass-here = e .mass ∙ sum-of-feeders masses-add (mass-table (h .0 .passed .tabled)) (suc i)
+  mass-here : upstreamBy t i .mass ≡ massOf (above cards (suc i))
+  mass-here = sum-of-feeders masses-add (mass-table (h .0 .passed .tabled)) (suc i)
 
-    deepest-here : u .deepest ≡ deepest (above cards (suc i))
-    deepest-here = e .deepest ∙ max-of-feeders (depth-table (h .0 .passed .tabled)) (suc i)
+  deepest-here : upstreamBy t i .deepest ≡ deepest (above cards (suc i))
+  deepest-here = max-of-feeders (depth-table (h .0 .passed .tabled)) (suc i)
 
+  module _ {u : Upstream} (e : u ≡ upstreamBy t i) where
     pub gathered-small : (u .flow ≤ 128 * flowLimit) × (u .mass ≤ 128 * (massLimit * flowLimit)) × (u .deepest ≤ 127)
-    gathered-small =
-        (rw (e .flow) flow-small, rw (e .mass) mass-small, rw deepest-here (omega (arith, index-few, deepest-few cards i (suc i))))
+    gathered-small = rw e (flow-small, mass-small, rw deepest-here (omega (arith, index-few, deepest-few cards i (suc i))))
 
-    module _ (r : Checked) {card : Card} {own reach : ℕ} (ec : card ≡ cardOf cards (suc i)) (eo : own ≡ ownMass card) (er : reach ≡ suc i) (d : Decides (r .outcome) (checksOf card (ltb 0 (u .deepest)) (u .flow) (u .flow + card .inflow) (u .mass + own) reach)) where
+    module _ {o : Outcome} {card : Card} {own reach : ℕ} (ec : card ≡ cardOf cards (suc i)) (eo : own ≡ ownMass card) (er : reach ≡ suc i) (d : Decides o (checksOf card (ltb 0 (u .deepest)) (u .flow) (u .flow + card .inflow) (u .mass + own) reach)) where
       -- the answer of the checks by what was gathered is that by the feeders
-      next-answer : Decides (r .outcome) (reachChecks (cardOf cards (suc i)) (above cards (suc i)) (suc i))
+      next-answer : Decides o (reachChecks (cardOf cards (suc i)) (above cards (suc i)) (suc i))
       unfolding reachChecks
       next-answer =
-          record { answer = λ later. d .answer later ∙ cc (flow-here, mass-here, deepest-here, fed-deepest (above cards (suc i))) }
+          record { answer = λ later. d .answer later ∙ cc (e, flow-here, mass-here, deepest-here, fed-deepest (above cards (suc i))) }
 
-      -- what the check of the reach yields: a refusal, or its tables
-      pub next-refused : {x : Refusal} → r .outcome ≡ Outcome.Refused x → NextChecked cards i r
-      next-refused e = record { answer = next-answer; tabled = λ q. no-refusal (sym q ∙ e) }
-
-      pub next-passed : {take left : ℕ} → take ≡ takeOf card → left ≡ remainingMass take (u .flow + card .inflow) (u .mass + own) → Full t → Entered t i (card .outlet) (u .flow + card .inflow - take) left (u .deepest + 1) (r .flows) → NextChecked cards i r
-      next-passed et el full k =
+      -- what the check of the reach yields: a refusal, or what is entered of it
+      pub next-refused : {x : Refusal} {q m k : ℕ} → o ≡ Outcome.Refused x → NextChecked cards i (record { outcome = o; flow = q; mass = m; depth = k })
+      next-refused f =
           record {
             answer = next-answer;
-            tabled =
-                λ _. next-table (h .0 .passed .tabled) index-few full k
-                (ap (λ (x : Card). x .outlet) ec) (rw (et, flow-here, ec)) (rw (el, et, flow-here, mass-here, eo, ec)) (omega (arith, deepest-here));
+            flow = λ a. no-refusal (sym a ∙ f);
+            mass = λ a. no-refusal (sym a ∙ f);
+            depth = λ a. no-refusal (sym a ∙ f);
+          }
+
+      pub next-passed : {take left : ℕ} → take ≡ takeOf card → left ≡ remainingMass take (u .flow + card .inflow) (u .mass + own)
+          → NextChecked cards i (record { outcome = o; flow = u .flow + card .inflow - take; mass = left; depth = u .deepest + 1 })
+      next-passed et el =
+          record {
+            answer = next-answer;
+            flow = λ _. rw (et, e, flow-here, ec);
+            mass = λ _. rw (el, et, e, flow-here, mass-here, eo, ec);
+            depth = λ _. rw (e, deepest-here) (omega arith);
           }

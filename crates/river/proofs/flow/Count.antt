@@ -7,11 +7,11 @@ use lib.ListN.{length, getD, length-take}
 use lib.Seq.{getD-take}
 use Rattle.river.specs.declared.card.Card.{Card}
 use Rattle.river.specs.declared.card.Cards.{Cards}
-use Rattle.river.specs.Card.{Lawful, FieldsInRange, river, blank}
+use Rattle.river.specs.Card.{Regular, FieldsInRange, river, blank}
 use Rattle.river.specs.declared.source.Demand.the-variants.{Bod, Nitrogenous}
 use Rattle.river.specs.Source.{SourcesInRange}
 use Rattle.river.specs.Flow.{ownMass}
-use Rattle.river.proofs.range.Ranges.{lawful-at}
+use Rattle.river.proofs.range.Ranges.{asked-at}
 use Rattle.river.proofs.source.Ranges.{sources-in-range, source-mass-small}
 
 module _ (cs : Cards) (full : length (cs .at) ≡ 128) where
@@ -27,13 +27,13 @@ card-of-river cs i h =
     let k : i < cs .count = omega (arith, rw length-take at h) in
     sym (getD-take (cs .count) (cs .at) i blank k)
 
-module _ {card : Card} {cards : List Card} {i : ℕ} (own : card ≡ getD cards i blank) (h : Lawful cards) (l : i < length cards) where
+module _ {card : Card} {cards : List Card} {i : ℕ} (own : card ≡ getD cards i blank) (h : Regular cards) (l : i < length cards) where
   -- the card of a reach and its sources are in range
   pub card-in-range : FieldsInRange card
-  card-in-range = rw own (lawful-at h i l .in-range)
+  card-in-range = rw own (asked-at h i l .in-range)
 
   pub card-sources : SourcesInRange card
-  card-sources = rw own (sources-in-range (lawful-at h i l))
+  card-sources = rw own (sources-in-range (asked-at h i l))
 
   -- what a reach itself takes in is bounded
   pub own-mass-few : {mass : ℕ} → mass ≡ ownMass card → mass ≤ 208_589_934_592_000

@@ -1,4 +1,4 @@
--- The flow check accepts exactly the rivers whose reaches pass the rules 7 to 11, 13 and 14, and the laws of the loop over the reaches.
+-- The flow check accepts exactly the rivers whose reaches pass the rules 7 to 11 and 13 to 15, and the laws of the loop over the reaches.
 use mathlib.Core.Path.{_≡_, refl, sym, ap, _∙_}
 use mathlib.Core.Logic.{⊎-elim}
 use mathlib.Core.Bool.{true}
@@ -15,13 +15,14 @@ use Rattle.river.specs.declared.card.Dam.the-variants.{Absent, Aerating}
 use Rattle.river.specs.declared.refusal.Outcome.{Outcome}
 use Rattle.river.specs.declared.refusal.Refusal.{Refusal}
 use Rattle.river.specs.declared.flow.FlowTable.{FlowTable}
-use Rattle.river.specs.declared.flow.Checked.{Checked}
+use Rattle.river.specs.declared.flow.ReachChecked.{ReachChecked}
 use Rattle.river.specs.Refusal.{accepted, outcomeOf, goOn}
-use Rattle.river.specs.Card.{Lawful}
+use Rattle.river.specs.Card.{Regular}
 use Rattle.river.specs.Flow.{Feeders, cardOf, above, fed, flowOf, mixedFlow, mixedMass, damFits, DamRule, ReachPasses, Flows, reachChecks, checksFrom, flowCheck}
 use Rattle.river.specs.FlowTable.{Underway, NextChecked, FlowChecked}
 use Rattle.river.proofs.Answers.{no-refusal, both-true, both}
 use Rattle.river.proofs.flow.Groups.{Asks, checks-ask, decided}
+use Rattle.river.proofs.flow.Checks.{Full, withReach, next-table}
 
 -- the test of check 9 and its rule
 dam-rule-true : (dam : Dam) (up : Feeders) → DamRule dam up → damFits dam (fed up) (flowOf up) ≡ true
@@ -43,17 +44,19 @@ reach-asks card up i =
     record {
       on =
           λ s. groups .on
-          ((s .flowing, (s .bounded, dam-rule-true (card .dam) up (s .dam-rule))), (s .mass-rule, (s .take-rule, ((s .decay-rule, (s .aeration-rule, s .nitrification-rule)), s .bed-rule))));
+          ((s .flowing, (s .bounded, dam-rule-true (card .dam) up (s .dam-rule))), (s .mass-rule, (s .take-rule, (s .range-rule, ((s .decay-rule, (s .aeration-rule, s .nitrification-rule)), s .bed-rule)))));
       told =
           λ e. let k = groups .told e in
           let flow = k .0 .0 in
-          let left = k .0 .1 .1 .1 in (
+          let rates = k .0 .1 .1 .1 in
+          let left = rates .1 in (
             record {
               flowing = flow .0;
               bounded = flow .1 .0;
               dam-rule = true-dam-rule (card .dam) up (flow .1 .1);
               mass-rule = k .0 .1 .0;
               take-rule = k .0 .1 .1 .0;
+              range-rule = rates .0;
               decay-rule = left .0 .0;
               aeration-rule = left .0 .1 .0;
               nitrification-rule = left .0 .1 .1;
@@ -100,10 +103,10 @@ accepted-of-flows {cards} h =
     ap (checksFrom cards 1) (let e : length cards ≡ length cards + 0 = omega arith in e) ∙ behind cards (length cards) 0 (h .each)
 
 -- before the first reach
-pub at-start : {cards : List Card} (t : FlowTable) → Lawful cards → Underway cards 0 t
+pub at-start : {cards : List Card} (t : FlowTable) → Regular cards → Underway cards 0 t
 at-start t h =
     record {
-      lawful = h;
+      regular = h;
       within = zero-le;
       passed =
           record {
@@ -119,9 +122,9 @@ at-start t h =
     }
 
 module _ {cards : List Card} {i : ℕ} {t : FlowTable} (h : Underway cards i t) where
-  module _ (l : i < length cards) {r : Checked} (c : NextChecked cards i r) where
+  module _ (l : i < length cards) {r : ReachChecked} (c : NextChecked cards i r) where
     -- a refusal of the next reach is the answer
-    pub at-refusal : {x : Refusal} → r .outcome ≡ Outcome.Refused x → FlowChecked cards r
+    pub at-refusal : {x : Refusal} {u : FlowTable} → r .outcome ≡ Outcome.Refused x → FlowChecked cards (record { outcome = r .outcome; flows = u })
     unfolding flowCheck checksFrom goOn
     at-refusal e =
         let m = length cards - suc i in
@@ -138,12 +141,13 @@ module _ {cards : List Card} {i : ℕ} {t : FlowTable} (h : Underway cards i t) 
         }
 
     -- a reach that passes leads to the next
-    pub at-next : r .outcome ≡ Outcome.Accepted → Underway cards (i + 1) (r .flows)
-    at-next e =
+    pub at-next : {o : ℕ} → r .outcome ≡ Outcome.Accepted → Full t → o ≡ cardOf cards (suc i) .outlet
+        → Underway cards (i + 1) (withReach t i o (r .flow) (r .mass) (r .depth))
+    at-next e full own =
         rw
         add-one
         record {
-          lawful = h .lawful;
+          regular = h .regular;
           within = l;
           passed =
               record {
@@ -152,7 +156,7 @@ module _ {cards : List Card} {i : ℕ} {t : FlowTable} (h : Underway cards i t) 
                     (λ (q : j ≡ i). rw q (decided (c .answer) (reach-asks _ _ _) e))
                     (λ (q : j < i). h .passed .sound j q)
                     (eq-or-lt-of-le (le-of-suc-le-suc k));
-                tabled = c .tabled e;
+                tabled = next-table (h .passed .tabled) (omega (arith, h .regular .few)) full own (c .flow e) (c .mass e) (c .depth e);
               };
         }
 

@@ -11,10 +11,12 @@ use Rattle.river.specs.declared.refusal.Outcome.{Outcome}
 use Rattle.river.specs.declared.refusal.Refusal.{Refusal}
 use Rattle.river.specs.declared.source.Demand.the-variants.{Nitrogenous}
 use Rattle.river.specs.Refusal.{Answer, accepted, need, goOn}
+use Rattle.river.specs.Card.{RatesInRange}
 use Rattle.river.specs.Source.{rateOf}
-use Rattle.river.specs.Flow.{flowLimit, massLimit, rateLimit, bedLimit, takeOf, sludgeOf, damFits, rateFits, Checks, _then_, flowRules, loadRule, takeRule, rateRules, bedRule, checksOf}
+use Rattle.river.specs.Flow.{flowLimit, massLimit, rateLimit, bedLimit, takeOf, sludgeOf, damFits, rateFits, Checks, _then_, flowRules, loadRule, takeRule, rangeRule, rateRules, bedRule, checksOf}
 use Rattle.river.specs.FlowTable.{Decides}
 use Rattle.river.proofs.Answers.{need-true, passed}
+use Rattle.river.proofs.range.Ranges.{ratesInRange-true, true-ratesInRange}
 
 -- checks that ask for a fact: with it they go on, and where they led to an accepted answer it holds
 pub record Asks (f : Checks) (P : Type 0) : Type 0 where
@@ -55,6 +57,10 @@ pub take-rule-asks : (take Qm i : ℕ) → Asks (takeRule take Qm i) (take < Qm)
 unfolding takeRule
 take-rule-asks take Qm i = ask _ 13 i (lt-ltb take Qm) (ltb-true take Qm)
 
+pub range-rule-asks : (card : Card) (i : ℕ) → Asks (rangeRule card i) (RatesInRange card)
+unfolding rangeRule
+range-rule-asks card i = ask _ 15 i (ratesInRange-true card) (true-ratesInRange card)
+
 -- each rate, × volume, is at most 345,600 × Q
 abbrev RatesFit : Card → (Q : ℕ) → Type 0
 RatesFit card Q =
@@ -72,12 +78,13 @@ unfolding bedRule
 bed-rule-asks card Q i = ask-most (sludgeOf card * card .volume) (bedLimit * Q) 14 i
 
 -- what the checks of a reach ask for, group by group
-pub checks-ask : (card : Card) (fed : Bool) (Qu Qm Mm i : ℕ) → Asks (checksOf card fed Qu Qm Mm i) (((0 < Qm) × ((Qm ≤ flowLimit) × (damFits (card .dam) fed Qu ≡ true))) × ((Mm ≤ massLimit * Qm) × ((takeOf card < Qm) × (RatesFit card (Qm - takeOf card) × (sludgeOf card * card .volume ≤ bedLimit * (Qm - takeOf card))))))
+pub checks-ask : (card : Card) (fed : Bool) (Qu Qm Mm i : ℕ) → Asks (checksOf card fed Qu Qm Mm i) (((0 < Qm) × ((Qm ≤ flowLimit) × (damFits (card .dam) fed Qu ≡ true))) × ((Mm ≤ massLimit * Qm) × ((takeOf card < Qm) × (RatesInRange card × (RatesFit card (Qm - takeOf card) × (sludgeOf card * card .volume ≤ bedLimit * (Qm - takeOf card)))))))
 unfolding checksOf
 checks-ask card fed Qu Qm Mm i =
     asks-both (flow-rules-ask (card .dam) fed Qu Qm i)
     (asks-both (load-rule-asks Qm Mm i)
-    (asks-both (take-rule-asks (takeOf card) Qm i) (asks-both (rate-rules-ask card (Qm - takeOf card) i) (bed-rule-asks card (Qm - takeOf card) i))))
+    (asks-both (take-rule-asks (takeOf card) Qm i)
+    (asks-both (range-rule-asks card i) (asks-both (rate-rules-ask card (Qm - takeOf card) i) (bed-rule-asks card (Qm - takeOf card) i)))))
 
 module _ {f : Checks} {r : Outcome} (d : Decides r f) where
   -- an accepted outcome has what its checks ask for

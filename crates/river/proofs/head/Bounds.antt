@@ -11,7 +11,7 @@ use Rattle.river.specs.declared.card.Amount.{Amount}
 use Rattle.river.specs.declared.card.Amount.the-variants.{Without, Given}
 use Rattle.river.specs.declared.card.Card.{Card}
 use Rattle.river.specs.declared.source.Source.{Source}
-use Rattle.river.specs.Card.{LawfulAmount, pressureLayout, amountOr, LawfulCard}
+use Rattle.river.specs.Card.{LawfulAmount, pressureLayout, amountOr, RegularCard}
 use Rattle.river.specs.Source.{sourceMass}
 use Rattle.river.specs.Flow.{flowLimit}
 use Rattle.river.specs.Saturation.{saturation, saturationThousandths, standardPressure, pressureOf, saturationOf, ConditionsInRange, SaturationInRange}
@@ -45,12 +45,12 @@ pub standard-saturation : (card : Card) → pressureOf card ≡ standardPressure
 unfolding saturationOf saturation
 standard-saturation card e = rw e (mul-div-mul-right (saturationThousandths (card .temperature)) 1000 (lit< tt))
 
--- a lawful card has what saturation asks
+-- a regular card has what saturation asks
 pressure-small : (a : Amount) → LawfulAmount pressureLayout a → amountOr standardPressure a ≤ 800
 pressure-small Without h = omega arith
 pressure-small (Given p) h = h .1
 
-pub conditions-in-range : {n i : ℕ} {c : Card} → LawfulCard n i c → SaturationInRange c
+pub conditions-in-range : {n i : ℕ} {c : Card} → RegularCard n i c → SaturationInRange c
 conditions-in-range {c = c} h = record { temperature = h .in-range .temperature; pressure = pressure-small (c .pressure) (h .pressure) }
 
 -- a share is at most the whole

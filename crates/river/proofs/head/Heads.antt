@@ -21,7 +21,7 @@ use Rattle.river.specs.declared.head.Head.{Head}
 use Rattle.river.specs.Card.{LawfulDam, blank}
 use Rattle.river.specs.Flow.{Feeders, cardOf, above, feedersAmong, joinedIf, flowOf, massOf, deepest, fed, flowLimit, takeOf, mixedFlow, reachFlow, mixedMass, reachMass, ownMass, flowAt, massAt, ReachPasses, DamRule}
 use Rattle.river.specs.Head.{headDemand}
-use Rattle.river.proofs.range.Ranges.{lawful-at}
+use Rattle.river.proofs.range.Ranges.{asked-at}
 use Rattle.river.proofs.source.Ranges.{source-inflow}
 use Rattle.river.proofs.flow.Table.{sum-of-feeders, sum-scaled, sums-scaled, fed-deepest}
 use Rattle.river.proofs.flow.Take.{flow-remains, flow-within, flow-and-take, mixed-bounded, mass-scaled, still-within}
@@ -137,10 +137,11 @@ module _ {cards : List Card} {flows : FlowTable} {feet : FootTable} {i : ℕ} (h
 
   ready : HeadReady (cardOf cards (suc i)) (fed (above cards (suc i))) (flowOf (above cards (suc i)))
   ready =
+      let regular = asked-at (h .lawful) i (h .within) .regular in
       record {
-        fields = lawful-at (h .lawful) i (h .within) .in-range;
-        saturation = conditions-in-range (lawful-at (h .lawful) i (h .within));
-        dam = dam-within (cardOf cards (suc i) .dam) (above cards (suc i)) (lawful-at (h .lawful) i (h .within) .dam) (here .dam-rule);
+        fields = regular .in-range;
+        saturation = conditions-in-range regular;
+        dam = dam-within (cardOf cards (suc i) .dam) (above cards (suc i)) (regular .dam) (here .dam-rule);
         flows =
             record {
               flowing = here .flowing;

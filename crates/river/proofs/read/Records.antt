@@ -10,7 +10,7 @@ use lib.ListN.{length, drop}
 use lib.Seq.{drop-at}
 use borrow.Author.Tests.{le-leb, leb-true}
 use Rattle.river.specs.Bytes.{AreBytes, byteAt}
-use Rattle.river.specs.Card.{LawfulCard, RE, optional, optionalOf, inRange, outletOk, sizeOf}
+use Rattle.river.specs.Card.{RatesInRange, LawfulCard, RE, optional, optionalOf, inRange, outletOk, sizeOf}
 use Rattle.river.specs.Optional.{Values, absent, encodeOptionals}
 use Rattle.river.specs.Read.{cardAt, readReach}
 use Rattle.river.specs.Refusal.{accepted}
@@ -20,7 +20,7 @@ use Rattle.river.proofs.Answers.{need-true, after-accepted, passed, wen
 use Rattle.river.proofs.bytes.Numbers.{HasMark, true-marked, twoBytes-twoAt, fourBytes-fourAt, fourAt-below, bytesFrom, leads-spelled, leads-more, are-bytes-drop}
 use Rattle.river.proofs.range.Ranges.{inRange-true, lawful-card, lawful-optionals}
 use Rattle.river.proofs.card.Optional.{unmarked, AreOptionals, readOptionals-encode, readOptionals-are}
-use Rattle.river.proofs.card.Rows.{sound-optional, length-encodeCard}
+use Rattle.river.proofs.card.Rows.{sound-optional, rate-held, narrow-spelled, length-encodeCard}
 
 -- the fields of an `RE` record do not depend on the records that follow
 inRange-cardAt : (s : List ℕ) (vs ws : Values optional) → inRange (cardAt s vs) ≡ inRange (cardAt s ws)
@@ -29,9 +29,9 @@ inRange-cardAt s vs ws = refl
 
 -- Reading what was encoded.
 
-cardAt-encode : (c : Card) (post : List ℕ) → cardAt (encodeCard c ++ post) (optionalOf c) ≡ c
+cardAt-encode : (c : Card) (post : List ℕ) → RatesInRange c → cardAt (encodeCard c ++ post) (optionalOf c) ≡ c
 unfolding cardAt
-cardAt-encode c post = simp div-add-mod'
+cardAt-encode c post h = simp (div-add-mod', rate-held (h .k1), rate-held (h .k2))
 
 room-for-reach : (c : Card) (post : List ℕ) → 26 ≤ length (encodeCard c ++ post)
 room-for-reach c post = omega arith
@@ -44,10 +44,10 @@ readReach-encode n i c post h u =
     let s = encodeCard c ++ post in
     need-true _ _ _ _ (le-leb _ _ (room-for-reach c post)) ∙
     need-true _ _ _ _ refl ∙
-    need-true _ _ _ _ (inRange-cardAt s (absent optional) (optionalOf c) ∙ rw cardAt-encode (inRange-true c (h .in-range))) ∙
-    need-true _ _ _ _ (h .outlet) ∙
+    need-true _ _ _ _ (inRange-cardAt s (absent optional) (optionalOf c) ∙ rw (cardAt-encode c post (h .rates)) (inRange-true c (h .regular .in-range) (h .rates))) ∙
+    need-true _ _ _ _ (h .regular .outlet) ∙
     after-accepted _ _ (readOptionals-encode optional sound-optional refl i (optionalOf c) post (lawful-optionals h) u) ∙
-    ap accepted (cardAt-encode c post)
+    ap accepted (cardAt-encode c post (h .rates))
 
 pub drop-encodeCard : (c : Card) (post : List ℕ) → drop (sizeOf c) (encodeCard c ++ post) ≡ post
 drop-encodeCard c post = drop-at (encodeCard c) post (sizeOf c) (length-encodeCard c)
@@ -62,8 +62,8 @@ encodeReach-cardAt s vs h m i =
     sym (m .second) i ∷
     byteAt s 2 ∷
     byteAt s 3 ∷
-    twoBytes-twoAt s 4 h i ++
-    twoBytes-twoAt s 6 h i ++
+    narrow-spelled s 4 h i ++
+    narrow-spelled s 6 h i ++
     fourBytes-fourAt s 8 h i ++
     fourBytes-fourAt s 12 h i ++
     fourBytes-fourAt s 16 h i ++ twoBytes-twoAt s 20 h i ++ fourBytes-fourAt s 22 h i

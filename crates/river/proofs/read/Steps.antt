@@ -3,23 +3,35 @@
 use Prim.Native.Nat.{ℕ, _+_, _≤_}
 use mathlib.Core.Path.{_≡_, ap, sym, _∙_}
 use mathlib.Core.List.{List}
-use lib.ListN.{drop}
+use lib.ListN.{length, drop}
 use Rattle.river.specs.Bytes.{twoAt}
 use Rattle.river.specs.Card.{sizeOf}
-use Rattle.river.specs.Read.{headerOf, damOf, amountOf, nitrificationOf, reachOf, headerRefusal, damRefusal, amountRefusal, nitrificationRefusal, reachRefusal, readHeader, readReaches, readFile}
-use Rattle.river.specs.Refusal.{Answer, accepted, refused}
+use Rattle.river.specs.Optional.{readOptional}
+use Rattle.river.specs.Read.{headerOf, factorsReadOf, damOf, amountOf, nitrificationOf, reachOf, headerRefusal, factorsRefusal, damRefusal, amountRefusal, nitrificationRefusal, reachRefusal, readHeader, readReaches, readRest, readFile}
+use Rattle.river.specs.Refusal.{Answer, accepted, refused, after}
+use Rattle.river.specs.River.{riverOf, encodeFactors, factorsRecord}
 use Rattle.river.specs.declared.card.Amount.{Amount}
 use Rattle.river.specs.declared.card.Card.{Card}
 use Rattle.river.specs.declared.card.Dam.{Dam}
 use Rattle.river.specs.declared.card.Nitrification.{Nitrification}
+use Rattle.river.specs.declared.card.RateFactors.{RateFactors}
 use Rattle.river.specs.declared.read.AmountRead.{AmountRead}
 use Rattle.river.specs.declared.read.DamRead.{DamRead}
+use Rattle.river.specs.declared.read.FactorsRead.{FactorsRead}
 use Rattle.river.specs.declared.read.Header.{Header}
 use Rattle.river.specs.declared.read.NitrificationRead.{NitrificationRead}
 use Rattle.river.specs.declared.read.Reach.{Reach}
 use Rattle.river.specs.declared.refusal.Refusal.{Refusal}
 use Rattle.river.proofs.Answers.{clash, after-accepted, after-refused, passed}
 use Rattle.river.proofs.range.Ranges.{true-countOk}
+
+pub factors-found : (x : Answer RateFactors) {a : FactorsRead} {f : RateFactors} → a ≡ factorsReadOf x → a ≡ FactorsRead.Found f → x ≡ accepted f
+factors-found (accepted f) e g = cc
+factors-found (refused r) e g = clash (cc)
+
+pub factors-refused : (x : Answer RateFactors) {a : FactorsRead} {r : Refusal} → a ≡ factorsReadOf x → a ≡ FactorsRead.Refused r → x ≡ refused (factorsRefusal a)
+factors-refused (accepted f) e g = clash (cc)
+factors-refused (refused r) e g = rw e
 
 pub dam-found : (x : Answer Dam) {a : DamRead} {d : Dam} → a ≡ damOf x → a ≡ DamRead.Found d → x ≡ accepted d
 dam-found (accepted d) e f = cc
@@ -76,16 +88,25 @@ header-few s {n} e =
     let same : twoAt s 2 ≡ n = cc (p .rest) in
     rw same at (true-countOk (twoAt s 2) (p .test) .1)
 
-pub file-reaches : (s : List ℕ) {n next : ℕ} → headerOf (readHeader s) ≡ Header.Count n next
-    → readFile s ≡ readReaches n 1 n (drop next s)
+pub file-rest : (s : List ℕ) {n next : ℕ} {rest : List ℕ} → headerOf (readHeader s) ≡ Header.Count n next → rest ≡ drop next s → readFile s ≡ readRest n rest
 unfolding readFile
-file-reaches s {n} e =
+file-rest s {n} e f =
     let h = header-counted (readHeader s) e in
-    after-accepted _ _ (h .0) ∙ ap (λ (k : ℕ). readReaches n 1 n (drop k s)) (sym (h .1))
+    after-accepted _ _ (h .0) ∙ ap (readRest n) (sym (f ∙ ap (λ (k : ℕ). drop k s) (h .1)))
 
 pub header-refuses : (s : List ℕ) {r : Refusal} → readHeader s ≡ refused r → readFile s ≡ refused r
 unfolding readFile
 header-refuses s e = after-refused _ _ e
+
+-- what follows the header by the rate factors
+pub rest-reaches : (n : ℕ) (s : List ℕ) {f : RateFactors} → readOptional factorsRecord 0 s ≡ accepted f
+    → readRest n s ≡ after (readReaches n 1 n (drop (length (encodeFactors f)) s)) (λ cs. accepted (riverOf f cs))
+unfolding readRest
+rest-reaches n s e = after-accepted _ _ e
+
+pub factors-refuse : (n : ℕ) (s : List ℕ) {r : Refusal} → readOptional factorsRecord 0 s ≡ refused r → readRest n s ≡ refused r
+unfolding readRest
+factors-refuse n s e = after-refused _ _ e
 
 -- a card is refused
 pub card-refused : (at : ℕ) {x : Answer Card} {r q : Refusal} → r ≡ q → x ≡ refused q → Reach.Refused r ≡ reachOf at x

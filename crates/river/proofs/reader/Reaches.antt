@@ -8,27 +8,31 @@ use native.Mathlib.Omega.{arith}
 use lib.ListN.{length, take, drop, set, length-drop}
 use lib.Seq.{take-suc-set, drop-drop, append-snoc}
 use borrow.Author.Tests.{eq-eqb, ne-eqb}
+use Rattle.river.specs.Optional.{readOptional}
 use Rattle.river.specs.Read.{readHeader, headerOf, readReach, readReaches, readFile}
-use Rattle.river.specs.Reader.{withCards, continued, ReadingGoesOn}
+use Rattle.river.specs.Reader.{haltedAt, withCards, continued, ReadingGoesOn}
 use Rattle.river.specs.Refusal.{Answer, accepted, refused, refuse, after}
+use Rattle.river.specs.River.{River, riverOf, encodeFactors, factorsRecord}
 use Rattle.river.specs.declared.card.Card.{Card}
+use Rattle.river.specs.declared.card.RateFactors.{RateFactors}
 use Rattle.river.specs.declared.read.Header.{Header}
 use Rattle.river.specs.declared.refusal.Outcome.{Outcome}
 use Rattle.river.specs.declared.reader.Progress.{Progress}
 use Rattle.river.specs.declared.refusal.Refusal.{Refusal}
 use Rattle.river.proofs.Answers.{need-true, need-false, after-accepted, after-refused}
-use Rattle.river.proofs.read.Steps.{header-counted, header-few, file-reaches}
+use Rattle.river.proofs.read.Steps.{header-counted, header-few, file-rest, rest-reaches}
 use Rattle.river.specs.Card.{sizeOf}
 
-joined-nil : (x : Answer (List Card)) → x ≡ withCards [] x
-joined-nil (accepted cs) = refl
-joined-nil (refused r) = refl
-
-joined-cons : (cs : List Card) (c : Card) (x : Answer (List Card))
-    → withCards cs (after x (λ ds. accepted (c ∷ ds))) ≡ withCards (cs ++ (c ∷ [])) x
+joined-nil : (f : RateFactors) (x : Answer (List Card)) → after x (λ cs. accepted (riverOf f cs)) ≡ withCards f [] x
 unfolding after
-joined-cons cs c (accepted ds) = ap accepted (sym (append-snoc cs c ds))
-joined-cons cs c (refused r) = refl
+joined-nil f (accepted cs) = refl
+joined-nil f (refused r) = refl
+
+joined-cons : (f : RateFactors) (cs : List Card) (c : Card) (x : Answer (List Card))
+    → withCards f cs (after x (λ ds. accepted (c ∷ ds))) ≡ withCards f (cs ++ (c ∷ [])) x
+unfolding after
+joined-cons f cs c (accepted ds) = ap (λ (l : List Card). accepted (riverOf f l)) (sym (append-snoc cs c ds))
+joined-cons f cs c (refused r) = refl
 
 -- one reach more
 readReaches-suc : (n i m : ℕ) (s : List ℕ) {c : Card} → readReach n i s ≡ accepted c
@@ -54,38 +58,47 @@ left-over n i h = omega arith
 
 module _ (s : List ℕ) where
   -- a refusal, after which no reach is due
-  pub halted : (at : List Card) {r : Refusal} → readFile s ≡ refused r
-      → ReadingGoesOn s (record { outcome = Outcome.Refused r; at = at; count = 0; read = 0; next = 0 })
-  halted at e =
-      record {
+  pub halted : {at : List Card} {r : Refusal} {p : Progress} → p ≡ haltedAt at r → readFile s ≡ refused r → ReadingGoesOn s p
+  halted e f =
+      rw e
+      (record {
         few = omega arith;
         most = omega arith;
         opened = λ h. absurd (let z : ⊥ = omega arith in z);
-        rest = e;
-      }
+        rest = f;
+      })
 
-  pub begun : (at : List Card) {n next : ℕ} → headerOf (readHeader s) ≡ Header.Count n next
-      → ReadingGoesOn s (record { outcome = Outcome.Accepted; at = at; count = n; read = 0; next = next })
-  begun at {n} {next} e =
+  -- the header and the rate factors are read
+  pub begun : (at : List Card) {n next k : ℕ} {rest : List ℕ} {f : RateFactors} → headerOf (readHeader s) ≡ Header.Count n next → rest ≡ drop next s → readOptional factorsRecord 0 rest ≡ accepted f
+      → k ≡ length (encodeFactors f) → ReadingGoesOn s (record { outcome = Outcome.Accepted; at = at; count = n; read = 0; next = next + k; factors = f })
+  begun at {n} {next} {k} {rest} {f} e behind found size =
       let same : n ≡ n - 0 = omega arith in
+      let place : drop (length (encodeFactors f)) rest ≡ drop (next + k) s = rw (behind, drop-drop, size) in
       record {
         few = header-few s (header-counted (readHeader s) e .0);
         most = omega arith;
         opened = λ _. refl;
         rest =
-            file-reaches s e ∙
-            joined-nil (readReaches n 1 n (drop next s)) ∙
-            ap (λ (k : ℕ). withCards [] (readReaches n 1 k (drop next s))) same;
+            file-rest s e behind ∙
+            rest-reaches n rest found ∙
+            joined-nil f (readReaches n 1 n (drop (length (encodeFactors f)) rest)) ∙
+            λ j. withCards f [] (readReaches n 1 (same j) (place j));
       }
 
   module _ {p : Progress} (g : ReadingGoesOn s p) where
+    -- the answer for m reaches that are due, and the file's, by an answer for the reaches that are still to be read
+    abbrev due : ℕ → Answer (List Card)
+    due m = readReaches (p .count) (p .read + 1) m (drop (p .next) s)
+
+    abbrev joined : Answer (List Card) → Answer River
+    joined = withCards (p .factors) (take (p .read) (p .at))
+
     -- where a reach is due no refusal is found
-    going : {o : Outcome} → p .outcome ≡ o
-        → readFile s ≡ continued o (take (p .read) (p .at)) (readReaches (p .count) (p .read + 1) (p .count - p .read) (drop (p .next) s))
-    going e = g .rest ∙ ap (λ (o : Outcome). continued o (take (p .read) (p .at)) (readReaches (p .count) (p .read + 1) (p .count - p .read) (drop (p .next) s))) e
+    going : {o : Outcome} → p .outcome ≡ o → readFile s ≡ continued o (p .factors) (take (p .read) (p .at)) (due (p .count - p .read))
+    going e = g .rest ∙ ap (λ (o : Outcome). continued o (p .factors) (take (p .read) (p .at)) (due (p .count - p .read))) e
 
     pub one-more : {c : Card} {k : ℕ} → p .read < p .count → length (p .at) ≡ 128 → readReach (p .count) (p .read + 1) (drop (p .next) s) ≡ accepted c → k ≡ p .next + sizeOf c
-        → ReadingGoesOn s (record { outcome = Outcome.Accepted; at = set (p .at) (p .read) c; count = p .count; read = p .read + 1; next = k })
+        → ReadingGoesOn s (record { outcome = Outcome.Accepted; at = set (p .at) (p .read) c; count = p .count; read = p .read + 1; next = k; factors = p .factors })
     one-more {c} {k} less room e f =
         record {
           few = g .few;
@@ -94,16 +107,14 @@ module _ (s : List ℕ) where
           rest = going (g .opened less) ∙ rest₁ ∙ rest₂ ∙ rest₃;
         }
       where
-        at : List Card
-        at = p .at
+        m : ℕ
+        m = p .count - (p .read + 1)
 
-        rest₁ : withCards (take (p .read) (p .at)) (readReaches (p .count) (p .read + 1) (p .count - p .read) (drop (p .next) s))
-            ≡ withCards (take (p .read) (p .at)) (readReaches (p .count) (p .read + 1) (suc (p .count - (p .read + 1))) (drop (p .next) s))
-        rest₁ = ap (λ (m : ℕ). withCards (take (p .read) (p .at)) (readReaches (p .count) (p .read + 1) m (drop (p .next) s))) (left-over (p .count) (p .read) less)
+        rest₁ : joined (due (p .count - p .read)) ≡ joined (due (suc m))
+        rest₁ = ap (λ (k : ℕ). joined (due k)) (left-over (p .count) (p .read) less)
 
-        rest₂ : withCards (take (p .read) (p .at)) (readReaches (p .count) (p .read + 1) (suc (p .count - (p .read + 1))) (drop (p .next) s))
-            ≡ withCards (take (p .read) (p .at) ++ (c ∷ [])) (readReaches (p .count) (suc (p .read + 1)) (p .count - (p .read + 1)) (drop (sizeOf c) (drop (p .next) s)))
-        rest₂ = ap (withCards (take (p .read) (p .at))) (readReaches-suc (p .count) (p .read + 1) (p .count - (p .read + 1)) (drop (p .next) s) e) ∙ joined-cons (take (p .read) (p .at)) c _
+        rest₂ : joined (due (suc m)) ≡ withCards (p .factors) (take (p .read) (p .at) ++ (c ∷ [])) (readReaches (p .count) (suc (p .read + 1)) m (drop (sizeOf c) (drop (p .next) s)))
+        rest₂ = ap joined (readReaches-suc (p .count) (p .read + 1) m (drop (p .next) s) e) ∙ joined-cons (p .factors) (take (p .read) (p .at)) c _
 
         kept : take (p .read) (p .at) ++ (c ∷ []) ≡ take (p .read + 1) (set (p .at) (p .read) c)
         kept = sym (rw add-one (take-suc-set (p .at) (p .read) c (omega (arith, room, g .few))))
@@ -111,34 +122,32 @@ module _ (s : List ℕ) where
         place : drop (sizeOf c) (drop (p .next) s) ≡ drop k s
         place = drop-drop (sizeOf c) (p .next) s ∙ rw (← f)
 
-        rest₃ : withCards (take (p .read) (p .at) ++ (c ∷ [])) (readReaches (p .count) (suc (p .read + 1)) (p .count - (p .read + 1)) (drop (sizeOf c) (drop (p .next) s)))
-            ≡ withCards (take (p .read + 1) (set (p .at) (p .read) c)) (readReaches (p .count) (p .read + 1 + 1) (p .count - (p .read + 1)) (drop k s))
-        rest₃ j = withCards (kept j) (readReaches (p .count) (sym (add-one (p .read + 1)) j) (p .count - (p .read + 1)) (place j))
+        rest₃ : withCards (p .factors) (take (p .read) (p .at) ++ (c ∷ [])) (readReaches (p .count) (suc (p .read + 1)) m (drop (sizeOf c) (drop (p .next) s)))
+            ≡ withCards (p .factors) (take (p .read + 1) (set (p .at) (p .read) c)) (readReaches (p .count) (p .read + 1 + 1) m (drop k s))
+        rest₃ j = withCards (p .factors) (kept j) (readReaches (p .count) (sym (add-one (p .read + 1)) j) m (place j))
 
     pub stopped : {r : Refusal} → p .read < p .count → readReach (p .count) (p .read + 1) (drop (p .next) s) ≡ refused r → readFile s ≡ refused r
     stopped {r} less e =
-        let now : readReaches (p .count) (p .read + 1) (p .count - p .read) (drop (p .next) s) ≡ refused r =
+        let now : due (p .count - p .read) ≡ refused r =
         rw left-over (readReaches-refused (p .count) (p .read + 1) (p .count - (p .read + 1)) (drop (p .next) s) e)
         in
-        going (g .opened less) ∙ ap (withCards (take (p .read) (p .at))) now
+        going (g .opened less) ∙ ap joined now
 
     -- no reach is due
     pub was-refused : {r : Refusal} → p .outcome ≡ Outcome.Refused r → readFile s ≡ refused r
     was-refused e = going e
 
-    none-left : p .count ≤ p .read → p .outcome ≡ Outcome.Accepted
-        → readFile s ≡ withCards (take (p .read) (p .at)) (readReaches (p .count) (p .read + 1) 0 (drop (p .next) s))
+    none-left : p .count ≤ p .read → p .outcome ≡ Outcome.Accepted → readFile s ≡ joined (due 0)
     none-left done e =
         let none : p .count - p .read ≡ 0 = omega arith in
-        going e ∙ ap (λ (k : ℕ). withCards (take (p .read) (p .at)) (readReaches (p .count) (p .read + 1) k (drop (p .next) s))) none
+        going e ∙ ap (λ (k : ℕ). joined (due k)) none
 
     pub too-long : p .count ≤ p .read → p .outcome ≡ Outcome.Accepted → p .next < length s → readFile s ≡ refused (refuse 6 0)
-    too-long done e more =
-        none-left done e ∙ ap (withCards (take (p .read) (p .at))) (readReaches-more (p .count) (p .read + 1) (p .next) s more)
+    too-long done e more = none-left done e ∙ ap joined (readReaches-more (p .count) (p .read + 1) (p .next) s more)
 
-    pub complete : p .count ≤ p .read → p .outcome ≡ Outcome.Accepted → length s ≤ p .next → readFile s ≡ accepted (take (p .count) (p .at))
+    pub complete : p .count ≤ p .read → p .outcome ≡ Outcome.Accepted → length s ≤ p .next → readFile s ≡ accepted (riverOf (p .factors) (take (p .count) (p .at)))
     complete done e end =
         let all : p .read ≡ p .count = omega (arith, g .most) in
         none-left done e ∙
-        ap (withCards (take (p .read) (p .at))) (readReaches-end (p .count) (p .read + 1) (p .next) s end) ∙
-        ap accepted (append-nil (take (p .read) (p .at)) ∙ ap (λ (k : ℕ). take k (p .at)) all)
+        ap joined (readReaches-end (p .count) (p .read + 1) (p .next) s end) ∙
+        ap (λ (cs : List Card). accepted (riverOf (p .factors) cs)) (append-nil (take (p .read) (p .at)) ∙ ap (λ (k : ℕ). take k (p .at)) all)

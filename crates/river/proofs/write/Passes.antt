@@ -9,14 +9,17 @@ use lib.ListN.{length, take, drop, length-append, take-append-drop, drop-of-leng
 use lib.Seq.{take-add, take-all}
 use Rattle.river.specs.Bytes.{Put}
 use Rattle.river.specs.Refusal.{Answer, accepted, refused}
-use Rattle.river.specs.Write.{encode, encodeCard, encodeCards, encodeHeader, checkCard, checkFrom, checkOf}
+use Rattle.river.specs.River.{River, encodeFactors, factorsRecord, openingSize, longestOpening}
+use Rattle.river.specs.Write.{encode, encodeCard, encodeCards, encodeOpening, checkCard, checkFrom, checkOf}
 use Rattle.river.specs.declared.card.Card.{Card}
+use Rattle.river.specs.declared.card.RateFactors.{RateFactors}
 use Rattle.river.specs.declared.refusal.Refusal.{Refusal}
 use Rattle.river.specs.declared.refusal.Outcome.{Outcome}
 use Rattle.river.proofs.Answers.{clash, after-accepted, after-refused}
 use Rattle.river.proofs.bytes.Puts.{chain}
-use Rattle.river.proofs.card.Rows.{length-encodeCard, size-small}
-use Rattle.river.specs.Card.{headerBytes, longestCard, sizeOf}
+use Rattle.river.proofs.card.Optional.{optional-small}
+use Rattle.river.proofs.card.Rows.{sound-factors, length-encodeCard, size-small}
+use Rattle.river.specs.Card.{longestCard, sizeOf}
 
 -- Checking.
 
@@ -68,33 +71,37 @@ module _ (n : ℕ) (cs : List Card) where
 
 -- Measuring.
 
-pub length-encode : (cs : List Card) → length (encode cs) ≡ 4 + length (encodeCards cs)
+-- an opening is at most as long as the longest
+pub opening-small : (f : RateFactors) → openingSize f ≤ longestOpening
+opening-small f = omega (arith, optional-small factorsRecord sound-factors f)
+
+pub length-encode : (r : River) → length (encode r) ≡ openingSize (r .factors) + length (encodeCards (r .cards))
 unfolding encode
-length-encode cs = omega arith
+length-encode r = omega (arith, length-append (encodeFactors (r .factors)) (encodeCards (r .cards)))
 
--- the sum of the first i cards' sizes, and of the header's
-pub record Measured (cs : List Card) (i total : ℕ) : Type 0 where
-  pub near : total ≤ headerBytes + longestCard * i
-  pub rest : total + length (encodeCards (drop i cs)) ≡ length (encode cs)
+-- the sum of the first i cards' sizes, and of the opening's
+pub record Measured (r : River) (i total : ℕ) : Type 0 where
+  pub near : total ≤ longestOpening + longestCard * i
+  pub rest : total + length (encodeCards (drop i (r .cards))) ≡ length (encode r)
 
-module _ (cs : List Card) where
-  pub measure-start : Measured cs 0 4
-  measure-start = record { near = omega arith; rest = sym (length-encode cs) }
+module _ (r : River) where
+  pub measure-start : Measured r 0 (openingSize (r .factors))
+  measure-start = record { near = omega (arith, opening-small (r .factors)); rest = sym (length-encode r) }
 
-  module _ {i total : ℕ} (p : Measured cs i total) where
-    pub measure-more : {c : Card} {k : ℕ} → drop i cs ≡ c ∷ drop (i + 1) cs → k ≡ sizeOf c → Measured cs (i + 1) (total + k)
+  module _ {i total : ℕ} (p : Measured r i total) where
+    pub measure-more : {c : Card} {k : ℕ} → drop i (r .cards) ≡ c ∷ drop (i + 1) (r .cards) → k ≡ sizeOf c → Measured r (i + 1) (total + k)
     measure-more {c} {k} e f =
-        let l : length (encodeCards (drop i cs)) ≡ length (encodeCard c) + length (encodeCards (drop (i + 1) cs)) =
-        ap (λ (x : List Card). length (encodeCards x)) e ∙ length-append (encodeCard c) (encodeCards (drop (i + 1) cs))
+        let l : length (encodeCards (drop i (r .cards))) ≡ length (encodeCard c) + length (encodeCards (drop (i + 1) (r .cards))) =
+        ap (λ (x : List Card). length (encodeCards x)) e ∙ length-append (encodeCard c) (encodeCards (drop (i + 1) (r .cards)))
         in
         record {
           near = omega (arith, size-small c, p .near);
           rest = omega (arith, p .rest, length-encodeCard c);
         }
 
-    pub measure-end : length cs ≤ i → total ≡ length (encode cs)
+    pub measure-end : length (r .cards) ≤ i → total ≡ length (encode r)
     measure-end h =
-        let l : length (encodeCards (drop i cs)) ≡ 0 = ap (λ (x : List Card). length (encodeCards x)) (drop-of-length-le cs h) in
+        let l : length (encodeCards (drop i (r .cards))) ≡ 0 = ap (λ (x : List Card). length (encodeCards x)) (drop-of-length-le (r .cards) h) in
         omega (arith, p .rest)
 
 -- Putting.
@@ -106,45 +113,47 @@ encodeCards-append (c ∷ a) b =
     sym (append-assoc (encodeCard c) (encodeCards a) (encodeCards b))
 
 -- the first i cards stand in a buffer from a place on
-pub record Placed (cs : List Card) (before : List ℕ) (start i : ℕ) (left : List ℕ) (next : ℕ) : Type 0 where
-  pub put : Put before start (encodeCards (take i cs)) left next
+pub record Placed (r : River) (before : List ℕ) (start i : ℕ) (left : List ℕ) (next : ℕ) : Type 0 where
+  pub put : Put before start (encodeCards (take i (r .cards))) left next
   pub same : length left ≡ length before
 
-module _ (cs : List Card) (before : List ℕ) (start : ℕ) where
-  pub place-start : Placed cs before start 0 before start
+module _ (r : River) (before : List ℕ) (start : ℕ) where
+  pub place-start : Placed r before start 0 before start
   place-start = record { put = record { buffer = refl; place = omega arith }; same = refl }
 
-  module _ {i : ℕ} {left : List ℕ} {next : ℕ} (p : Placed cs before start i left next) where
-    pub place-more : {c : Card} {after : List ℕ} {k : ℕ} → drop i cs ≡ c ∷ drop (i + 1) cs → Put left next (encodeCard c) after k
-        → length after ≡ length left → Placed cs before start (i + 1) after k
+  module _ {i : ℕ} {left : List ℕ} {next : ℕ} (p : Placed r before start i left next) where
+    pub place-more : {c : Card} {after : List ℕ} {k : ℕ} → drop i (r .cards) ≡ c ∷ drop (i + 1) (r .cards) → Put left next (encodeCard c) after k
+        → length after ≡ length left → Placed r before start (i + 1) after k
     place-more {c} {after} {k} e q l =
         record {
           put = subst (λ (x : List ℕ). Put before start x after k) bytes (chain (p .put) q);
           same = l ∙ p .same;
         }
       where
-        more : take (i + 1) cs ≡ take i cs ++ (c ∷ [])
-        more = take-add i 1 cs ∙ ap (λ (x : List Card). take i cs ++ take 1 x) e
+        more : take (i + 1) (r .cards) ≡ take i (r .cards) ++ (c ∷ [])
+        more = take-add i 1 (r .cards) ∙ ap (λ (x : List Card). take i (r .cards) ++ take 1 x) e
 
-        bytes : encodeCards (take i cs) ++ encodeCard c ≡ encodeCards (take (i + 1) cs)
+        bytes : encodeCards (take i (r .cards)) ++ encodeCard c ≡ encodeCards (take (i + 1) (r .cards))
         bytes =
-            ap (λ (x : List ℕ). encodeCards (take i cs) ++ x) (sym (append-nil (encodeCard c))) ∙
-            sym (encodeCards-append (take i cs) (c ∷ [])) ∙
+            ap (λ (x : List ℕ). encodeCards (take i (r .cards)) ++ x) (sym (append-nil (encodeCard c))) ∙
+            sym (encodeCards-append (take i (r .cards)) (c ∷ [])) ∙
             ap encodeCards (sym more)
 
-    pub place-room : {c : Card} → drop i cs ≡ c ∷ drop (i + 1) cs → start ≡ 4 → length (encode cs) ≤ length before → next + sizeOf c ≤ length left
+    pub place-room : {c : Card} → drop i (r .cards) ≡ c ∷ drop (i + 1) (r .cards) → start ≡ openingSize (r .factors) → length (encode r) ≤ length before
+        → next + sizeOf c ≤ length left
     place-room {c} e f h =
-        let all : length (encodeCards cs) ≡ length (encodeCards (take i cs)) + length (encodeCards (drop i cs)) =
-        ap (λ (x : List Card). length (encodeCards x)) (sym (take-append-drop i cs)) ∙
-        ap (λ (x : List ℕ). length x) (encodeCards-append (take i cs) (drop i cs)) ∙
-        length-append (encodeCards (take i cs)) (encodeCards (drop i cs))
+        let all : length (encodeCards (r .cards)) ≡ length (encodeCards (take i (r .cards))) + length (encodeCards (drop i (r .cards))) =
+        ap (λ (x : List Card). length (encodeCards x)) (sym (take-append-drop i (r .cards))) ∙
+        ap (λ (x : List ℕ). length x) (encodeCards-append (take i (r .cards)) (drop i (r .cards))) ∙
+        length-append (encodeCards (take i (r .cards))) (encodeCards (drop i (r .cards)))
         in
-        let rest : length (encodeCards (drop i cs)) ≡ length (encodeCard c) + length (encodeCards (drop (i + 1) cs)) =
-        ap (λ (x : List Card). length (encodeCards x)) e ∙ length-append (encodeCard c) (encodeCards (drop (i + 1) cs))
+        let rest : length (encodeCards (drop i (r .cards))) ≡ length (encodeCard c) + length (encodeCards (drop (i + 1) (r .cards))) =
+        ap (λ (x : List Card). length (encodeCards x)) e ∙ length-append (encodeCard c) (encodeCards (drop (i + 1) (r .cards)))
         in
-        omega (arith, p .put .place, p .same, length-encode cs, length-encodeCard c)
+        omega (arith, p .put .place, p .same, length-encode r, length-encodeCard c)
 
-    pub place-end : {first : List ℕ} → length cs ≤ i → Put first 0 (encodeHeader (length cs)) before start → Put first 0 (encode cs) left next
+    pub place-end : {first : List ℕ} → length (r .cards) ≤ i → Put first 0 (encodeOpening (length (r .cards)) (r .factors)) before start
+        → Put first 0 (encode r) left next
     unfolding encode
     place-end h q =
-        chain q (subst (λ (x : List Card). Put before start (encodeCards x) left next) (take-all i cs h) (p .put))
+        chain q (subst (λ (x : List Card). Put before start (encodeCards x) left next) (take-all i (r .cards) h) (p .put))

@@ -1,4 +1,4 @@
--- `river::file::finish` meets its contract: with no reach due, the refusal that is found, 6 where bytes remain, or the cards.
+-- `river::file::finish` meets its contract: with no reach due, the refusal that is found, 6 where bytes remain, or the river.
 -- Assumes nothing.
 use mathlib.Core.Path.{sym, ap, _∙_}
 use borrow.Author.Needs.{needs}
@@ -9,6 +9,7 @@ use Rattle.river.proofs.reader.Reaches.{was-refused, too-long, complete
 use Rattle.river.proofs.Answers.{no-refusal}
 use Rattle.river.proofs.file.finish.Statement.{statement}
 use Rattle.river.specs.Refusal.{outcomeOf}
+use Rattle.river.specs.River.{riverOf}
 use Rattle.river.proofs.file.finish.Tie as tie
 
 returns-3 : tie.Need-returns-3
@@ -20,7 +21,7 @@ returns-3 c =
     let is = told .enum-told .given .1 in
     let all = complete (now (start .args .file)) (start .pre .goes) (start .pre .none-due) is (end .if1 .left) in
     record {
-      answer = ap (λ (o : Outcome). outcomeOf o (take (p .count) (p .at))) is ∙ sym all;
+      answer = ap (λ (o : Outcome). outcomeOf o (riverOf (p .factors) (take (p .count) (p .at)))) is ∙ sym all;
       few = start .pre .goes .few;
       none = λ f. no-refusal (sym is ∙ f);
     }

@@ -1,57 +1,96 @@
 -- `river::flow::check_from` meets its contract: the laws of the loop in proofs/flow/FlowCheck.
-use mathlib.Core.Path.{_≡_}
-use Prim.Native.Nat.{ℕ, _-_, _<_}
+use mathlib.Core.Path.{_≡_, ap}
+use Prim.Native.Nat.{ℕ, suc, _-_, _<_}
 use native.Mathlib.Omega.{arith}
-use lib.ListN.{length, getD}
+use lib.ListN.{length, length-map, getD}
 use borrow.Author.Needs.{needs}
+use Rattle.river.specs.declared.card.Card.{Card}
 use Rattle.river.specs.declared.card.Cards.{Cards}
 use Rattle.river.specs.declared.flow.FlowTable.{FlowTable}
+use Rattle.river.specs.declared.flow.Upstream.{Upstream}
 use Rattle.river.specs.Card.{river, blank}
-use Rattle.river.specs.FlowTable.{Underway, CheckAt}
+use Rattle.river.specs.Flow.{cardOf}
+use Rattle.river.specs.FlowTable.{Underway, CheckAt, upstreamBy}
 use Rattle.river.proofs.flow.Count.{card-of-river}
+use Rattle.river.proofs.flow.Checks.{Full, full-next, sums-fit}
 use Rattle.river.proofs.flow.FlowCheck.{at-refusal, at-next, at-end}
 use Rattle.river.proofs.flow.check_from.Statement.{statement}
 use Rattle.river.proofs.flow.check_from.Tie as tie
 
+-- the first i reaches passed, and have their tables
+record Progress (cards : Cards) (count : ℕ) (flows : FlowTable) (i : ℕ) : Type 0 where
+  counted : count ≡ length (river cards)
+  underway : Underway (river cards) i flows
+  full : Full flows
+
 abbrev Inv-loop : tie.InvT-loop
-Inv-loop from cards count flows₀ i₀ flows i = (count ≡ length (river cards)) × Underway (river cards) i flows
+Inv-loop from cards count flows₀ i₀ flows i = Progress cards count flows i
 
 abbrev μ-loop : tie.MeasureT-loop
 μ-loop from cards count flows₀ i₀ flows i = count - i
 
 loop-holds : tie.Need-loop-holds Inv-loop μ-loop
-loop-holds c = (c .reach-count .ensures, c .before .pre)
+loop-holds c =
+    let s = c .before in
+    let g = s .good .1 .0 .1 .1 in
+    record {
+      counted = c .reach-count .ensures;
+      underway = s .pre;
+      full = record { outlet = simp length-map at (g .0 .1 .0 .1); flow = simp length-map at (g .1 .0 .1 .0 .1); mass = simp length-map at (g .1 .1 .0 .1 .0 .1); depth = simp length-map at (g .1 .1 .1 .0 .1 .0 .1) };
+    }
 
--- what the next reach is handed
-abbrev check-at : (cs : Cards) {flows : FlowTable} {i : ℕ} → Underway (river cs) i flows → i < length (river cs) → CheckAt (getD (cs .at) i blank) flows i
-check-at cs {i = i} underway within =
-    record { cards = river cs; underway = underway; within = within; own = card-of-river cs i within }
+-- the next reach is one of the river, and what it is handed
+module _ {cs : Cards} {count : ℕ} {flows : FlowTable} {i : ℕ} (p : Progress cs count flows i) (l : i < count) where
+  within : i < length (river cs)
+  within = omega (arith, p .counted)
+
+  few : i < 128
+  few = omega (arith, within, p .underway .regular .few)
+
+  own-outlet : getD (cs .at) i blank .outlet ≡ cardOf (river cs) (suc i) .outlet
+  own-outlet = ap (λ (x : Card). x .outlet) (card-of-river cs i within)
+
+  abbrev check-at : {up : Upstream} → up ≡ upstreamBy flows i → CheckAt (getD (cs .at) i blank) up i
+  check-at e =
+      record { cards = river cs; flows = flows; underway = p .underway; gathered = e; within = within; own = card-of-river cs i within }
+
+upstream-of-requires : tie.Need-upstream-of-requires Inv-loop μ-loop
+upstream-of-requires c κs =
+    let loop = c .before .before .before .before .before .before .before in
+    sums-fit (loop .loop .inv .underway, within (loop .loop .inv) (omega arith))
 
 check-next-requires : tie.Need-check-next-requires Inv-loop μ-loop
-check-next-requires c κs =
-    let inv = c .before .before .loop .inv in
-    check-at (c .before .before .before .before .args .t1) (inv .1) (omega (arith, inv .0))
+check-next-requires c κs = let loop = c .before .before .before .before .before .before .before .before in check-at (loop .loop .inv) (omega arith) (c .upstream-of .ensures)
 
 returns : tie.Need-returns Inv-loop μ-loop
 returns c =
     let next = c .before .before in
-    let inv = next .before .before .before .loop .inv in
-    at-refusal (inv .1) (omega (arith, inv .0))
-    (next .check-next .ensures (check-at (next .before .before .before .before .before .args .t1) (inv .1) (omega (arith, inv .0))))
-    (c .enum-told2 .given .1)
+    let up = next .before in
+    let test = up .before .before .before .before .before .before .before in
+    let p = test .before .loop .inv in
+    let l = test .loop-test .taken in
+    at-refusal (p .underway) (within p l) (next .check-next .ensures (check-at p l (up .upstream-of .ensures))) (c .enum-told2 .given .1)
+
+element-write-flows : tie.Need-element-write-flows Inv-loop μ-loop
+element-write-flows c = few (c .before .before .before .before .before .before .before .before .before .before .before .loop .inv) (omega arith)
 
 loop-again : tie.Need-loop-again Inv-loop μ-loop
 loop-again c =
-    let next = c .before .before .before in
-    let inv = next .before .before .before .loop .inv in (
-      inv .0,
-      at-next (inv .1) (omega (arith, inv .0))
-          (next .check-next .ensures (check-at (next .before .before .before .before .before .args .t1) (inv .1) (omega (arith, inv .0))))
-          (c .before .enum-told .given .1),
-    )
+    let next = c .before .before in
+    let up = next .before in
+    let test = up .before .before .before .before .before .before .before in
+    let p = test .before .loop .inv in
+    let l = test .loop-test .taken in
+    record {
+      counted = p .counted;
+      underway =
+          at-next (p .underway) (within p l) (next .check-next .ensures (check-at p l (up .upstream-of .ensures))) (c .enum-told .given .1) (p .full)
+          (own-outlet p l);
+      full = full-next _ _ _ _ _ (p .full);
+    }
 
 returns-2 : tie.Need-returns-2 Inv-loop μ-loop
-returns-2 c = at-end (c .before .loop .inv .1) (omega (arith, c .before .loop .inv .0))
+returns-2 c = at-end (c .before .loop .inv .underway) (omega (arith, c .before .loop .inv .counted))
 
 pub check-from-spec : {M : Type 1} → statement M
 check-from-spec =
@@ -63,10 +102,17 @@ check-from-spec =
     loop-holds
     (λ mul-card. search needs)
     (λ element-copy-out-card. search needs)
+    upstream-of-requires
     check-next-requires
     (λ enum-told. search needs)
     (λ enum-told-2. search needs)
     returns
+    element-write-flows
+    (λ mul-flows. omega (arith, element-write-flows mul-flows))
+    element-write-flows
+    (λ mul-flows-2. omega (arith, element-write-flows mul-flows-2))
+    element-write-flows
+    element-write-flows
     (λ add-i. omega arith)
     (λ loop-less. omega arith)
     loop-again

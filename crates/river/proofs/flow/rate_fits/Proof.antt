@@ -1,4 +1,4 @@
--- `river::flow::rate_fits` meets its contract: the product of two and four bytes fits eight.
+-- `river::flow::rate_fits` meets its contract: the product of four and four bytes fits eight.
 use borrow.Author.Needs.{needs}
 use native.Mathlib.Nat.{mul-le-mul}
 use native.Mathlib.Omega.{arith}
@@ -8,7 +8,7 @@ use Rattle.river.proofs.flow.rate_fits.Tie as tie
 
 mul-result : tie.Need-mul-result
 mul-result c =
-    let r : c .args .rate ≤ 65535 = omega arith in
+    let r : c .args .rate ≤ 4294967295 = omega arith in
     let v : c .args .volume ≤ 4294967295 = omega arith in
     omega (arith, mul-le-mul r v)
 

@@ -25,8 +25,8 @@ returns-2 c =
     let a = t .before .before .before in
     rw (a .before .before .before .amount .given .1, t .if1 .taken) (chain (a .put-pair .ensures) (b .put-four .ensures))
 
-put-two-requires : tie.Need-put-two-requires
-put-two-requires c κs =
+put-narrow-requires : tie.Need-put-narrow-requires
+put-narrow-requires c κs =
     let a = c .before .before .before .before .before .before .before in
     let h = rw (a .amount .given .1, c .before .if1 .left) at (a .before .before .before .pre) in
     omega (arith, h)
@@ -36,7 +36,7 @@ returns-3 c =
     let b = c .before .before in
     let t = b .before .before in
     let a = t .before .before .before in
-    rw (a .before .before .before .amount .given .1, t .if1 .left) (chain (a .put-pair .ensures) (b .put-two .ensures))
+    rw (a .before .before .before .amount .given .1, t .if1 .left) (chain (a .put-pair .ensures) (b .put-narrow .ensures))
 
 pub put-amount-spec : {M : Type 1} → statement M
 put-amount-spec =
@@ -49,7 +49,6 @@ put-amount-spec =
     put-four-requires
     (λ same-length. search needs)
     returns-2
-    (λ cast-put-two. search needs)
-    put-two-requires
+    put-narrow-requires
     (λ same-length-2. search needs)
     returns-3)

@@ -19,8 +19,8 @@ room c = rw (c .nitrification .given .1) at (c .before .before .before .pre)
 put-pair-requires : tie.Need-put-pair-requires
 put-pair-requires c κs = omega (arith, room (c .before .before))
 
-put-two-requires : tie.Need-put-two-requires
-put-two-requires c κs = omega (arith, room (c .before .before .before .before .before .before))
+put-narrow-requires : tie.Need-put-narrow-requires
+put-narrow-requires c κs = omega (arith, room (c .before .before .before .before .before .before))
 
 put-four-requires : tie.Need-put-four-requires
 put-four-requires c κs = omega (arith, room (c .before .before .before .before .before .before .before .before .before .before))
@@ -38,7 +38,7 @@ returns-2 c =
     let d = e .before .before .before .before in
     let b = d .before .before .before .before in
     let a = b .before .before .before .before in
-    rw (a .before .before .before .nitrification .given .1) (chain (chain (chain (chain (a .put-pair .ensures) (b .put-two .ensures)) (d .put-four .ensures)) (e .put-four2 .ensures)) (f .put-four3 .ensures))
+    rw (a .before .before .before .nitrification .given .1) (chain (chain (chain (chain (a .put-pair .ensures) (b .put-narrow .ensures)) (d .put-four .ensures)) (e .put-four2 .ensures)) (f .put-four3 .ensures))
 
 pub put-nitrification-spec : {M : Type 1} → statement M
 put-nitrification-spec =
@@ -48,7 +48,7 @@ put-nitrification-spec =
     (λ enum-told. search needs)
     returns
     put-pair-requires
-    put-two-requires
+    put-narrow-requires
     put-four-requires
     put-four-requires-2
     put-four-requires-3

@@ -11,7 +11,7 @@ returns c =
     let d = e .before .before .before .before in
     let b = d .before .before .before .before in
     let a = b .before .before .before .before in
-    chain (chain (chain (a .put-pair .ensures) (b .put-pair2 .ensures)) (d .put-two .ensures)) (e .put-two2 .ensures)
+    chain (chain (chain (a .put-pair .ensures) (b .put-pair2 .ensures)) (d .put-narrow .ensures)) (e .put-narrow2 .ensures)
 
 pub put-rates-spec : {M : Type 1} → statement M
 put-rates-spec =
@@ -19,7 +19,7 @@ put-rates-spec =
     (tie.spec
     (λ put-pair-requires. search needs)
     (λ put-pair-requires-2. search needs)
-    (λ put-two-requires. search needs)
-    (λ put-two-requires-2. search needs)
+    (λ put-narrow-requires. search needs)
+    (λ put-narrow-requires-2. search needs)
     (λ same-length. search needs)
     returns)

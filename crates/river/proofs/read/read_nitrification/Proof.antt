@@ -55,6 +55,7 @@ read-nitrification-spec =
     (λ refuse-requires. search needs)
     returns-2
     (λ two-at-requires. search needs)
+    (λ cast-t10. search needs)
     (λ four-at-requires. search needs)
     (λ four-at-requires-2. search needs)
     (λ nitrification-in-range-requires. search needs)

@@ -13,15 +13,15 @@ use Rattle.river.proofs.reader.take.Tie as tie
 
 returns : tie.Need-returns
 returns c =
-    let told = c .before in
+    let told = c .before .before in
     let start = told .before .before .before in
     let p = start .args .p in
     record {
       goes = λ s g e.
-          halted s _
+          halted s (c .halted .ensures)
           (stopped s g (start .pre .0) (not-read (p .next) _ e (told .enum-told .given .1)) ∙
-          ap refused (sym (c .reach-refusal .ensures)));
-      fewer = omega (arith, start .pre);
+          ap refused (sym (c .before .reach-refusal .ensures)));
+      fewer = rw (c .halted .ensures) (omega (arith, start .pre));
     }
 
 room : (c : tie.Start) → length (c .args .p .at) ≡ 128
@@ -46,6 +46,7 @@ take-spec =
     (λ enum-known-reach. search needs)
     (λ enum-told. search needs)
     (λ reach-refusal-requires. search needs)
+    (λ halted-requires. search needs)
     returns
     (λ cast-k. search needs)
     (λ mul-at. search needs)

@@ -18,7 +18,7 @@ returns c =
     refused-back (bytes (a .before .before)) (a .read-file .ensures) (c .enum-told2 .given .1)
 
 -- what was read is written
-written : (c : tie.After-write-first) {o : Outcome} → endOf (c .write-first .result) ≡ o → WritesBack (c .before .before .before .before .before .before .before .before .before .before .args .file .now) (c .before .before .before .before .before .before .before .before .before .before .args .out .now) o (c .write-first .last .1 .1 .0)
+written : (c : tie.After-write-first) {o : Outcome} → endOf (c .write-first .result) ≡ o → WritesBack (c .before .before .before .before .before .before .before .before .before .before .args .file .now) (c .before .before .before .before .before .before .before .before .before .before .args .out .now) o (c .write-first .last .1 .1 .1 .0)
 written c e =
     let a = c .before .before .before .before .before .before .before in
     written-back (bytes (a .before .before)) (a .read-file .ensures) (c .before .before .before .before .before .enum-told .given .1) (c .write-first .ensures) e

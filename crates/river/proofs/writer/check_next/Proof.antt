@@ -15,10 +15,10 @@ use Rattle.river.proofs.writer.check_next.Statement.{statement}
 use Rattle.river.proofs.writer.check_next.Tie as tie
 
 abbrev made : Checking → ℕ → Checking
-made s k = record { check = Outcome.Accepted; due = s .due; passed = s .passed + 1; length = s .length + k }
+made s k = record { check = Outcome.Accepted; due = s .due; passed = s .passed + 1; length = s .length + k; factors = s .factors }
 
-add-t14 : tie.Need-add-t14
-add-t14 c =
+add-t15 : tie.Need-add-t15
+add-t15 c =
     let start = c .before .before .before .before .before in
     omega (arith, start .pre, c .before .size-of .ensures, size-small (start .args .c))
 
@@ -51,8 +51,8 @@ check-next-spec =
     (λ enum-known-r. search needs)
     (λ stopped-requires. search needs)
     (λ enum-told. search needs)
-    (λ add-t12. search needs)
+    (λ add-t13. search needs)
     (λ size-of-requires. search needs)
-    add-t14
+    add-t15
     returns
     returns-2)

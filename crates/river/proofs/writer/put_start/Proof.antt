@@ -1,4 +1,4 @@
--- `river::writer::put_start` meets its contract: nothing is put after a refusal or into a short buffer, else the header.
+-- `river::writer::put_start` meets its contract: nothing is put after a refusal or into a short buffer, else the opening.
 -- Assumes nothing.
 use mathlib.Core.Path.{_≡_, refl, sym, ap, _∙_}
 use native.Mathlib.Omega.{arith}
@@ -42,7 +42,7 @@ returns-3 c =
       none = refl;
       stops = λ e. not-both (told .enum-told .given .1) e;
       short = λ e l. absurd (let z : ⊥ = omega (arith, c .before .before .before .before .if1 .left) in z);
-      begins = λ e l. record { answer = refl; due = refl; header = c .before .before .put-header .ensures };
+      begins = λ e l. record { answer = refl; due = refl; opening = c .before .before .put-opening .ensures };
     }
 
 pub put-start-spec : {M : Type 1} → statement M
@@ -53,8 +53,8 @@ put-start-spec =
     (λ enum-told. search needs)
     (λ refuse-requires. search needs)
     returns
-    (λ cast-put-header. search needs)
-    (λ put-header-requires. search needs)
+    (λ cast-put-opening. search needs)
+    (λ put-opening-requires. search needs)
     returns-2
     (λ same-length. search needs)
     returns-3)

@@ -1,26 +1,48 @@
--- `river::writer::start` meets its contract: the count is in range, or gets 3.
+-- `river::writer::start` meets its contract: the count is in range, or gets 3, and so are the rate factors, or they get 4.
 -- Assumes nothing.
-use mathlib.Core.Path.{sym, ap, _∙_}
-use borrow.Author.Tests.{not-true, not-false}
-use Rattle.river.specs.Refusal.{Answer}
-use Rattle.river.specs.Writer.{stoppedAt, startFrom}
-use Rattle.river.proofs.Answers.{need-true, need-false}
+use native.Mathlib.Omega.{arith}
 use borrow.Author.Needs.{needs}
+use borrow.Author.Tests.{not-true, not-false}
+use Rattle.river.specs.Refusal.{need}
+use Rattle.river.proofs.write.Passes.{opening-small}
 use Rattle.river.proofs.writer.start.Statement.{statement}
 use Rattle.river.proofs.writer.start.Tie as tie
 
 returns : tie.Need-returns
+unfolding need
 returns c =
-    let no = c .before .before in
-    let n = no .before .before .args .n in
-    c .stopped .ensures ∙
-    ap stoppedAt (c .before .refuse .ensures) ∙
-    ap (λ (x : Answer Unit). startFrom x n) (sym (need-false _ _ _ _ (sym (no .before .count-ok .ensures) ∙ not-true (no .before .count-ok .result) (no .if1 .taken))))
+    let n = c .before .before in
+    rw (c .stopped .ensures, c .before .refuse .ensures, ← n .before .count-ok .ensures, not-true (n .before .count-ok .result) (n .if1 .taken))
 
 returns-2 : tie.Need-returns-2
+unfolding need
 returns-2 c =
-    let n = c .before .before .args .n in
-    ap (λ (x : Answer Unit). startFrom x n) (sym (need-true _ _ _ _ (sym (c .before .count-ok .ensures) ∙ not-false (c .before .count-ok .result) (c .if1 .left))))
+    let f = c .before .before in
+    let n = f .before .before in
+    rw (c .stopped2 .ensures, c .before .refuse2 .ensures, ← n .before .count-ok .ensures, not-false (n .before .count-ok .result) (n .if1 .left), ← f .before .factors-in-range .ensures, not-true (f .before .factors-in-range .result) (f .if2 .taken))
+
+add-t9 : tie.Need-add-t9
+add-t9 c = omega (arith, c .factors-size .ensures, opening-small (c .before .before .before .before .before .args .factors))
+
+returns-3 : tie.Need-returns-3
+unfolding need
+returns-3 c =
+    let f = c .before in
+    let n = f .before .before in
+    rw (c .factors-size .ensures, ← n .before .count-ok .ensures, not-false (n .before .count-ok .result) (n .if1 .left), ← f .before .factors-in-range .ensures, not-false (f .before .factors-in-range .result) (f .if2 .left))
 
 pub start-spec : {M : Type 1} → statement M
-start-spec = tie.close (tie.spec (λ count-ok-requires. search needs) (λ refuse-requires κs. search needs) (λ stopped-requires κs. search needs) returns returns-2)
+start-spec =
+    tie.close
+    (tie.spec
+    (λ count-ok-requires. search needs)
+    (λ refuse-requires κs. search needs)
+    (λ stopped-requires κs. search needs)
+    returns
+    (λ factors-in-range-requires κs. search needs)
+    (λ refuse-requires-2 κs. search needs)
+    (λ stopped-requires-2 κs. search needs)
+    returns-2
+    (λ factors-size-requires κs. search needs)
+    add-t9
+    returns-3)

@@ -1,0 +1,4 @@
+-- Laws of the rates in force.
+pub mod Rows
+pub mod Correction
+pub mod InForce
