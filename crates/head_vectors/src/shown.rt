@@ -1,7 +1,7 @@
 // Flows and heads of an accepted river, printed. A foot has seven eighths of each demand at the head, and an oxygen that the test gives.
 ghost use Prim.Native.Nat.{_<_, _≤_};
 ghost use lib.ListN.{length};
-ghost use Rattle.river.specs.Card.{Lawful, river};
+ghost use Rattle.river.specs.Card.{Lawful, cardList};
 ghost use Rattle.river.specs.Flow.{Flows};
 ghost use Rattle.river.specs.FlowTable.{Tabled};
 ghost use Rattle.river.specs.HeadTable.{FootWithin, HeadTabled};
@@ -66,8 +66,8 @@ fn less(demand: u32) -> u32
 
 // Prints reach i + 1, and tells what its foot brings, which has this stored oxygen.
 fn reach(cards: Cards, flows: FlowTable, feet: FootTable, i: usize, oxygen: u32) -> Brought
-    requires { ⌜ HeadTabled (river cards) flows feet i ⌝ }
-    ensures { λ r. ⌜ FootWithin (river cards) i r ⌝ }
+    requires { ⌜ HeadTabled (cardList cards) flows feet i ⌝ }
+    ensures { λ r. ⌜ FootWithin (cardList cards) i r ⌝ }
 {
     let card = cards.at[i];
     let flow = flows.flow[i];
@@ -87,7 +87,7 @@ fn foot_oxygen(first: u32, step: u32, i: usize) -> u32
 
 // Prints every reach of an accepted river.
 fn reaches(cards: Cards, flows: FlowTable, first: u32, step: u32)
-    requires { ⌜ Lawful (river cards) × Flows (river cards) × Tabled (river cards) (length (river cards)) flows ⌝ }
+    requires { ⌜ Lawful (cardList cards) × Flows (cardList cards) × Tabled (cardList cards) (length (cardList cards)) flows ⌝ }
 {
     let count = reach_count(cards);
     let mut feet = no_feet();

@@ -15,7 +15,7 @@ use Rattle.river.specs.declared.refusal.Refusal.{Refusal}
 use Rattle.river.specs.declared.refusal.Outcome.{Outcome}
 use Rattle.river.specs.declared.accept.Acceptance.{Acceptance}
 use Rattle.river.specs.Bytes.{AreBytes}
-use Rattle.river.specs.Card.{river}
+use Rattle.river.specs.Card.{cardList}
 use Rattle.river.specs.Refusal.{Answer, accepted, refused, refuse, after, codeOf, outcomeOf}
 use Rattle.river.specs.Flow.{cardOf, above}
 use Rattle.river.specs.Stored.{storedZero, storedLimit}
@@ -155,26 +155,26 @@ module _ {file : List ℕ} {r : Acceptance} (h : Accepts file r) where
   pub file-refused : (room : ℕ) {refusal : Refusal} → r .outcome ≡ Outcome.Refused refusal → reportAnswer file room ≡ refused refusal
   unfolding reportAnswer
   file-refused room e =
-      after-refused (acceptFile file) _ (sym (h .answer) ∙ ap (λ (o : Outcome). outcomeOf o (river (r .cards))) e)
+      after-refused (acceptFile file) _ (sym (h .answer) ∙ ap (λ (o : Outcome). outcomeOf o (cardList (r .cards))) e)
 
-  file-accepted : r .outcome ≡ Outcome.Accepted → acceptFile file ≡ accepted (river (r .cards))
-  file-accepted e = sym (h .answer) ∙ ap (λ (o : Outcome). outcomeOf o (river (r .cards))) e
+  file-accepted : r .outcome ≡ Outcome.Accepted → acceptFile file ≡ accepted (cardList (r .cards))
+  file-accepted e = sym (h .answer) ∙ ap (λ (o : Outcome). outcomeOf o (cardList (r .cards))) e
 
   pub file-short :
       (room : ℕ) →
       r .outcome ≡ Outcome.Accepted →
-      room < reportSize (river (r .cards)) →
+      room < reportSize (cardList (r .cards)) →
       reportAnswer file room ≡ refused (refuse 12 0)
   unfolding reportAnswer roomAnswer
   file-short room e l =
-      after-accepted (acceptFile file) _ (file-accepted e) ∙ need-false _ 12 0 _ (lt-leb (reportSize (river (r .cards))) room l)
+      after-accepted (acceptFile file) _ (file-accepted e) ∙ need-false _ 12 0 _ (lt-leb (reportSize (cardList (r .cards))) room l)
 
   pub file-held :
       (room : ℕ) →
       r .outcome ≡ Outcome.Accepted →
-      reportSize (river (r .cards)) ≤ room →
-      reportAnswer file room ≡ accepted (river (r .cards))
-  file-held room e l = answers file (record { cards = river (r .cards); passes = file-accepted e; holds = l })
+      reportSize (cardList (r .cards)) ≤ room →
+      reportAnswer file room ≡ accepted (cardList (r .cards))
+  file-held room e l = answers file (record { cards = cardList (r .cards); passes = file-accepted e; holds = l })
 
-  pub file-ready : r .outcome ≡ Outcome.Accepted → Ready (river (r .cards)) (r .flows)
+  pub file-ready : r .outcome ≡ Outcome.Accepted → Ready (cardList (r .cards)) (r .flows)
   file-ready e = record { lawful = h .lawful e; sound = h .sound e; tabled = h .tabled e }

@@ -20,7 +20,7 @@ ghost use mathlib.Core.List.{_++_};
 ghost use Prim.Native.Nat.{_≤_};
 ghost use lib.ListN.{length, drop};
 ghost use Rattle.decay.specs.Step.{RatesPass, stepOf};
-ghost use Rattle.river.specs.Card.{river};
+ghost use Rattle.river.specs.Card.{cardList};
 ghost use Rattle.river.specs.declared.source.Demand.the-variants.{Nitrogenous};
 ghost use Rattle.river.specs.Source.{rateOf};
 ghost use Rattle.river.specs.Stored.{oxygenOf};
@@ -111,8 +111,8 @@ pub fn report_reach(
 
 // Puts the records of all reaches in their places.
 pub fn report_all(cards: Cards, flows: FlowTable, report: &mut [u8])
-    requires { ⌜ Ready (river cards) flows × (reportSize (river cards) ≤ length (now report)) ⌝ }
-    ensures { λ _. ⌜ now (report .exit) ≡ reportOf (river cards) ++ drop (reportSize (river cards)) (now (report .entry)) ⌝ }
+    requires { ⌜ Ready (cardList cards) flows × (reportSize (cardList cards) ≤ length (now report)) ⌝ }
+    ensures { λ _. ⌜ now (report .exit) ≡ reportOf (cardList cards) ++ drop (reportSize (cardList cards)) (now (report .entry)) ⌝ }
 {
     let count = flow::reach_count(cards);
     let nitrified = record::has_nitrification(cards);

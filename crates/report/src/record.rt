@@ -10,7 +10,7 @@ ghost use mathlib.Core.List.{_∷_, _++_};
 ghost use Prim.Native.Nat.{_+_, _*_, _≤_, _<_};
 ghost use lib.ListN.{length};
 ghost use Rattle.river.specs.Bytes.{Put, markBytes, twoBytes, fourBytes, fourAt};
-ghost use Rattle.river.specs.Card.{river};
+ghost use Rattle.river.specs.Card.{cardList};
 ghost use Rattle.river.specs.Stored.{oxygenOf};
 ghost use Rattle.report.specs.Record.{isNitrified, hasNitrification, complement, fromComplement, RP, nitrogenousBytes, encodeNitrogenous, encodeRecord, recordBytes, recordSize, recordAt, nitrogenousAt, readRecord, figuresIn};
 ghost use Rattle.report.specs.Report.{reportSize};
@@ -51,8 +51,8 @@ fn is_nitrified(card: Card) -> bool
 
 // Whether a river has nitrification at any reach.
 pub fn has_nitrification(cards: Cards) -> bool
-    requires { ⌜ length (river cards) ≤ 128 ⌝ }
-    ensures { λ r. ⌜ r ≡ hasNitrification (river cards) ⌝ }
+    requires { ⌜ length (cardList cards) ≤ 128 ⌝ }
+    ensures { λ r. ⌜ r ≡ hasNitrification (cardList cards) ⌝ }
 {
     let count = flow::reach_count(cards);
     let mut i: usize = 0;
@@ -79,16 +79,16 @@ pub fn record_bytes(nitrified: bool) -> usize
 
 // How many bytes a river's records have each.
 pub fn record_size(cards: Cards) -> usize
-    requires { ⌜ length (river cards) ≤ 128 ⌝ }
-    ensures { λ r. ⌜ r ≡ recordSize (river cards) ⌝ }
+    requires { ⌜ length (cardList cards) ≤ 128 ⌝ }
+    ensures { λ r. ⌜ r ≡ recordSize (cardList cards) ⌝ }
 {
     record_bytes(has_nitrification(cards))
 }
 
 // How many bytes a river's report has.
 pub fn report_size(cards: Cards) -> usize
-    requires { ⌜ length (river cards) ≤ 128 ⌝ }
-    ensures { λ r. ⌜ r ≡ reportSize (river cards) ⌝ }
+    requires { ⌜ length (cardList cards) ≤ 128 ⌝ }
+    ensures { λ r. ⌜ r ≡ reportSize (cardList cards) ⌝ }
 {
     record_size(cards) * flow::reach_count(cards)
 }

@@ -18,7 +18,7 @@ use Rattle.river.specs.declared.flow.Checked.{Checked}
 use Rattle.river.specs.declared.accept.Acceptance.{Acceptance}
 use Rattle.river.specs.Bytes.{AreBytes}
 use Rattle.river.specs.declared.card.Cards.{Cards}
-use Rattle.river.specs.Card.{Lawful, Regular, river, blank}
+use Rattle.river.specs.Card.{Lawful, Regular, cardList, blank}
 use Rattle.river.specs.Refusal.{accepted, refused, outcomeOf}
 use Rattle.river.specs.Read.{readFile}
 use Rattle.river.specs.River.{LawfulRiver}
@@ -96,22 +96,22 @@ unfolding acceptFile
 reading-refused {file} {r} {x} t h e =
     let read : readFile file ≡ refused x = sym (h .answer) ∙ ap (λ (o : Outcome). outcomeOf o (riverRead r)) e in
     record {
-      answer = ap (λ (o : Outcome). outcomeOf o (river (r .cards))) e ∙ sym (after-refused _ _ read);
+      answer = ap (λ (o : Outcome). outcomeOf o (cardList (r .cards))) e ∙ sym (after-refused _ _ read);
       lawful = λ q. no-refusal (sym q ∙ e);
       sound = λ q. no-refusal (sym q ∙ e);
       tabled = λ q. no-refusal (sym q ∙ e);
     }
 
 -- a reading that is accepted goes on to the flow check of its cards with the rates in force
-module _ {file : List ℕ} {r : Reading} (cards : Cards) (b : AreBytes file) (h : Reads file r) (e : r .outcome ≡ Outcome.Accepted) (f : river cards ≡ inForce (riverRead r)) where
-  pub regular-read : Regular (river cards)
+module _ {file : List ℕ} {r : Reading} (cards : Cards) (b : AreBytes file) (h : Reads file r) (e : r .outcome ≡ Outcome.Accepted) (f : cardList cards ≡ inForce (riverRead r)) where
+  pub regular-read : Regular (cardList cards)
   regular-read = rw f (regular-in-force (riverRead r) (reading-lawful b h e .cards))
 
-  pub reading-checked : {k : Checked} → FlowChecked (river cards) k → Accepts file (record { outcome = k .outcome; cards = cards; flows = k .flows })
+  pub reading-checked : {k : Checked} → FlowChecked (cardList cards) k → Accepts file (record { outcome = k .outcome; cards = cards; flows = k .flows })
   unfolding acceptFile
   reading-checked {k} c =
-      let passes : k .outcome ≡ Outcome.Accepted → Flows (river cards) =
-      λ q. flows-of-accepted (sym (c .answer) ∙ ap (λ (o : Outcome). outcomeOf o (river cards)) q)
+      let passes : k .outcome ≡ Outcome.Accepted → Flows (cardList cards) =
+      λ q. flows-of-accepted (sym (c .answer) ∙ ap (λ (o : Outcome). outcomeOf o (cardList cards)) q)
       in
       record {
         answer = c .answer ∙ ap flowCheck f ∙ sym (after-accepted _ _ (was-read file h e));
@@ -121,7 +121,7 @@ module _ {file : List ℕ} {r : Reading} (cards : Cards) (b : AreBytes file) (h 
       }
 
 -- THEOREM: an accepted river has, at every reach, what the flow check asks for from there on
-pub accepted-underway : {file : List ℕ} {r : Acceptance} → Accepts file r → r .outcome ≡ Outcome.Accepted → {i : ℕ} → i ≤ length (river (r .cards)) → Underway (river (r .cards)) i (r .flows)
+pub accepted-underway : {file : List ℕ} {r : Acceptance} → Accepts file r → r .outcome ≡ Outcome.Accepted → {i : ℕ} → i ≤ length (cardList (r .cards)) → Underway (cardList (r .cards)) i (r .flows)
 accepted-underway a e l =
     record {
       regular = regular-of-lawful (a .lawful e);

@@ -11,7 +11,7 @@ use lib.ListN.{length, take, drop}
 use lib.Seq.{take-at}
 use borrow.Author.Tests.{le-leb, leb-true}
 use Rattle.river.specs.Bytes.{AreBytes}
-use Rattle.river.specs.Card.{LawfulCard, EachFrom, river}
+use Rattle.river.specs.Card.{LawfulCard, EachFrom, cardList}
 use Rattle.river.specs.Read.{readFile}
 use Rattle.river.specs.Refusal.{Answer, accepted, refused, refuse, need, after, outcomeOf}
 use Rattle.river.specs.River.{River, LawfulRiver}
@@ -157,7 +157,7 @@ module _ {file : List ℕ} {r : Reading} (bytes : AreBytes file) (reads : Reads 
       writes-back file before before (r .outcome) bytes (ap (λ (o : Outcome). outcomeOf o tt) e ∙ sym same) (sym (ap (λ (a : Answer Unit). bufferRewritten a file before) same))
 
   -- THEOREM: writing what was read gives the same bytes, or 12 where the buffer is shorter
-  pub written-back : {before left : List ℕ} {w : Written} {o : Outcome} → r .outcome ≡ Outcome.Accepted → Writes (length (river (r .cards))) (riverRead r) before w left → endOf w ≡ o → WritesBack file before o left
+  pub written-back : {before left : List ℕ} {w : Written} {o : Outcome} → r .outcome ≡ Outcome.Accepted → Writes (length (cardList (r .cards))) (riverRead r) before w left → endOf w ≡ o → WritesBack file before o left
   unfolding rewriteAnswer
   written-back {before} {left} {w} {o} e writes end =
       let x = riverRead r in

@@ -6,7 +6,7 @@ use lib.ListN.{length}
 use Rattle.river.specs.declared.refusal.Outcome.{Outcome}
 use Rattle.river.specs.declared.accept.Acceptance.{Acceptance}
 use Rattle.river.specs.declared.card.Card.{Card}
-use Rattle.river.specs.Card.{Lawful, river}
+use Rattle.river.specs.Card.{Lawful, cardList}
 use Rattle.river.specs.River.{River, LawfulRiver}
 use Rattle.river.specs.Rates.{inForce}
 use Rattle.river.specs.Flow.{Flows, flowCheck}
@@ -30,7 +30,7 @@ pub record AcceptedFile (file : List ℕ) (cards : List Card) : Type 0 where
 -- the answer of reading and flow check; the cards of an accepted river are lawful, too, with the rates in force, and pass the flow rules, and
 -- the tables are theirs
 pub record Accepts (file : List ℕ) (r : Acceptance) : Type 0 where
-  pub answer : outcomeOf (r .outcome) (river (r .cards)) ≡ acceptFile file
-  pub lawful : r .outcome ≡ Outcome.Accepted → Lawful (river (r .cards))
-  pub sound : r .outcome ≡ Outcome.Accepted → Flows (river (r .cards))
-  pub tabled : r .outcome ≡ Outcome.Accepted → Tabled (river (r .cards)) (length (river (r .cards))) (r .flows)
+  pub answer : outcomeOf (r .outcome) (cardList (r .cards)) ≡ acceptFile file
+  pub lawful : r .outcome ≡ Outcome.Accepted → Lawful (cardList (r .cards))
+  pub sound : r .outcome ≡ Outcome.Accepted → Flows (cardList (r .cards))
+  pub tabled : r .outcome ≡ Outcome.Accepted → Tabled (cardList (r .cards)) (length (cardList (r .cards))) (r .flows)

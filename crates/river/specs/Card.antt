@@ -20,9 +20,9 @@ use Rattle.river.specs.Bytes.{Mark, mark, markBytes, twoBytes, narrowByt
 use Rattle.river.specs.Optional.{Kind, Values, encodeOptionals, sizes}
 use Rattle.river.specs.Source.{rateOf}
 
--- the cards of a river's `Cards` value: its first `count`; reach i is element i - 1
-abbrev pub river : Cards → List Card
-river cs = take (cs .count) (cs .at)
+-- the cards of a `Cards` value: its first `count`; reach i is element i - 1
+abbrev pub cardList : Cards → List Card
+cardList cs = take (cs .count) (cs .at)
 
 -- an amount, or what stands for none
 abbrev pub amountOr : ℕ → Amount → ℕ

@@ -5,7 +5,7 @@ use Prim.Native.Nat.{ℕ, _≤_}
 use Rattle.river.specs.declared.refusal.Refusal.{Refusal}
 use Rattle.river.specs.declared.refusal.Outcome.{Outcome}
 use Rattle.river.specs.declared.file.Reading.{Reading}
-use Rattle.river.specs.Card.{river}
+use Rattle.river.specs.Card.{cardList}
 use Rattle.river.specs.River.{River, riverOf, LawfulRiver}
 use Rattle.river.specs.Refusal.{Answer, outcomeOf}
 use Rattle.river.specs.Read.{readFile}
@@ -13,7 +13,7 @@ use Rattle.river.specs.Write.{encode}
 
 -- the river that a reading of the program has, and the answer that it stands for
 abbrev pub riverRead : Reading → River
-riverRead r = riverOf (r .factors) (river (r .cards))
+riverRead r = riverOf (r .factors) (cardList (r .cards))
 
 abbrev pub answerOf : Reading → Answer River
 answerOf r = outcomeOf (r .outcome) (riverRead r)

@@ -3,7 +3,7 @@ ghost use mathlib.Core.Path.{_≡_};
 ghost use Prim.Native.Nat.{_<_, _≤_, _^_, max};
 ghost use lib.Dec.{ltb};
 ghost use lib.ListN.{length};
-ghost use Rattle.river.specs.Card.{Regular, river};
+ghost use Rattle.river.specs.Card.{Regular, cardList};
 ghost use Rattle.river.specs.Source.{SourcesInRange};
 ghost use Rattle.river.specs.Flow.{flowLimit, takeOf, sludgeOf, ownMass, remainingMass, damFits, rateFits, flowRules, loadRule, takeRule, rangeRule, rateRules, bedRule, checksOf};
 ghost use Rattle.river.specs.FlowTable.{Decides, tableSum, tableMax, SumsFit, upstreamOf, noFlows, Underway, CheckAt, NextBy, FlowChecked};
@@ -324,7 +324,7 @@ fn check_next(card: Card, up: Upstream, i: usize) -> ReachChecked
 
 // How many reaches the river of the cards has.
 pub fn reach_count(cards: Cards) -> usize
-    ensures { λ r. ⌜ r ≡ length (river cards) ⌝ }
+    ensures { λ r. ⌜ r ≡ length (cardList cards) ⌝ }
 {
     let count = cards.count as usize;
     if REACHES < count { REACHES } else { count }
@@ -345,8 +345,8 @@ pub(crate) fn no_flows() -> FlowTable
 // The flow check of a river whose first i reaches passed and have their tables, from the next reach on. After a refusal the tables say
 // nothing. A caller has what this asks for, at every reach of an accepted river, from `accept`.
 pub fn check_from(cards: Cards, flows: FlowTable, i: usize) -> Checked
-    requires { ⌜ Underway (river cards) i flows ⌝ }
-    ensures { λ r. ⌜ FlowChecked (river cards) r ⌝ }
+    requires { ⌜ Underway (cardList cards) i flows ⌝ }
+    ensures { λ r. ⌜ FlowChecked (cardList cards) r ⌝ }
 {
     let count = reach_count(cards);
     let mut flows = flows;
@@ -373,8 +373,8 @@ pub fn check_from(cards: Cards, flows: FlowTable, i: usize) -> Checked
 
 // The flow check of a river, by its cards with the rates in force. `accept` has regular cards from its reading and their correction.
 pub(crate) fn flow_check(cards: Cards) -> Checked
-    requires { ⌜ Regular (river cards) ⌝ }
-    ensures { λ r. ⌜ FlowChecked (river cards) r ⌝ }
+    requires { ⌜ Regular (cardList cards) ⌝ }
+    ensures { λ r. ⌜ FlowChecked (cardList cards) r ⌝ }
 {
     check_from(cards, no_flows(), 0)
 }

@@ -2,7 +2,7 @@
 ghost use mathlib.Core.Path.{_≡_};
 ghost use Prim.Native.Nat.{_≤_};
 ghost use Rattle.river.specs.declared.card.RateFactors.the-variants.{PerDegree};
-ghost use Rattle.river.specs.Card.{river};
+ghost use Rattle.river.specs.Card.{cardList};
 ghost use Rattle.river.specs.River.{FactorInRange, LawfulRiver, riverOf};
 ghost use Rattle.river.specs.Source.{nitrogenousRate};
 ghost use Rattle.river.specs.Rates as Rates;
@@ -115,8 +115,8 @@ fn corrected(decay: u16, aeration: u16, card: Card) -> Card
 
 // The cards of a river with the rates in force: corrected once a reach, and only where the river has factors.
 pub(crate) fn in_force(factors: RateFactors, cards: Cards) -> Cards
-    requires { ⌜ LawfulRiver (riverOf factors (river cards)) × (cards .count ≤ 128) ⌝ }
-    ensures { λ r. ⌜ river r ≡ inForce (riverOf factors (river cards)) ⌝ }
+    requires { ⌜ LawfulRiver (riverOf factors (cardList cards)) × (cards .count ≤ 128) ⌝ }
+    ensures { λ r. ⌜ cardList r ≡ inForce (riverOf factors (cardList cards)) ⌝ }
 {
     let RateFactors::PerDegree { decay, aeration } = factors else {
         return cards;

@@ -5,7 +5,7 @@ ghost use Prim.Native.Nat.{_+_, _*_, _≤_, _<_};
 ghost use lib.ListN.{length, take};
 ghost use Rattle.river.specs.Write.{checkCard, Writes};
 ghost use Rattle.river.specs.Writer.{stoppedAt, startChecking, nextChecking, ChecksAll, PutsStart, PutsNext};
-ghost use Rattle.river.specs.Card.{longestCard, sizeOf, river};
+ghost use Rattle.river.specs.Card.{longestCard, sizeOf, cardList};
 ghost use Rattle.river.specs.River.{riverOf, openingSize, longestOpening};
 use crate::card::Card;
 use crate::card::Cards;
@@ -191,7 +191,7 @@ pub fn write_first(factors: RateFactors, at: [Card; REACHES], n: usize, out: &mu
 
 // The file of a river, or the first refusal.
 pub fn write_cards(factors: RateFactors, cards: Cards, out: &mut [u8]) -> Written
-    ensures { λ r. ⌜ Writes (cards .count) (riverOf factors (river cards)) (now (out .entry)) r (now (out .exit)) ⌝ }
+    ensures { λ r. ⌜ Writes (cards .count) (riverOf factors (cardList cards)) (now (out .entry)) r (now (out .exit)) ⌝ }
 {
     let n = cards.count as usize;
     if !count_ok(n) {

@@ -4,7 +4,7 @@ use mathlib.Core.Path.{refl}
 use native.Mathlib.Omega.{arith}
 use borrow.Author.Needs.{needs}
 use lib.ListN.{length-take}
-use Rattle.river.specs.Card.{river}
+use Rattle.river.specs.Card.{cardList}
 use Rattle.report.specs.Record.{hasNitrification}
 use Rattle.report.specs.Report.{sizeAnswer}
 use Rattle.report.proofs.record.Encoding.{record-bounds}
@@ -23,7 +23,7 @@ record-size-requires c κs =
 
 cast-result : tie.Need-cast-result
 cast-result c =
-    omega (arith, c .record-size .ensures, record-bounds (hasNitrification (river (c .before .before .before .before .read-file .result .cards))) .1)
+    omega (arith, c .record-size .ensures, record-bounds (hasNitrification (cardList (c .before .before .before .before .read-file .result .cards))) .1)
 
 returns-2 : tie.Need-returns-2
 unfolding sizeAnswer

@@ -7,7 +7,7 @@ use lib.ListN.{length, getD, length-take}
 use lib.Seq.{getD-take}
 use Rattle.river.specs.declared.card.Card.{Card}
 use Rattle.river.specs.declared.card.Cards.{Cards}
-use Rattle.river.specs.Card.{Regular, FieldsInRange, river, blank}
+use Rattle.river.specs.Card.{Regular, FieldsInRange, cardList, blank}
 use Rattle.river.specs.declared.source.Demand.the-variants.{Bod, Nitrogenous}
 use Rattle.river.specs.Source.{SourcesInRange}
 use Rattle.river.specs.Flow.{ownMass}
@@ -15,14 +15,14 @@ use Rattle.river.proofs.range.Ranges.{asked-at}
 use Rattle.river.proofs.source.Ranges.{sources-in-range, source-mass-small}
 
 module _ (cs : Cards) (full : length (cs .at) ≡ 128) where
-  pub all-reaches : 128 < cs .count → 128 ≡ length (river cs)
+  pub all-reaches : 128 < cs .count → 128 ≡ length (cardList cs)
   all-reaches h = rw (length-take (cs .count) (cs .at), full) (omega arith)
 
-  pub count-reaches : cs .count ≤ 128 → cs .count ≡ length (river cs)
+  pub count-reaches : cs .count ≤ 128 → cs .count ≡ length (cardList cs)
   count-reaches h = rw (length-take (cs .count) (cs .at), full) (omega arith)
 
 -- the card of a reach in the array is that of the river
-pub card-of-river : (cs : Cards) (i : ℕ) → i < length (river cs) → getD (cs .at) i blank ≡ getD (river cs) i blank
+pub card-of-river : (cs : Cards) (i : ℕ) → i < length (cardList cs) → getD (cs .at) i blank ≡ getD (cardList cs) i blank
 card-of-river cs i h =
     let k : i < cs .count = omega (arith, rw length-take at h) in
     sym (getD-take (cs .count) (cs .at) i blank k)

@@ -4,7 +4,7 @@ use mathlib.Core.Path.{_≡_}
 use Prim.Native.Nat.{_+_}
 use native.Mathlib.Omega.{arith}
 use lib.ListN.{getD}
-use Rattle.river.specs.Card.{river, blank}
+use Rattle.river.specs.Card.{cardList, blank}
 use Rattle.river.proofs.flow.Count.{card-of-river}
 use Rattle.river.proofs.head.Heads.{sums-fit, flow-asked, head-input, head-within, flow-bounded}
 use Rattle.river.proofs.head.Feet.{foot-within}
@@ -12,7 +12,7 @@ use Rattle.head_vectors.proofs.shown.reach.Statement.{statement}
 use Rattle.head_vectors.proofs.shown.reach.Tie as tie
 
 -- the card of the reach is that of the river
-own : (s : tie.Start) → getD (s .args .t1 .at) (s .args .i) blank ≡ getD (river (s .args .t1)) (s .args .i) blank
+own : (s : tie.Start) → getD (s .args .t1 .at) (s .args .i) blank ≡ getD (cardList (s .args .t1)) (s .args .i) blank
 own s = card-of-river (s .args .t1) (s .args .i) (s .pre .within)
 
 brought-to-requires : tie.Need-brought-to-requires

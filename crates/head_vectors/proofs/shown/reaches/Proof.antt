@@ -5,7 +5,7 @@ use native.Mathlib.Numerals.{add-one}
 use lib.ListN.{length}
 use native.Mathlib.Omega.{arith}
 use borrow.Author.Needs.{needs}
-use Rattle.river.specs.Card.{river}
+use Rattle.river.specs.Card.{cardList}
 use Rattle.river.specs.HeadTable.{Carried}
 use Rattle.river.proofs.head.Feet.{carried-none, carried-next}
 use Rattle.head_vectors.proofs.shown.reaches.Statement.{statement}
@@ -13,7 +13,7 @@ use Rattle.head_vectors.proofs.shown.reaches.Tie as tie
 
 abbrev Inv-loop : tie.InvT-loop
 Inv-loop cards flows first step count feet₀ i₀ feet i =
-    (count ≡ length (river cards)) × (i ≤ count) × Carried (river cards) feet i
+    (count ≡ length (cardList cards)) × (i ≤ count) × Carried (cardList cards) feet i
 
 abbrev μ-loop : tie.MeasureT-loop
 μ-loop cards flows first step count feet₀ i₀ feet i = count - i

@@ -14,7 +14,7 @@ use Rattle.river.specs.declared.card.Cards.{Cards}
 use Rattle.river.specs.declared.flow.FlowTable.{FlowTable}
 use Rattle.river.specs.declared.head.Brought.{Brought}
 use Rattle.river.specs.declared.head.FootTable.{FootTable}
-use Rattle.river.specs.Card.{river, blank}
+use Rattle.river.specs.Card.{cardList, blank}
 use Rattle.river.proofs.flow.Count.{card-of-river}
 use Rattle.river.proofs.head.Heads.{sumsBy, sums-fit}
 use Rattle.report.specs.Program.{figuresAt}
@@ -37,7 +37,7 @@ record Progress (cards : List Card) (report₀ : List ℕ) (count : ℕ) (nitrif
   filled : Filled (recordOf cards) (recordSize cards) report₀ i report
 
 abbrev Inv-loop : tie.InvT-loop
-Inv-loop report₀ cards flows count nitrified size feet₀ i₀ report feet i = Progress (river cards) report₀ count nitrified size report feet i
+Inv-loop report₀ cards flows count nitrified size feet₀ i₀ report feet i = Progress (cardList cards) report₀ count nitrified size report feet i
 
 abbrev μ-loop : tie.MeasureT-loop
 μ-loop report₀ cards flows count nitrified size feet₀ i₀ report feet i = count - i
@@ -87,13 +87,13 @@ module _ {cards : List Card} {report₀ : List ℕ} {count : ℕ} {nitrified : B
       }
 
 -- what the next reach is handed
-abbrev record-at : (cs : Cards) {flows : FlowTable} {report₀ : List ℕ} {count : ℕ} {nitrified : Bool} {size : ℕ} {report : List ℕ} {feet : FootTable} {i : ℕ} {sums : Brought} → Ready (river cs) flows → Progress (river cs) report₀ count nitrified size report feet i → i < count → sums ≡ sumsBy flows feet i → PlacedAt (getD (cs .at) i blank) (getD (flows .flow) i 0) (getD (flows .depth) i 0) sums nitrified (size * i) (length report)
+abbrev record-at : (cs : Cards) {flows : FlowTable} {report₀ : List ℕ} {count : ℕ} {nitrified : Bool} {size : ℕ} {report : List ℕ} {feet : FootTable} {i : ℕ} {sums : Brought} → Ready (cardList cs) flows → Progress (cardList cs) report₀ count nitrified size report feet i → i < count → sums ≡ sumsBy flows feet i → PlacedAt (getD (cs .at) i blank) (getD (flows .flow) i 0) (getD (flows .depth) i 0) sums nitrified (size * i) (length report)
 record-at cs {flows} {feet = feet} {i = i} ready p l e =
-    let within : i < length (river cs) = omega (arith, p .counted) in
+    let within : i < length (cardList cs) = omega (arith, p .counted) in
     record {
       line =
           record {
-            cards = river cs;
+            cards = cardList cs;
             flows = flows;
             feet = feet;
             i = i;
@@ -139,7 +139,7 @@ same-length c = c .before .loop .inv .filled .same
 returns : tie.Need-returns Inv-loop μ-loop
 returns c =
     let v = c .before .loop .inv in
-    let all : c .before .loop .i ≡ length (river (c .before .before .before .before .before .before .before .args .t1)) = omega (arith, v .within, v .counted, c .loop-test .left) in
+    let all : c .before .loop .i ≡ length (cardList (c .before .before .before .before .before .before .before .args .t1)) = omega (arith, v .within, v .counted, c .loop-test .left) in
     rw all at (v .filled .is)
 
 pub report-all-spec : {M : Type 1} → statement M

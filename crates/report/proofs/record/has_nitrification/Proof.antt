@@ -6,7 +6,7 @@ use native.Mathlib.Omega.{arith}
 use lib.ListN.{length, getD, drop}
 use borrow.Author.Needs.{needs}
 use Rattle.river.specs.declared.card.Cards.{Cards}
-use Rattle.river.specs.Card.{river, blank}
+use Rattle.river.specs.Card.{cardList, blank}
 use Rattle.river.proofs.flow.Count.{card-of-river}
 use Rattle.report.specs.Record.{isNitrified, hasNitrification}
 use Rattle.report.proofs.record.Nitrified.{found, goes-on, nowhere}
@@ -14,8 +14,8 @@ use Rattle.report.proofs.record.has_nitrification.Statement.{statement}
 use Rattle.report.proofs.record.has_nitrification.Tie as tie
 
 record Searched (cards : Cards) (count i : ℕ) : Type 0 where
-  counted : (count ≡ length (river cards)) × (count ≤ 128)
-  rest : hasNitrification (river cards) ≡ hasNitrification (drop i (river cards))
+  counted : (count ≡ length (cardList cards)) × (count ≤ 128)
+  rest : hasNitrification (cardList cards) ≡ hasNitrification (drop i (cardList cards))
 
 abbrev Inv-loop : tie.InvT-loop
 Inv-loop cards count i₀ i = Searched cards count i
@@ -24,7 +24,7 @@ abbrev μ-loop : tie.MeasureT-loop
 μ-loop cards count i₀ i = count - i
 
 -- the card of a reach in the array is that of the river
-own : (cs : Cards) {i count : ℕ} → Searched cs count i → i < count → isNitrified (getD (river cs) i blank) ≡ isNitrified (getD (cs .at) i blank)
+own : (cs : Cards) {i count : ℕ} → Searched cs count i → i < count → isNitrified (getD (cardList cs) i blank) ≡ isNitrified (getD (cs .at) i blank)
 own cs {i} s l = ap isNitrified (sym (card-of-river cs i (omega (arith, s .counted))))
 
 loop-holds : tie.Need-loop-holds Inv-loop μ-loop
@@ -36,7 +36,7 @@ returns c =
     let cs = c .before .before .before .before .before .before .args .t1 in
     sym
     (l .inv .rest
-    ∙ found (river cs) (l .i) (omega (arith, l .inv .counted)) (own cs (l .inv) (omega arith) ∙ sym (c .before .is-nitrified .ensures) ∙ c .if1 .taken))
+    ∙ found (cardList cs) (l .i) (omega (arith, l .inv .counted)) (own cs (l .inv) (omega arith) ∙ sym (c .before .is-nitrified .ensures) ∙ c .if1 .taken))
 
 loop-again : tie.Need-loop-again Inv-loop μ-loop
 loop-again c =
@@ -46,7 +46,7 @@ loop-again c =
       counted = l .inv .counted;
       rest =
           l .inv .rest
-          ∙ goes-on (river cs) (l .i) (omega (arith, l .inv .counted)) (own cs (l .inv) (omega arith) ∙ sym (c .before .is-nitrified .ensures) ∙ c .if1 .left);
+          ∙ goes-on (cardList cs) (l .i) (omega (arith, l .inv .counted)) (own cs (l .inv) (omega arith) ∙ sym (c .before .is-nitrified .ensures) ∙ c .if1 .left);
     }
 
 returns-2 : tie.Need-returns-2 Inv-loop μ-loop

@@ -4,7 +4,7 @@ use mathlib.Core.Path.{ap₂}
 use Prim.Native.Nat.{_*_}
 use native.Mathlib.Nat.{mul-le-mul}
 use native.Mathlib.Omega.{arith}
-use Rattle.river.specs.Card.{river}
+use Rattle.river.specs.Card.{cardList}
 use Rattle.report.specs.Record.{hasNitrification}
 use Rattle.report.proofs.record.Encoding.{record-bounds}
 use Rattle.report.proofs.record.report_size.Statement.{statement}
@@ -12,7 +12,7 @@ use Rattle.report.proofs.record.report_size.Tie as tie
 
 mul-result : tie.Need-mul-result
 mul-result c =
-    rw (c .before .record-size .ensures, c .reach-count .ensures) (omega (arith, mul-le-mul (record-bounds (hasNitrification (river (c .before .before .args .cards))) .1) (c .before .before .pre)))
+    rw (c .before .record-size .ensures, c .reach-count .ensures) (omega (arith, mul-le-mul (record-bounds (hasNitrification (cardList (c .before .before .args .cards))) .1) (c .before .before .pre)))
 
 returns : tie.Need-returns
 returns c = ap₂ _*_ (c .before .record-size .ensures) (c .reach-count .ensures)

@@ -8,7 +8,7 @@ use Rattle.river.specs.declared.card.Card.{Card}
 use Rattle.river.specs.declared.card.Cards.{Cards}
 use Rattle.river.specs.declared.flow.FlowTable.{FlowTable}
 use Rattle.river.specs.declared.flow.Upstream.{Upstream}
-use Rattle.river.specs.Card.{river, blank}
+use Rattle.river.specs.Card.{cardList, blank}
 use Rattle.river.specs.Flow.{cardOf}
 use Rattle.river.specs.FlowTable.{Underway, CheckAt, upstreamBy}
 use Rattle.river.proofs.flow.Count.{card-of-river}
@@ -19,8 +19,8 @@ use Rattle.river.proofs.flow.check_from.Tie as tie
 
 -- the first i reaches passed, and have their tables
 record Progress (cards : Cards) (count : ℕ) (flows : FlowTable) (i : ℕ) : Type 0 where
-  counted : count ≡ length (river cards)
-  underway : Underway (river cards) i flows
+  counted : count ≡ length (cardList cards)
+  underway : Underway (cardList cards) i flows
   full : Full flows
 
 abbrev Inv-loop : tie.InvT-loop
@@ -41,18 +41,18 @@ loop-holds c =
 
 -- the next reach is one of the river, and what it is handed
 module _ {cs : Cards} {count : ℕ} {flows : FlowTable} {i : ℕ} (p : Progress cs count flows i) (l : i < count) where
-  within : i < length (river cs)
+  within : i < length (cardList cs)
   within = omega (arith, p .counted)
 
   few : i < 128
   few = omega (arith, within, p .underway .regular .few)
 
-  own-outlet : getD (cs .at) i blank .outlet ≡ cardOf (river cs) (suc i) .outlet
+  own-outlet : getD (cs .at) i blank .outlet ≡ cardOf (cardList cs) (suc i) .outlet
   own-outlet = ap (λ (x : Card). x .outlet) (card-of-river cs i within)
 
   abbrev check-at : {up : Upstream} → up ≡ upstreamBy flows i → CheckAt (getD (cs .at) i blank) up i
   check-at e =
-      record { cards = river cs; flows = flows; underway = p .underway; gathered = e; within = within; own = card-of-river cs i within }
+      record { cards = cardList cs; flows = flows; underway = p .underway; gathered = e; within = within; own = card-of-river cs i within }
 
 upstream-of-requires : tie.Need-upstream-of-requires Inv-loop μ-loop
 upstream-of-requires c κs =

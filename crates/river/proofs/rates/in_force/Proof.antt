@@ -11,7 +11,7 @@ use lib.Seq.{take-suc, take-suc-set}
 use Rattle.river.specs.declared.card.Card.{Card}
 use Rattle.river.specs.declared.card.RateFactors.{RateFactors}
 use Rattle.river.specs.declared.card.RateFactors.the-variants.{PerDegree}
-use Rattle.river.specs.Card.{river, blank}
+use Rattle.river.specs.Card.{cardList, blank}
 use Rattle.river.specs.River.{LawfulFactors, riverOf}
 use Rattle.river.specs.Rates.{cardInForce, inForce}
 use Rattle.river.proofs.Tests.{mapped-length}
@@ -48,7 +48,7 @@ by-factors : {f g : RateFactors} (cs : List Card) → f ≡ g → inForce (river
 by-factors cs e = ap (λ (f : RateFactors). map (cardInForce f) cs) (sym e)
 
 returns : tie.Need-returns Inv-loop μ-loop
-returns c = let cards = river (c .before .before .args .t2) in sym (as-given cards) ∙ by-factors cards (c .enum-told .given .1)
+returns c = let cards = cardList (c .before .before .args .t2) in sym (as-given cards) ∙ by-factors cards (c .enum-told .given .1)
 
 -- the array that is handed over has 128 cards
 full : (s : tie.Start Inv-loop μ-loop) → length (s .args .t2 .at) ≡ 128
@@ -65,7 +65,7 @@ corrected-requires c κs =
     let f = subst LawfulFactors (known .factors .given .1) (s .pre .0 .factors) in
     let i = loop .loop .i in
     let cards = s .args .t2 in
-    let here : i < length (river cards) = rw (length-take (cards .count) (cards .at), full s) (omega (arith, s .pre .1)) in
+    let here : i < length (cardList cards) = rw (length-take (cards .count) (cards .at), full s) (omega (arith, s .pre .1)) in
     (f .0, f .1, rw (card-of-river cards i here) (correctable (s .pre .0 .cards) i here))
 
 array-set-from-at : tie.Need-array-set-from-at Inv-loop μ-loop
@@ -83,8 +83,8 @@ returns-2 c =
     let known = loop .before .before .before in
     let cards = known .before .before .args .t2 in
     let all : loop .loop .i ≡ cards .count = omega (arith, loop .loop .inv .0) in
-    let first : take (cards .count) (loop .loop .at) ≡ map (cardInForce (PerDegree _ _)) (river cards) = rw all at (loop .loop .inv .1 .first) in
-    first ∙ by-factors (river cards) (known .factors .given .1)
+    let first : take (cards .count) (loop .loop .at) ≡ map (cardInForce (PerDegree _ _)) (cardList cards) = rw all at (loop .loop .inv .1 .first) in
+    first ∙ by-factors (cardList cards) (known .factors .given .1)
 
 pub in-force-spec : {M : Type 1} → statement M
 in-force-spec =

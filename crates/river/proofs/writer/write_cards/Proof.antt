@@ -7,7 +7,7 @@ use borrow.Author.Tests.{not-true, not-false}
 use denote.Ref.{now}
 use lib.ListN.{length}
 use lib.Seq.{length-take-le}
-use Rattle.river.specs.Card.{river}
+use Rattle.river.specs.Card.{cardList}
 use Rattle.river.specs.River.{riverOf}
 use Rattle.river.proofs.Tests.{mapped-length}
 use Rattle.river.proofs.range.Ranges.{true-countOk}
@@ -20,7 +20,7 @@ returns c =
     let count = c .before .before in
     let a = count .before .before .before .args in
     rw (c .refuse .ensures)
-    (refuses-count (a .cards .count) (riverOf (a .factors) (river (a .cards))) (now (a .out))
+    (refuses-count (a .cards .count) (riverOf (a .factors) (cardList (a .cards))) (now (a .out))
     (sym (count .count-ok .ensures) ∙ not-true (count .count-ok .result) (c .before .if1 .taken)))
 
 -- a count that passes is at most 128
