@@ -555,16 +555,27 @@ ROUNDED_EACH_DEGREE = ((2_823, 1_014, 2), (16_988, 1_009, 0), (3_088, 1_013, 0),
                        (16_807, 1_017, 25))
 
 
+def lone_reach(rng, rate, factor, temperature, volume, inflow):
+    """A river of one reach, with this as one of its rates and its factor, and no other rate."""
+    which = rng.choice(Rates._fields)
+    rates = one_rate(which, rate)
+    card = Card(0, temperature, rates.k1, rates.k2, volume, inflow, rng.randint(0, MOST_BOD), rng.randint(0, MOST_OXYGEN), 0,
+                ammonia=Ammonia(rates.kn, 0, 0) if rates.kn else None)
+    return River([card], Factors(LEAST_FACTOR, factor) if which == "k2" else Factors(factor, LEAST_FACTOR))
+
+
 def rounded_each_degree(past):
     """Check 11, by a rate in force that depends on the rounding: k litres a second and 345,600 cubic metres, or so many times both."""
     def river(rng):
         rate, factor, temperature = rng.choice(ROUNDED_EACH_DEGREE)
-        which, times = rng.choice(Rates._fields), rng.randint(1, 1_000)
-        rates = one_rate(which, rate)
-        card = Card(0, temperature, rates.k1, rates.k2, 345_600 * times + past, in_force(rate, factor, temperature) * times, rng.randint(0, MOST_BOD),
-                    rng.randint(0, MOST_OXYGEN), 0, ammonia=Ammonia(rates.kn, 0, 0) if rates.kn else None)
-        return River([card], Factors(LEAST_FACTOR, factor) if which == "k2" else Factors(factor, LEAST_FACTOR))
+        times = rng.randint(1, 1_000)
+        return lone_reach(rng, rate, factor, temperature, 345_600 * times + past, in_force(rate, factor, temperature) * times)
     return river
+
+
+def past_two_bytes(rng):
+    """Check 15, by a rate in force of 65,536 and more, of which two bytes would leave a rate in range."""
+    return lone_reach(rng, MOST_RATE, rng.randint(MOST_FACTOR - 15, MOST_FACTOR), 35, 0, rng.randint(1, MOST_FLOW))
 
 
 BELOW_A_TAKE = {"below a take": first_with_take, "below a cut": first_with_cut, "below a take of both": first_with_ammonia}
@@ -942,7 +953,8 @@ def refused_kinds():
     kinds = {name: lambda rng, damage=damage: damage(rng, base_river(rng)) for name, damage in reading_faults().items()}
     kinds |= {name: lambda rng, change=change: reference.encode(changed_river(rng, change, any_reach)) for name, change in PAST_A_LIMIT.items()}
     kinds |= {f"check 10 {name}": lambda rng, first=first: reference.encode(bod_below_take(first, 1)(rng)) for name, first in BELOW_A_TAKE.items()}
-    kinds |= {"check 11 rounded at each degree": lambda rng: reference.encode(rounded_each_degree(1)(rng))}
+    kinds |= {"check 11 rounded at each degree": lambda rng: reference.encode(rounded_each_degree(1)(rng)),
+              "check 15 past two bytes": lambda rng: reference.encode(past_two_bytes(rng))}
     kinds |= {"longest file": longest_file, "longest file and a byte": lambda rng: longest_file(rng) + b"\0"}
     return kinds
 
