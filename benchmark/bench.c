@@ -1,5 +1,6 @@
 /*
- * Times the proved entry against three plain C programs on the same files: bench FILE..
+ * Times the proved entry for reports against three plain C programs, and the one for means against a fourth, on the
+ * same files: bench FILE..
  *
  * All take turns in batches of about a millisecond. A time is that of the fastest batch; ratios are also given for the
  * medians. The report buffers are not cleared in between. The part that reads the file and checks the flows is
@@ -19,8 +20,30 @@
 
 typedef uint32_t entry(const uint8_t *file, size_t file_len, uint8_t *report, size_t report_len);
 
-/* What is timed: the programs, and reading and flow check alone, proved and as the plain programs share them. */
-enum { PROVED, EXP, STEPPED, CLOSED, PROGRAMS, PROVED_CHECKS = PROGRAMS, PLAIN_CHECKS, TIMED };
+/*
+ * What is timed: the programs, reading and flow check alone, proved and as the plain programs share them, and the
+ * means, proved and plain.
+ */
+enum {
+    PROVED, EXP, STEPPED, CLOSED, PROGRAMS,
+    PROVED_CHECKS = PROGRAMS, PLAIN_CHECKS, PROVED_MEANS, PLAIN_MEANS, TIMED
+};
+
+/* The means with the parameters of a report; the mean of the river is left here. */
+static struct {
+    int32_t units;
+    uint64_t remainder;
+} mean;
+
+static uint32_t proved_means(const uint8_t *river, size_t river_len, uint8_t *means, size_t means_len)
+{
+    return xylandreo_mean(river, river_len, means, means_len, &mean.units, &mean.remainder);
+}
+
+static uint32_t plain_means(const uint8_t *river, size_t river_len, uint8_t *means, size_t means_len)
+{
+    return plain_mean(river, river_len, means, means_len, &mean.units, &mean.remainder);
+}
 
 static const struct timed {
     entry *call;
@@ -33,9 +56,11 @@ static const struct timed {
     [CLOSED] = {closed_report, XYLANDREO_MAX_REPORT, 0},
     [PROVED_CHECKS] = {xylandreo_report, 0, 12},
     [PLAIN_CHECKS] = {exp_report, 0, 12},
+    [PROVED_MEANS] = {proved_means, XYLANDREO_MAX_MEANS, 0},
+    [PLAIN_MEANS] = {plain_means, XYLANDREO_MAX_MEANS, 0},
 };
 
-/* What is measured on a river: microseconds a call, and how far each report lies from the proved one. */
+/* What is measured on a river: microseconds a call, and how far each report, and a mean, lies from the proved one. */
 struct river {
     const char *name;
     uint32_t reaches;
@@ -43,6 +68,7 @@ struct river {
     struct distance {
         long units, instants;
     } distance[PROGRAMS];
+    long mean_distance;
 };
 
 static uint8_t file[XYLANDREO_MAX_FILE];
@@ -100,6 +126,16 @@ static struct distance distance(int k, uint32_t reaches)
     return d;
 }
 
+/* The largest difference of the plain means from the proved ones, in units. */
+static long mean_distance(uint32_t reaches)
+{
+    const uint8_t *proved = reports[PROVED_MEANS], *plain = reports[PLAIN_MEANS];
+    long largest = 0;
+    for (uint32_t i = 1; i <= reaches; i++)
+        raise_to(&largest, (long)xylandreo_mean_of(proved, i) - xylandreo_mean_of(plain, i));
+    return largest;
+}
+
 static void load(const char *path)
 {
     FILE *in = fopen(path, "rb");
@@ -109,9 +145,9 @@ static void load(const char *path)
     }
     file_len = fread(file, 1, sizeof file, in);
     fclose(in);
-    for (int k = 0; k < PROGRAMS; k++)
-        if (timed[k].call(file, file_len, reports[k], timed[k].report_len) != 0) {
-            fprintf(stderr, "bench: %s is refused\n", path);
+    for (int k = 0; k < TIMED; k++)
+        if (timed[k].call(file, file_len, reports[k], timed[k].report_len) != timed[k].result) {
+            fprintf(stderr, "bench: %s is refused, or has no volume\n", path);
             exit(2);
         }
 }
@@ -136,6 +172,7 @@ static struct river measure(const char *path)
     }
     for (int k = 0; k < PROGRAMS; k++)
         r.distance[k] = distance(k, r.reaches);
+    r.mean_distance = mean_distance(r.reaches);
     return r;
 }
 
@@ -165,6 +202,16 @@ static void print_comparison(const struct river *r)
     printf("\n");
 }
 
+static void print_means(const struct river *r)
+{
+    const double *fastest = r->fastest, *median = r->median;
+    printf("%-24s %7u  %8.2f %8.2f  %7.3f %7.3f  %6.2f (%6.2f) %6.2f (%6.2f)  %7ld\n", r->name, r->reaches,
+           fastest[PROVED_MEANS], fastest[PLAIN_MEANS], fastest[PROVED_MEANS] / r->reaches,
+           fastest[PLAIN_MEANS] / r->reaches, fastest[PROVED_MEANS] / fastest[PROVED],
+           median[PROVED_MEANS] / median[PROVED], fastest[PROVED_MEANS] / fastest[PLAIN_MEANS],
+           median[PROVED_MEANS] / median[PLAIN_MEANS], r->mean_distance);
+}
+
 int main(int argc, char **argv)
 {
     if (argc < 2) {
@@ -188,6 +235,11 @@ int main(int argc, char **argv)
            "exp", "stepped", "closed", "exp", "stepped", "closed");
     for (int i = 1; i < argc; i++)
         print_comparison(&rivers[i]);
+    printf("\n%32s  %-17s  %-15s  %-31s\n", "the means", "us a call", "us a reach", "proved time over that of");
+    printf("%-24s %7s  %8s %8s  %7s %7s  %15s %15s  %7s\n", "river", "reaches", "proved", "plain", "proved", "plain",
+           "the report", "plain", "apart");
+    for (int i = 1; i < argc; i++)
+        print_means(&rivers[i]);
     free(rivers);
     return 0;
 }

@@ -1,7 +1,7 @@
 /*
- * The report as a C programmer would compute it, in three ways: the benchmark's other sides. Checks and records
- * are those of xylandreo_report, concentrations are in double precision, in units of 0.000001 mg/L. The three
- * differ in how they go along a reach, and in nothing else.
+ * The report as a C programmer would compute it, in three ways, and the means: the benchmark's other sides. Checks
+ * and records are those of xylandreo_report and xylandreo_mean, concentrations are in double precision, in units of
+ * 0.000001 mg/L. The three reports differ in how they go along a reach, and in nothing else.
  */
 #include <math.h>
 
@@ -275,6 +275,14 @@ static inline struct water water_at(const struct head *h, double part, int nitri
     return (struct water){h->water.bod * s1, h->water.nitrogenous * sn, h->saturation - deficit};
 }
 
+/* The water at the foot. */
+static struct water foot_of(const struct head *h)
+{
+    struct water foot = water_at(h, 1, h->xn > 0);
+    foot.oxygen -= h->fall;
+    return foot;
+}
+
 /*
  * The formulas at every instant, for a reach where oxygen falls by a bed without surface aeration and for any other,
  * and where ammonia is nitrified and not.
@@ -398,9 +406,8 @@ static double even_part(const struct head *h)
 static struct course closed(const struct head *h)
 {
     int nitrifies = h->xn > 0;
-    struct course c = {water_at(h, 1, nitrifies), h->water.oxygen, 0};
+    struct course c = {foot_of(h), h->water.oxygen, 0};
     double part = nitrifies ? even_part(h) : critical_part(h);
-    c.foot.oxygen -= h->fall;
     if (part > 0 && part < 1) { /* false for no number */
         double deficit = h->x1 / h->x2 * h->water.bod * exp(-h->x1 * part);
         c.lowest = nitrifies ? water_at(h, part, 1).oxygen : h->saturation - deficit;
@@ -468,17 +475,24 @@ static size_t record_size(const struct river *river)
     return river->has_ammonia ? 39 : 29;
 }
 
-/* Reads and checks the river file; the result is that of a report, 12 for a short buffer included. */
-static uint32_t accept(const uint8_t *file, size_t file_len, size_t report_len, struct river *river)
+/* Reads and checks the river file. */
+static uint32_t accept(const uint8_t *file, size_t file_len, struct river *river)
 {
     uint32_t refusal = read_river(file, file_len, river);
-    if (!refusal) {
-        correct_rates(river);
-        refusal = check_flows(river->reaches, river->count);
-    }
-    if (!refusal && report_len < record_size(river) * river->count)
-        refusal = 12;
-    return refusal;
+    if (refusal)
+        return refusal;
+    correct_rates(river);
+    river->reaches[0].bod_above = river->reaches[0].nitrogenous_above = river->reaches[0].oxygen_above = 0;
+    return check_flows(river->reaches, river->count);
+}
+
+/* What the water at the foot of a reach brings to the next. */
+static inline void pass_on(struct river *river, const struct reach *r, const struct water *foot)
+{
+    struct reach *next = &river->reaches[r->outlet];
+    next->bod_above += (double)r->flow * foot->bod;
+    next->nitrogenous_above += (double)r->flow * foot->nitrogenous;
+    next->oxygen_above += (double)r->flow * foot->oxygen;
 }
 
 /* The report with one of the ways along a reach. It is inlined, so that each entry below is compiled for its own way. */
@@ -486,17 +500,16 @@ static inline __attribute__((always_inline)) uint32_t
 report_by(way *along, const uint8_t *file, size_t file_len, uint8_t *report, size_t report_len)
 {
     struct river river;
-    uint32_t refusal = accept(file, file_len, report_len, &river);
+    uint32_t refusal = accept(file, file_len, &river);
     if (refusal)
         return refusal;
-    river.reaches[0].bod_above = river.reaches[0].nitrogenous_above = river.reaches[0].oxygen_above = 0;
+    if (report_len < record_size(&river) * river.count)
+        return 12;
     for (uint32_t i = 1; i <= river.count; i++) {
-        struct reach *r = &river.reaches[i], *next = &river.reaches[r->outlet];
+        struct reach *r = &river.reaches[i];
         struct head h = head_of(r);
         struct course c = along(&h);
-        next->bod_above += (double)r->flow * c.foot.bod;
-        next->nitrogenous_above += (double)r->flow * c.foot.nitrogenous;
-        next->oxygen_above += (double)r->flow * c.foot.oxygen;
+        pass_on(&river, r, &c.foot);
         write_record(r, &h, &c, report + record_size(&river) * (i - 1));
         if (river.has_ammonia)
             write_nitrogenous(&h, &c, report + record_size(&river) * (i - 1) + 29);
@@ -517,4 +530,60 @@ uint32_t stepped_report(const uint8_t *file, size_t file_len, uint8_t *report, s
 uint32_t closed_report(const uint8_t *file, size_t file_len, uint8_t *report, size_t report_len)
 {
     return report_by(closed, file, file_len, report, report_len);
+}
+
+/* The mean of exp(-x u) over u from 0 to 1. */
+static double mean_kept(double x)
+{
+    return x == 0 ? 1 : -expm1(-x) / x;
+}
+
+/* The mean of turned(x1, x2, ratio, u, exp(-x1 u), exp(-x2 u)). */
+static double mean_turned(double x1, double x2, double ratio)
+{
+    return x1 == x2 ? mean_kept(x1) - exp(-x1) : ratio * (mean_kept(x1) - mean_kept(x2));
+}
+
+/* The mean oxygen of a reach over its travel time, from the integrals of the formulas. */
+static double mean_oxygen(const struct head *h)
+{
+    double deficit = mean_kept(h->x2) * (h->saturation - h->water.oxygen);
+    deficit += mean_turned(h->x1, h->x2, h->ratio) * h->water.bod;
+    if (h->xn > 0)
+        deficit += mean_turned(h->xn, h->x2, h->ratio_n) * h->water.nitrogenous;
+    return h->saturation - deficit - h->fall / 2;
+}
+
+static uint64_t total_volume(const struct river *river)
+{
+    uint64_t total = 0;
+    for (uint32_t i = 1; i <= river->count; i++)
+        total += river->reaches[i].volume;
+    return total;
+}
+
+uint32_t plain_mean(const uint8_t *file, size_t file_len, uint8_t *means, size_t means_len, int32_t *units,
+                    uint64_t *remainder)
+{
+    struct river river;
+    uint32_t refusal = accept(file, file_len, &river);
+    if (refusal)
+        return refusal;
+    if (means_len < 4 * (size_t)river.count)
+        return 12;
+    __int128 sum = 0, total = total_volume(&river);
+    if (total == 0)
+        return 16;
+    for (uint32_t i = 1; i <= river.count; i++) {
+        struct reach *r = &river.reaches[i];
+        struct head h = head_of(r);
+        struct water foot = foot_of(&h);
+        int32_t mean = (int32_t)floor(mean_oxygen(&h));
+        pass_on(&river, r, &foot);
+        put(means + 4 * (i - 1), (uint32_t)mean, 4);
+        sum += (__int128)r->volume * mean;
+    }
+    *units = (int32_t)(sum / total - (sum % total < 0));
+    *remainder = (uint64_t)(sum - *units * total);
+    return 0;
 }

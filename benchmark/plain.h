@@ -1,4 +1,7 @@
-/* The report in double precision, in three ways; parameters and results are those of xylandreo_report. */
+/*
+ * The report in double precision, in three ways, and the means; parameters and results are those of xylandreo_report
+ * and of xylandreo_mean.
+ */
 #ifndef PLAIN_H
 #define PLAIN_H
 
@@ -16,5 +19,9 @@ uint32_t stepped_report(const uint8_t *file, size_t file_len, uint8_t *report, s
  * Two demands have no such formula, so where ammonia is nitrified the time is found by halving.
  */
 uint32_t closed_report(const uint8_t *file, size_t file_len, uint8_t *report, size_t report_len);
+
+/* By the integrals of the formulas, which need no loop over the instants. */
+uint32_t plain_mean(const uint8_t *file, size_t file_len, uint8_t *means, size_t means_len, int32_t *units,
+                    uint64_t *remainder);
 
 #endif

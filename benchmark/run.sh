@@ -1,6 +1,7 @@
 #!/usr/bin/env bash
-# Times the proved entry against three plain C programs that compute the report in double precision, on the same
-# files, all built for release. It needs the toolchain, a C compiler (CC, or else cc) and Python.
+# Times the proved entry for reports against three plain C programs that compute the report in double precision, and the one
+# for means against a fourth, on the same files, all built for release. It needs the toolchain, a C compiler (CC, or else cc)
+# and Python.
 set -eu
 cd "$(dirname -- "$(readlink -f -- "${BASH_SOURCE[0]}")")"
 
@@ -44,6 +45,8 @@ checks       reading and flow check alone (calls that are refused with 12), part
 ns a step    the rest of the proved time over 1,024 steps a reach: head, step shares, instants, record
 difference   largest distance of a concentration from that of the proved report, in units of 0.000001 mg/L
 of instants  the same of the critical instant, in 1024ths of the travel time
+the means    xylandreo_mean, against xylandreo_report and against plain C in doubles by the integrals of the formulas, without a loop
+apart        largest distance of a mean from the proved one, in units of 0.000001 mg/L
 chain-beds   the chain with a sludge bed at each reach; chain-ammonia, with ammonia at each; chain-ammonia-beds, with both; chain-factors, with
              rate factors alone; chain-N, its first N reaches with none of these
 END

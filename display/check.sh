@@ -1,7 +1,7 @@
 #!/usr/bin/env bash
 # Checks the desk's programs from outside, on the example rivers and on files that no text gives:
-#   the promises of the reporting entry about its buffer; the display's lines against the printing program;
-#   the display's tables against its lines; the collection's verdicts; exit statuses.
+#   the promises of the entries for reports and for means about their buffers; the display's lines and means against the
+#   printing programs; the display's tables against its lines and means; the collection's verdicts; exit statuses.
 # It builds what is missing and needs a C compiler (CC, or else cc). The exit status is 0 where all is right, 1 where
 # something is wrong, 2 where it cannot check.
 set -u
@@ -11,6 +11,7 @@ cd "$(dirname -- "$(readlink -f -- "${BASH_SOURCE[0]}")")/../examples" || exit 2
 display=$(../scripts/build display) || exit 2
 collection=$(../scripts/build collection) || exit 2
 print=$(../scripts/build print) || exit 2
+print_mean=$(../scripts/build print_mean) || exit 2
 scratch=$(mktemp -d) || exit 2
 trap 'rm -rf "$scratch"' EXIT
 passed=0
@@ -72,43 +73,56 @@ make_odd_files() {
     : > "$1/empty.river"
 }
 
-# The lines are the printing program's, and the status tells a refusal.
+# The display's lines are those of a printing program, and the status tells a refusal: check_lines PROGRAM OPTION FILE
 check_lines() {
-    "$print" < "$1" > "$scratch/printed"
+    "$1" < "$3" > "$scratch/printed"
     local status=0
     ! grep -q '^refused' "$scratch/printed" || status=1
-    expect "$status" "$display" --lines "$1"
-    cmp -s "$scratch/said" "$scratch/printed" || wrong "$1: the display and the printing program differ"
+    expect "$status" "$display" "$2" "$3"
+    cmp -s "$scratch/said" "$scratch/printed" || wrong "$3: display $2 and $1 differ"
 }
 
-# The rows that a table should have, worked out from the lines: mg/L with three decimals, rounded down, and a mark where
-# the units are below those of the limit. Lines of eleven numbers end with nitrogenous BOD.
+# mg/L with three decimals, rounded down, from units.
+mg='
+    function mg(units,   size) {
+        size = units < 0 ? int((-units + 999) / 1000) : int(units / 1000)
+        return sprintf("%s%d.%03d", units < 0 ? "-" : "", int(size / 1000), size % 1000)
+    }'
+
+# The rows that a table should have, worked out from the lines and the means, with a mark where the units are below those of
+# the limit: rows_from_lines MEANS LIMIT. Lines of eleven numbers end with nitrogenous BOD; a river without volume has no means.
 rows_from_lines() {
-    awk -v limit="$1" '
-        function mg(units,   size) {
-            size = units < 0 ? int((-units + 999) / 1000) : int(units / 1000)
-            return sprintf("%s%d.%03d", units < 0 ? "-" : "", int(size / 1000), size % 1000)
-        }
+    awk -v means="$1" -v limit="$2" "$mg"'
         function oxygen(units) { return mg(units) (units < limit ? "*" : "") }
+        BEGIN { while ((getline line < means) > 0) { split(line, word, " "); mean[word[1]] = word[2] } }
         { flow[NR] = $3; if ($3 >= 10000) cubic = 1
           before[NR] = $1 " " $2
-          after[NR] = mg($4) " " mg($5) " " oxygen($6) " " oxygen($8) " " oxygen($9) " " \
+          after[NR] = mg($4) " " mg($5) " " oxygen($6) " " oxygen($8) " " oxygen($9) ($1 in mean ? " " oxygen(mean[$1]) : "") " " \
                       sprintf("%.1f", int($7 * 1000 / 1024 + 0.5) / 10) (NF == 11 ? " " mg($10) " " mg($11) : "") }
         END { for (i = 1; i <= NR; i++) print before[i], cubic ? sprintf("%.3f", flow[i] / 1000) : flow[i], after[i] }'
 }
 
-# Holds a table to the lines: check_table FILE LIMIT UNITS
+# What the summary should say of the river's mean, worked out from the means on standard input.
+summary_from_means() {
+    awk "$mg"'$1 == "river" { print "; mean by volume " mg($2) " mg/L" }'
+}
+
+# Holds a table to the lines and the means: check_table FILE LIMIT UNITS
 check_table() {
-    "$display" --lines "$1" | rows_from_lines "$3" > "$scratch/due"
+    "$display" --means "$1" > "$scratch/means"
+    "$display" --lines "$1" | rows_from_lines "$scratch/means" "$3" > "$scratch/due"
     expect 0 "$display" --limit "$2" "$1"
     sed -n 's/  */ /g; s/^ \([0-9]\)/\1/p' "$scratch/said" > "$scratch/rows"
-    diff "$scratch/rows" "$scratch/due" >&2 || wrong "$1: the table does not have the figures of the lines"
+    diff "$scratch/rows" "$scratch/due" >&2 || wrong "$1: the table does not have the figures of the lines and the means"
+    grep -o '; mean by volume [^;]*' "$scratch/said" > "$scratch/summary"
+    summary_from_means < "$scratch/means" | diff - "$scratch/summary" >&2 || wrong "$1: the summary has another mean"
 }
 
 mkdir "$scratch/odd" && make_odd_files "$scratch/odd" || exit 2
 for river in *.river refused/*.river "$scratch"/odd/*.river; do
     expect 0 "$display" --check "$river"
-    check_lines "$river"
+    check_lines "$print" --lines "$river"
+    check_lines "$print_mean" --means "$river"
 done
 for river in refused/*.river; do
     number=${river#refused/}
@@ -132,8 +146,17 @@ done
 expect 2 "$display"
 expect 2 "$display" --limit 5.0
 expect 2 "$display" --check
+expect 2 "$display" --means
+expect 2 "$display" --means missing.river
 expect 2 "$display" missing.river
 expect 2 "$display" refused
+# A river whose mean is below zero, and one that has none.
+expect 0 "$display" overload.river
+says '; mean by volume -4.867 mg/L$'
+expect 1 "$display" --means no-volume.river
+says '^refused 16 reach 0$'
+expect 0 "$display" no-volume.river
+! grep -q mean "$scratch/said" || wrong "a river without volume has a mean in its table"
 expect 1 "$display" two.river refused/4-too-warm.river town.river
 says 'reach 2: a field is out of range: temperature is 36, not from 0 to 35 degrees C'
 expect 1 "$display" "$scratch"/odd/take-*.river refused/13-canal.river

@@ -58,6 +58,13 @@ uint32_t lowest_reach(const struct report *report)
     return lowest;
 }
 
+void average_river(const struct river *river, struct means *means)
+{
+    means->result = xylandreo_mean(river->bytes, river->length, means->bytes, sizeof means->bytes, &means->units,
+                                   &means->remainder);
+    means->reaches = means->result == 0 ? xylandreo_reaches(river->bytes) : 0;
+}
+
 void show_name(FILE *to, const char *name)
 {
     for (; *name; name++) {
@@ -138,11 +145,28 @@ static int put_nitrogenous(char *text, const struct xylandreo_record *r)
     return snprintf(text, MAX_LINE, " %" PRIu32 " %" PRIu32, r->head_nitrogenous, r->foot_nitrogenous);
 }
 
+static size_t put_refusal(char *text, uint32_t result)
+{
+    return (size_t)snprintf(text, MAX_LINE, "refused %" PRIu32 " reach %" PRIu32 "\n", xylandreo_number(result),
+                            xylandreo_reach(result));
+}
+
+size_t put_means(const struct means *means, char text[MAX_LINES])
+{
+    if (means->result != 0)
+        return put_refusal(text, means->result);
+    size_t length = 0;
+    for (uint32_t i = 1; i <= means->reaches; i++)
+        length += (size_t)snprintf(text + length, MAX_LINE, "%" PRIu32 " %" PRId32 "\n", i,
+                                   xylandreo_mean_of(means->bytes, i));
+    return length + (size_t)snprintf(text + length, MAX_LINE, "river %" PRId32 " %" PRIu64 "\n", means->units,
+                                     means->remainder);
+}
+
 size_t put_lines(const struct report *report, char text[MAX_LINES])
 {
     if (report->result != 0)
-        return (size_t)snprintf(text, MAX_LINES, "refused %" PRIu32 " reach %" PRIu32 "\n",
-                                xylandreo_number(report->result), xylandreo_reach(report->result));
+        return put_refusal(text, report->result);
     size_t length = 0;
     for (uint32_t i = 1; i <= report->reaches; i++) {
         struct xylandreo_record record = record_at(report, i);

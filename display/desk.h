@@ -45,6 +45,18 @@ int has_nitrogenous(const struct report *report);
 /* The reach with the lowest oxygen of an accepted river, the first of them where several have it. */
 uint32_t lowest_reach(const struct report *report);
 
+/* A river's means: the result of the entry, and where it is 0 the mean of each reach and that of the river. */
+struct means {
+    uint32_t result;
+    uint32_t reaches; /* 0 where there are no means */
+    int32_t units;
+    uint64_t remainder;
+    uint8_t bytes[XYLANDREO_MAX_MEANS];
+};
+
+/* Calls the entry that gives the means. */
+void average_river(const struct river *river, struct means *means);
+
 /* Shows a file name on one line, its control bytes as question marks, so that no name can spoil a terminal. */
 void show_name(FILE *to, const char *name);
 
@@ -64,11 +76,15 @@ struct text milligrams(int64_t units);
 void show_refusal(FILE *to, const struct river *river, uint32_t result);
 void show_reason(FILE *to, const struct river *river, uint32_t result);
 
-/* Room for what the printing program prints: at most eleven numbers of at most eleven characters a line. */
+/*
+ * Room for what the printing programs print: a line of a report has at most eleven numbers of at most eleven
+ * characters, and means have shorter lines, one more than there are reaches.
+ */
 #define MAX_LINE (11 * 12)
 #define MAX_LINES (XYLANDREO_MAX_REACHES * MAX_LINE + 1)
 
-/* Puts what the printing program prints for a report, and returns its length. */
+/* Puts what the printing programs print for a report and for means, and returns its length. */
 size_t put_lines(const struct report *report, char text[MAX_LINES]);
+size_t put_means(const struct means *means, char text[MAX_LINES]);
 
 #endif

@@ -1,13 +1,15 @@
 /*
- * The desk's display: shows the reports of river files as tables with units. Of the archive it calls
- * reporting and the size of a reach in a report, and nothing deeper.
+ * The desk's display: shows the reports of river files as tables with units, and the means. Of the archive it
+ * calls reporting, the size of a reach in a report and the means, and nothing deeper.
  *
  *   display [--limit 5.0] FILE...   a table and a summary line for each; marks oxygen below the limit, in mg/L
  *   display --lines FILE            the lines that the printing program prints
- *   display --check FILE            calls the entry on this file and on thousands made from it, and checks
- *                                   from outside what the entry promises about its buffer
+ *   display --means FILE            the lines that the program for means prints
+ *   display --check FILE            calls the entries on this file and on thousands made from it, and checks
+ *                                   from outside what they promise about their buffers
  *
- * Tables and lines: the exit status is 0 where all rivers are accepted, 1 where one is refused, 2 for bad use.
+ * Tables and lines: the exit status is 0 where all rivers are accepted, 1 where one is refused, 2 for bad use. A
+ * river without volume has a table, without means; --means refuses it.
  * Check: 0 where all promises held, whether or not the river is accepted, 1 where one broke, 2 for bad use.
  */
 #include <inttypes.h>
@@ -59,12 +61,27 @@ static int in_cubic_metres(const struct report *report)
     return 0;
 }
 
-static void show_headings(int cubic, int nitrogenous)
+/* What a table shows, and whether its flows stand in m3/s. */
+struct table {
+    const struct report *report;
+    const struct means *means;
+    const struct limit *limit;
+    int cubic;
+};
+
+static int has_means(const struct means *means)
 {
-    printf("%39s%22s%19s%s\n", "BOD, mg/L", "oxygen, mg/L", "lowest at,",
+    return means->result == 0;
+}
+
+static void show_headings(const struct table *table)
+{
+    int mean = has_means(table->means), nitrogenous = has_nitrogenous(table->report);
+    printf("%39s%22s%*s%s\n", "BOD, mg/L", "oxygen, mg/L", mean ? 29 : 19, "lowest at,",
            nitrogenous ? "   nitrogenous BOD, mg/L" : "");
-    printf("reach depth %10s %8s %8s %8s  %8s  %8s  %9s%s\n", cubic ? "flow, m3/s" : "flow, L/s", "head", "foot",
-           "head", "lowest", "foot", "% of time", nitrogenous ? "           head     foot" : "");
+    printf("reach depth %10s %8s %8s %8s  %8s  %8s  %s%9s%s\n", table->cubic ? "flow, m3/s" : "flow, L/s", "head",
+           "foot", "head", "lowest", "foot", mean ? "    mean  " : "", "% of time",
+           nitrogenous ? "           head     foot" : "");
 }
 
 /* Three decimals of m3/s are the litres, so neither unit rounds anything. */
@@ -88,65 +105,68 @@ static void show_share(uint16_t instant)
     printf(" %7u.%u", tenths / 10, tenths % 10);
 }
 
-static void show_row(uint32_t reach, struct xylandreo_record r, int cubic, int nitrogenous, const struct limit *limit)
+static void show_row(const struct table *table, uint32_t reach)
 {
+    struct xylandreo_record r = record_at(table->report, reach);
     printf("%5" PRIu32 " %5u", reach, r.depth);
-    show_flow(r.flow, cubic);
+    show_flow(r.flow, table->cubic);
     printf(" %8s %8s", milligrams(r.head_bod).chars, milligrams(r.foot_bod).chars);
-    show_oxygen(r.head_oxygen, limit);
-    show_oxygen(r.critical_oxygen, limit);
-    show_oxygen(r.foot_oxygen, limit);
+    show_oxygen(r.head_oxygen, table->limit);
+    show_oxygen(r.critical_oxygen, table->limit);
+    show_oxygen(r.foot_oxygen, table->limit);
+    if (has_means(table->means))
+        show_oxygen(xylandreo_mean_of(table->means->bytes, reach), table->limit);
     show_share(r.critical_instant);
-    if (nitrogenous)
+    if (has_nitrogenous(table->report))
         printf("       %8s %8s", milligrams(r.head_nitrogenous).chars, milligrams(r.foot_nitrogenous).chars);
     printf("\n");
 }
 
-static void show_summary(const struct report *report, const struct limit *limit)
+/* The river's mean is rounded down to its units already, so that it is shown as every other figure. */
+static void show_summary(const struct table *table)
 {
+    const struct report *report = table->report;
+    const struct limit *limit = table->limit;
     uint32_t below = 0, lowest = lowest_reach(report);
     for (uint32_t i = 1; i <= report->reaches; i++)
         below += (uint32_t)is_below(record_at(report, i).critical_oxygen, limit);
     printf("lowest oxygen %s mg/L in reach %" PRIu32, milligrams(record_at(report, lowest).critical_oxygen).chars,
            lowest);
+    if (has_means(table->means))
+        printf("; mean by volume %s mg/L", milligrams(table->means->units).chars);
     if (limit->text)
         printf("; %" PRIu32 " of %" PRIu32 " %s below %s mg/L%s", below, report->reaches,
                report->reaches == 1 ? "reach" : "reaches", limit->text, below ? ", marked *" : "");
 }
 
-static void show_table(const char *path, const struct report *report, const struct limit *limit)
+static void show_table(const char *path, const struct table *table)
 {
-    int cubic = in_cubic_metres(report), nitrogenous = has_nitrogenous(report);
+    uint32_t reaches = table->report->reaches;
     show_name(stdout, path);
-    printf(": %" PRIu32 " %s\n", report->reaches, report->reaches == 1 ? "reach" : "reaches");
-    show_headings(cubic, nitrogenous);
-    for (uint32_t i = 1; i <= report->reaches; i++)
-        show_row(i, record_at(report, i), cubic, nitrogenous, limit);
+    printf(": %" PRIu32 " %s\n", reaches, reaches == 1 ? "reach" : "reaches");
+    show_headings(table);
+    for (uint32_t i = 1; i <= reaches; i++)
+        show_row(table, i);
 }
 
 /* The table of an accepted river, and the summary line that every river has. */
-static void show_river(const char *path, const struct river *river, const struct report *report,
-                       const struct limit *limit)
+static void show_river(const char *path, const struct river *river, const struct table *table)
 {
-    if (report->result == 0)
-        show_table(path, report, limit);
+    if (table->report->result == 0)
+        show_table(path, table);
     show_name(stdout, path);
     printf(": ");
-    if (report->result == 0)
-        show_summary(report, limit);
+    if (table->report->result == 0)
+        show_summary(table);
     else
-        show_refusal(stdout, river, report->result);
+        show_refusal(stdout, river, table->report->result);
     printf("\n");
-}
-
-static void show_lines(const struct report *report)
-{
-    static char text[MAX_LINES];
-    fwrite(text, 1, put_lines(report, text), stdout);
 }
 
 static struct river river;
 static struct report report;
+static struct means means;
+static char printed[MAX_LINES];
 
 static int load(const char *path)
 {
@@ -161,8 +181,17 @@ static int lines(const char *path)
     if (!load(path))
         return BAD_USE;
     report_river(&river, &report);
-    show_lines(&report);
+    fwrite(printed, 1, put_lines(&report, printed), stdout);
     return report.result == 0 ? ACCEPTED : REFUSED;
+}
+
+static int mean_lines(const char *path)
+{
+    if (!load(path))
+        return BAD_USE;
+    average_river(&river, &means);
+    fwrite(printed, 1, put_means(&means, printed), stdout);
+    return means.result == 0 ? ACCEPTED : REFUSED;
 }
 
 static int check(const char *path)
@@ -183,9 +212,11 @@ static int tables(char **paths, const struct limit *limit)
             continue;
         }
         report_river(&river, &report);
+        average_river(&river, &means);
+        struct table table = {&report, &means, limit, in_cubic_metres(&report)};
         if (path > paths && (after_table || report.result == 0))
             printf("\n");
-        show_river(*path, &river, &report, limit);
+        show_river(*path, &river, &table);
         after_table = report.result == 0;
         if (report.result != 0 && status == ACCEPTED)
             status = REFUSED;
@@ -195,7 +226,7 @@ static int tables(char **paths, const struct limit *limit)
 
 static int usage(void)
 {
-    fprintf(stderr, "usage: display [--limit 5.0] FILE... | display --lines FILE | display --check FILE\n");
+    fprintf(stderr, "usage: display [--limit 5.0] FILE... | display --lines | --means | --check FILE\n");
     return BAD_USE;
 }
 
@@ -221,6 +252,8 @@ int main(int argc, char **argv)
 {
     if (argc == 3 && !strcmp(argv[1], "--lines"))
         return finish("display", lines(argv[2]));
+    if (argc == 3 && !strcmp(argv[1], "--means"))
+        return finish("display", mean_lines(argv[2]));
     if (argc == 3 && !strcmp(argv[1], "--check"))
         return finish("display", check(argv[2]));
     return finish("display", table_mode(argv + 1));

@@ -10,7 +10,7 @@
 
 static unsigned long calls, refusals;
 
-/* A promise of the entry; the first broken one ends the program. */
+/* A promise of an entry; the first broken one ends the program. */
 static void expect(int holds, const char *promise, uint32_t result)
 {
     if (!holds) {
@@ -84,31 +84,129 @@ static uint32_t checked_size(const struct river *river, uint32_t result)
     return size;
 }
 
-/* Calls the entry with a buffer of the given length, full of the pattern, and checks which bytes it wrote. */
-static uint32_t checked_call(const struct river *river, size_t report_len)
+/* A buffer to lend, between guards. */
+static uint8_t memory[GUARD + XYLANDREO_MAX_REPORT + GUARD];
+static uint8_t *const lent = memory + GUARD;
+
+/* Checks which bytes of the buffer, of which so many were lent, a call has written: the first of them, or none. */
+static void check_written(size_t length, size_t written, uint32_t result)
 {
-    static uint8_t memory[GUARD + XYLANDREO_MAX_REPORT + GUARD];
-    uint8_t *report = memory + GUARD;
-    memset(memory, PATTERN, sizeof memory);
-    uint32_t result = xylandreo_report(river->bytes, river->length, report, report_len);
-    uint32_t size = checked_size(river, result);
-    size_t written = 0;
     calls++;
     if (result == 0) {
-        uint32_t reaches = xylandreo_reaches(river->bytes);
-        written = (size_t)reaches * size;
-        expect(written <= report_len, "a buffer shorter than the report is refused", result);
-        for (uint32_t i = 1; i <= reaches; i++)
-            check_record(report, size, i);
+        expect(written <= length, "a buffer that is too short is refused", result);
     } else {
         refusals++;
         check_refusal(result);
-        expect(is_pattern(report, report_len), "a refused call leaves the buffer untouched", result);
+        expect(is_pattern(lent, length), "a refused call leaves the buffer untouched", result);
     }
     expect(is_pattern(memory, GUARD), "bytes before the buffer are untouched", result);
-    expect(is_pattern(report + written, sizeof memory - GUARD - written), "bytes past the report keep their contents",
-           result);
+    expect(is_pattern(lent + written, sizeof memory - GUARD - written),
+           "bytes past what is written keep their contents", result);
+}
+
+/* Calls the entry for reports with a buffer of the given length, and checks what it wrote. */
+static uint32_t checked_call(const struct river *river, size_t length)
+{
+    memset(memory, PATTERN, sizeof memory);
+    uint32_t result = xylandreo_report(river->bytes, river->length, lent, length);
+    uint32_t size = checked_size(river, result), reaches = result == 0 ? xylandreo_reaches(river->bytes) : 0;
+    check_written(length, (size_t)reaches * size, result);
+    for (uint32_t i = 1; i <= reaches; i++)
+        check_record(lent, size, i);
     return result;
+}
+
+/* The volume of each reach of a river that reading accepts, and all of it. */
+struct volumes {
+    uint32_t of[XYLANDREO_MAX_REACHES];
+    uint64_t total;
+};
+
+static struct volumes volumes_of(const struct river *river)
+{
+    const struct xylandreo_field *volume = &xylandreo_kinds[2].fields[4]; /* of RE */
+    struct volumes volumes = {{0}, 0};
+    struct xylandreo_fault none;
+    size_t at = xylandreo_pass(river->bytes, river->length, 0, 0, &none);
+    for (uint32_t i = 0; i < xylandreo_reaches(river->bytes); i++) {
+        volumes.of[i] = (uint32_t)xylandreo_value(river->bytes + at, volume);
+        volumes.total += volumes.of[i];
+        at = xylandreo_pass(river->bytes, river->length, at, 1, &none);
+    }
+    return volumes;
+}
+
+/* A sum of volumes times oxygen, which 64 bits may not hold: 65,536 times one part of it and the other. */
+struct sum {
+    uint64_t high, low;
+};
+
+/* Oxygen is counted from 2^31 units below zero, and is then from 0 on. */
+static void add(struct sum *sum, uint64_t volume, int32_t oxygen)
+{
+    uint32_t counted = (uint32_t)oxygen + 0x80000000u;
+    sum->high += volume * (counted >> 16);
+    sum->low += volume * (counted & 0xffff);
+}
+
+static int is_equal(struct sum a, struct sum b)
+{
+    return a.high + (a.low >> 16) == b.high + (b.low >> 16) && (a.low & 0xffff) == (b.low & 0xffff);
+}
+
+/* Units times the total volume and the remainder are the sum of volume times mean. */
+static void check_river_mean(const struct volumes *volumes, uint32_t reaches, int32_t units, uint64_t remainder)
+{
+    struct sum sum = {0, 0}, due = {0, remainder};
+    for (uint32_t i = 1; i <= reaches; i++)
+        add(&sum, volumes->of[i - 1], xylandreo_mean_of(lent, i));
+    add(&due, volumes->total, units);
+    expect(remainder < volumes->total, "the remainder is below the total volume", 0);
+    expect(is_equal(sum, due), "the river's mean is that of the means, weighted by volume", 0);
+}
+
+/* The result that is due from the entry for means, by that of a report with a long buffer. */
+static uint32_t due_of_means(const struct river *river, uint32_t reported, size_t length)
+{
+    if (reported != 0)
+        return reported;
+    if (length < (size_t)xylandreo_reaches(river->bytes) * XYLANDREO_MEAN_BYTES)
+        return 12;
+    return volumes_of(river).total == 0 ? 16 : 0;
+}
+
+/*
+ * Calls the entry for means with a buffer of the given length, and checks what it wrote; the report of the river is
+ * given, where it has one.
+ */
+static void checked_means(const struct river *river, const struct report *report, size_t length)
+{
+    int32_t units = 7;
+    uint64_t remainder = UINT64_MAX;
+    memset(memory, PATTERN, sizeof memory);
+    uint32_t result = xylandreo_mean(river->bytes, river->length, lent, length, &units, &remainder);
+    uint32_t reaches = result == 0 ? xylandreo_reaches(river->bytes) : 0;
+    check_written(length, (size_t)reaches * XYLANDREO_MEAN_BYTES, result);
+    expect(result == due_of_means(river, report->result, length), "means are refused as reports, then with 12 or 16",
+           result);
+    if (result != 0) {
+        expect(units == 7 && remainder == UINT64_MAX, "a refused call leaves the two numbers untouched", result);
+        return;
+    }
+    struct volumes volumes = volumes_of(river);
+    check_river_mean(&volumes, reaches, units, remainder);
+    for (uint32_t i = 1; i <= reaches; i++)
+        expect(volumes.of[i - 1] || xylandreo_mean_of(lent, i) == record_at(report, i).head_oxygen,
+               "a reach without volume has its head oxygen for its mean", result);
+}
+
+/* Calls the entry for reports with a long buffer, and keeps what it gave. */
+static void keep_report(const struct river *river, struct report *report)
+{
+    report->result = checked_call(river, XYLANDREO_MAX_REPORT);
+    report->reaches = report->result == 0 ? xylandreo_reaches(river->bytes) : 0;
+    report->size = xylandreo_record_size(river->bytes, river->length);
+    memcpy(report->bytes, lent, sizeof report->bytes);
 }
 
 /* The file itself, with buffers of different lengths. */
@@ -129,18 +227,38 @@ static void check_file(const struct river *river)
            result);
 }
 
+/* Its means, likewise. */
+static void check_means(const struct river *river)
+{
+    struct report report;
+    keep_report(river, &report);
+    size_t needed = (size_t)report.reaches * XYLANDREO_MEAN_BYTES;
+    checked_means(river, &report, XYLANDREO_MAX_MEANS);
+    checked_means(river, &report, needed);
+    checked_means(river, &report, needed ? needed - 1 : 0);
+    checked_means(river, &report, 0);
+}
+
+/* A report with a long buffer, and the means. */
+static void check_both(const struct river *river)
+{
+    struct report report;
+    keep_report(river, &report);
+    checked_means(river, &report, XYLANDREO_MAX_MEANS);
+}
+
 /* Files cut short at every length, and files with one byte changed. */
 static void check_damaged(const struct river *river)
 {
     struct river damaged = *river;
     for (size_t length = 0; length < river->length; length++) {
         damaged.length = length;
-        checked_call(&damaged, XYLANDREO_MAX_REPORT);
+        check_both(&damaged);
     }
     damaged.length = river->length;
     for (size_t at = 0; at < river->length; at++) {
         damaged.bytes[at] ^= 0xff;
-        checked_call(&damaged, XYLANDREO_MAX_REPORT);
+        check_both(&damaged);
         damaged.bytes[at] ^= 0xff;
     }
 }
@@ -148,6 +266,7 @@ static void check_damaged(const struct river *river)
 void check_promises(const char *path, const struct river *river)
 {
     check_file(river);
+    check_means(river);
     check_damaged(river);
     show_name(stdout, path);
     printf(": all promises held in %lu calls, %lu of them refused\n", calls, refusals);

@@ -1,12 +1,16 @@
-/* Checks from outside, on real calls, what the reporting entry promises about its buffer, and the size of a reach. */
+/*
+ * Checks from outside, on real calls, what the entries for reports and for means promise about their buffers, the
+ * size of a reach, and the mean of a river over the means of its reaches.
+ */
 #ifndef PROMISES_H
 #define PROMISES_H
 
 #include "desk.h"
 
 /*
- * Calls both entries on this file and on thousands made from it, and says on standard output how many calls
- * there were. The first broken promise is said on standard error and ends the program with status 1.
+ * Calls the entries for reports, for the size of a reach and for means on this file and on thousands made from it,
+ * and says on standard output how many calls for reports and for means there were. The first broken promise is said on
+ * standard error and ends the program with status 1.
  */
 void check_promises(const char *path, const struct river *river);
 

@@ -1,8 +1,8 @@
 #!/usr/bin/env python3
 """The Allegheny River of Railsback and Jager, ORNL/TM-10953 (1988), Table 4, as a river.
 
-    allegheny.py cards              prints the text of the river, for tools/river
-    allegheny.py compare REPORT     compares the printed report with the published table
+    allegheny.py cards                    prints the text of the river, for tools/river
+    allegheny.py compare REPORT MEANS     compares the printed report and means with the published table
 
 ALLEGHENY.md explains the conversion and the differences.
 """
@@ -34,22 +34,23 @@ INPUTS = (
 )
 
 # Table 4, results: saturation, DO above the dam, starting BOD, final BOD, starting DO, critical DO,
-# final DO and critical distance (river mile).
+# final DO, DO index and critical distance (river mile). The index is the integral of DO over the time
+# in days, times the speed in feet a second: mean DO times the length over the seconds of a day.
 PUBLISHED = (
-    (8.13, 6.00, 4.00, 3.37, 6.34, 6.13, 6.13, 52.6),
-    (7.97, 6.13, 3.49, 2.88, 6.65, 6.37, 6.37, 45.7),
-    (7.81, 6.37, 3.01, 2.22, 6.38, 6.12, 6.12, 36.3),
-    (7.81, 6.12, 2.35, 1.88, 6.21, 5.99, 5.99, 30.4),
-    (7.81, 5.99, 2.01, 1.99, 6.14, 6.14, 6.15, 30.4),
-    (7.81, 6.11, 2.67, 2.46, 6.11, 6.11, 6.13, 30.0),
-    (7.81, 6.13, 2.46, 2.36, 6.17, 6.17, 6.18, 24.2),
-    (7.81, 6.18, 2.40, 2.09, 6.18, 6.00, 6.00, 14.5),
-    (7.66, 6.00, 2.09, 2.05, 6.03, 6.03, 6.03, 14.4),
-    (7.66, 6.03, 2.07, 1.83, 6.03, 6.03, 6.05, 13.5),
-    (7.66, 6.05, 1.83, 1.64, 6.33, 6.33, 6.34, 6.7),
-    (7.66, 6.34, 1.64, 1.64, 6.34, 6.34, 6.34, 0.0),
+    (8.13, 6.00, 4.00, 3.37, 6.34, 6.13, 6.13, 3.65, 52.6),
+    (7.97, 6.13, 3.49, 2.88, 6.65, 6.37, 6.37, 2.74, 45.7),
+    (7.81, 6.37, 3.01, 2.22, 6.38, 6.12, 6.12, 3.58, 36.3),
+    (7.81, 6.12, 2.35, 1.88, 6.21, 5.99, 5.99, 2.19, 30.4),
+    (7.81, 5.99, 2.01, 1.99, 6.14, 6.14, 6.15, 0.15, 30.4),
+    (7.81, 6.11, 2.67, 2.46, 6.11, 6.11, 6.13, 2.17, 30.0),
+    (7.81, 6.13, 2.46, 2.36, 6.17, 6.17, 6.18, 1.13, 24.2),
+    (7.81, 6.18, 2.40, 2.09, 6.18, 6.00, 6.00, 2.49, 14.5),
+    (7.66, 6.00, 2.09, 2.05, 6.03, 6.03, 6.03, 0.37, 14.4),
+    (7.66, 6.03, 2.07, 1.83, 6.03, 6.03, 6.05, 2.51, 13.5),
+    (7.66, 6.05, 1.83, 1.64, 6.33, 6.33, 6.34, 2.59, 6.7),
+    (7.66, 6.34, 1.64, 1.64, 6.34, 6.34, 6.34, 0.00, 0.0),
 )
-FIGURES = ("head BOD", "foot BOD", "head DO", "crit. DO", "foot DO")     # of PUBLISHED[i][2:7]
+FIGURES = ("head BOD", "foot BOD", "head DO", "crit. DO", "foot DO", "DO index")     # of PUBLISHED[i][2:8]
 
 
 def folded_share(coefficient, constant, deficit):
@@ -82,8 +83,13 @@ def cards():
               f"{load * POUND_A_DAY:.0f}{dam}  # {name}, mile {mile}")
 
 
+def index(mean_oxygen, length):
+    """The DO index of a reach of so many feet."""
+    return mean_oxygen * length / 86_400
+
+
 def study(quadratic, folded):
-    """The study's own program in floating point: the five figures of each reach.
+    """The study's own program in floating point: the figures of each reach.
 
     `quadratic` is the coefficient of T squared in the saturation, `folded` puts a share in place of
     a dam's coefficient and constant, as in the cards.
@@ -107,50 +113,65 @@ def study(quadratic, folded):
             s1, s2 = math.exp(-k1 * days * part), math.exp(-k2 * days * part)
             return saturation - k1 * demand / (k2 - k1) * (s1 - s2) - deficit * s2
 
+        def mean(rate):
+            return (1 - math.exp(-rate * days)) / (rate * days) if days else 1
+
         foot = demand * math.exp(-k1 * days)
-        rows.append((demand, foot, at(0), min(at(m / 1024) for m in range(1025)), at(1)))
+        mean_oxygen = saturation - k1 * demand / (k2 - k1) * (mean(k1) - mean(k2)) - deficit * mean(k2)
+        rows.append((demand, foot, at(0), min(at(m / 1024) for m in range(1025)), at(1), index(mean_oxygen, length)))
         oxygen, demand = at(1), foot
     return rows
 
 
 def largest(rows):
     """The largest distance from the published table, for each figure."""
-    return [max(abs(row[k] - published[2 + k]) for row, published in zip(rows, PUBLISHED)) for k in range(5)]
+    return [max(abs(row[k] - published[2 + k]) for row, published in zip(rows, PUBLISHED)) for k in range(len(FIGURES))]
 
 
-def compare(report):
+def numbers(path, columns, more):
+    """The numbers of the lines of a printed text, which has one of so many columns for each reach, and some more."""
+    try:
+        with open(path, encoding="ascii") as file:
+            lines = file.read().splitlines()
+        rows = [[int(word) for word in line.split()] for line in lines[:len(INPUTS) + 1]]
+    except ValueError:
+        rows = []
+    if not rows or len(lines) != len(INPUTS) + 1 + more or any(len(row) != columns for row in rows):
+        raise ValueError(f"{path} is no printed text of this river")
+    return rows
+
+
+def compare(report, means):
     """Our figures beside the published ones, reach by reach, and what makes the difference."""
-    lines = [[int(word) for word in line.split()] for line in report.splitlines()]
-    if len(lines) != len(INPUTS) + 1:
-        raise ValueError(f"{len(lines)} lines where {len(INPUTS) + 1} are due")
-    ours = [[x / 1e6 for x in (line[3], line[4], line[5], line[7], line[8])] for line in lines[1:]]
+    lines = numbers(report, 9, 0)
+    indexes = [index(mean / 1e6, row[2]) for (_, mean), row in zip(numbers(means, 2, 1)[1:], INPUTS)]
+    ours = [[x / 1e6 for x in (line[3], line[4], line[5], line[7], line[8])] + [own] for line, own in zip(lines[1:], indexes)]
     print("| reach | " + " | ".join(f"{name}: Table 4, ours" for name in FIGURES) + " | lowest at mile: Table 4, ours |")
     print("|---" * (len(FIGURES) + 2) + "|")
     for row, published, our, line in zip(INPUTS, PUBLISHED, ours, lines[1:]):
         mile = row[1] - line[6] / 1024 * row[2] / 5280
-        cells = [f"{p:.2f}, {x:.3f}" for p, x in zip(published[2:7], our)]
-        print(f"| {row[0]} | " + " | ".join(cells) + f" | {published[7]:.1f}, {mile:.1f} |")
+        cells = [f"{p:.2f}, {x:.3f}" for p, x in zip(published[2:8], our)]
+        print(f"| {row[0]} | " + " | ".join(cells) + f" | {published[8]:.1f}, {mile:.1f} |")
     print()
-    print("| largest distance from Table 4, mg/L | " + " | ".join(FIGURES) + " |")
+    print("| largest distance from Table 4 | " + " | ".join(FIGURES) + " |")
     print("|---" * (len(FIGURES) + 1) + "|")
     for name, rows in (("the study's program, T² coefficient 0.00791 as in its listing", study(0.00791, False)),
                        ("with 0.007991, as in its text and in the river file paper", study(0.007991, False)),
                        ("and with the dams' constants in the shares", study(0.007991, True)),
-                       ("our report", ours)):
+                       ("our report and means", ours)):
         print(f"| {name} | " + " | ".join(f"{x:.3f}" for x in largest(rows)) + " |")
 
 
 def main(arguments):
     if arguments == ["cards"]:
         cards()
-    elif len(arguments) == 2 and arguments[0] == "compare":
+    elif len(arguments) == 3 and arguments[0] == "compare":
         try:
-            with open(arguments[1], encoding="ascii") as file:
-                compare(file.read())
+            compare(*arguments[1:])
         except (OSError, ValueError) as problem:
-            sys.exit(f"allegheny.py: {arguments[1]}: {problem}")
+            sys.exit(f"allegheny.py: {problem}")
     else:
-        sys.exit("usage: allegheny.py cards | allegheny.py compare REPORT")
+        sys.exit("usage: allegheny.py cards | allegheny.py compare REPORT MEANS")
 
 
 if __name__ == "__main__":

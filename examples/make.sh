@@ -1,5 +1,6 @@
 #!/usr/bin/env bash
-# Makes each river file NAME.river from its text NAME.txt, and beside it NAME.report as the program prints it.
+# Makes each river file NAME.river from its text NAME.txt, and beside it NAME.report and, for a river that is not refused,
+# NAME.mean as the programs print them.
 #   examples/make.sh           makes them anew
 #   examples/make.sh --check   changes nothing; says which are out of date
 set -eu
@@ -17,6 +18,7 @@ case "$#${1:-}" in
 esac
 command -v python3 >/dev/null || fail "python3 is not on the PATH"
 program=$(../scripts/build print)
+mean_program=$(../scripts/build print_mean)
 scratch=$(mktemp -d)
 trap 'rm -rf "$scratch"' EXIT
 
@@ -46,12 +48,17 @@ for text in *.txt refused/*.txt; do
     fi
     settle "$scratch/river" "$name.river"
     settle "$scratch/report" "$name.report"
+    if [ "${text#refused/}" = "$text" ]; then
+        "$mean_program" < "$scratch/river" > "$scratch/mean"
+        settle "$scratch/mean" "$name.mean"
+    fi
     count=$((count + 1))
 done
 
 # The note on the Allegheny holds the comparison's lines.
-python3 allegheny.py compare allegheny.report > "$scratch/comparison"
+python3 allegheny.py compare allegheny.report allegheny.mean > "$scratch/comparison"
 while IFS= read -r line; do
-    grep -qxF -- "$line" ALLEGHENY.md || fail "ALLEGHENY.md lacks a line of 'allegheny.py compare allegheny.report': $line"
+    grep -qxF -- "$line" ALLEGHENY.md ||
+        fail "ALLEGHENY.md lacks a line of 'allegheny.py compare allegheny.report allegheny.mean': $line"
 done < "$scratch/comparison"
-echo "$count rivers and their reports are up to date"
+echo "$count rivers, their reports and their means are up to date"

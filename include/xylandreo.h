@@ -2,8 +2,8 @@
  * River oxygen reports for C and C++. Link with target/staticlib/libreport.a, which `scripts/build archive`
  * makes; display/ has two programs over it, and scripts/build the command that compiles them.
  *
- * The three entries come first. Below them are the reasons of refusals, the table of all records of a river
- * file (xylandreo_kinds), and a reader for the records of a report.
+ * The four entries come first. Below them are the reasons of refusals, the table of all records of a river
+ * file (xylandreo_kinds), and readers for the records of a report and for means.
  */
 #ifndef XYLANDREO_H
 #define XYLANDREO_H
@@ -36,6 +36,10 @@ extern "C" {
                               XYLANDREO_BP_BYTES + XYLANDREO_SD_BYTES + XYLANDREO_NT_BYTES))
 #define XYLANDREO_MAX_REPORT (XYLANDREO_MAX_REACHES * (XYLANDREO_RECORD + XYLANDREO_RN_BYTES))
 
+/* Bytes of the mean of a reach, and of the means of the largest river. */
+#define XYLANDREO_MEAN_BYTES 4
+#define XYLANDREO_MAX_MEANS (XYLANDREO_MAX_REACHES * XYLANDREO_MEAN_BYTES)
+
 /*
  * Reads the river file file[0 .. file_len), checks its flows and writes for each of its n reaches, in the
  * order of the file, an RP record and, in a file with any NT record, an RN record after it, to the start of
@@ -57,6 +61,27 @@ uint32_t xylandreo_report(const uint8_t *file, size_t file_len, uint8_t *report,
  * pointer and length are as for xylandreo_report. XYLANDREO_MAX_REPORT bytes hold any report.
  */
 uint32_t xylandreo_record_size(const uint8_t *file, size_t file_len);
+
+/*
+ * Reads the river file file[0 .. file_len), checks its flows and writes for each of its n reaches, in the
+ * order of the file, its mean oxygen over the travel time to the start of means[0 .. means_len), in units of
+ * 0.000001 mg/L: XYLANDREO_MEAN_BYTES bytes each, two's complement, high byte first (xylandreo_mean_of reads
+ * them). A reach with volume 0 has its head oxygen for its mean.
+ * In *units and *remainder it leaves the mean of these means weighted by volume: *units times the total volume
+ * plus *remainder is the sum of volume times mean. *remainder is from 0 to the total volume less 1, so that
+ * *units is rounded down, also below zero.
+ *
+ * The result is 0 exactly for an accepted river that has volume and whose means the buffer can hold,
+ * XYLANDREO_MEAN_BYTES * n bytes. Otherwise it is number + 256 * reach: a refusal of reading or of the flow
+ * check, as from xylandreo_report, then 12 for a shorter buffer, then 16 for a total volume of 0, both with
+ * reach 0.
+ *
+ * A refused call writes nothing, neither to the buffer nor to the two numbers. Bytes past the means keep their
+ * contents. No pointer may be null, the two numbers included; numbers and buffers may not overlap. Every call
+ * ends, and nothing is kept between calls.
+ */
+uint32_t xylandreo_mean(const uint8_t *file, size_t file_len, uint8_t *means, size_t means_len, int32_t *units,
+                        uint64_t *remainder);
 
 /*
  * Reads the river file file[0 .. file_len) and writes the river that it read to the start of
@@ -91,7 +116,8 @@ static inline uint32_t xylandreo_reach(uint32_t result)
  * be refused with 10 though BOD at the head would be far lower. 7, 8, 10 and 13 go by the flow before the reach's own
  * take, 11 and 14 by the flow after it. 11 and 15 go by the rates in force: those of the file or, in a file with a TH
  * record, these corrected from 20 degrees to the temperature of the reach. 14 tests what the bed uses on the way,
- * whether or not air makes up for it. The script `run` takes its reasons from these lines.
+ * whether or not air makes up for it. 16 is given by xylandreo_mean alone; such a river has a report. The script `run`
+ * takes its reasons from these lines.
  */
 static inline const char *xylandreo_reason(uint32_t number)
 {
@@ -112,6 +138,7 @@ static inline const char *xylandreo_reason(uint32_t number)
         "the take is not below the flow at the head",
         "the reach is too long for its sludge bed, which uses more than 5 mg/L, and must be split",
         "a rate, corrected to the temperature of the reach, is above 20 per day",
+        "the river has no volume, and so no mean",
     };
     return number < sizeof reasons / sizeof *reasons ? reasons[number] : "unknown";
 }
@@ -314,7 +341,7 @@ struct xylandreo_record {
 #define XYLANDREO_UNITS 1000000 /* of one mg/L */
 #define XYLANDREO_INSTANTS 1024 /* of the travel time of a reach */
 
-/* Bounds of all reported figures, in units: BOD and nitrogenous BOD together, from 0, and oxygen. */
+/* Bounds of all reported figures and means, in units: BOD and nitrogenous BOD together, from 0, and oxygen. */
 #define XYLANDREO_MAX_BOD 1000000000
 #define XYLANDREO_MIN_OXYGEN (-1640000384)
 #define XYLANDREO_MAX_OXYGEN 20000128
@@ -352,6 +379,12 @@ static inline struct xylandreo_record xylandreo_record_of(const uint8_t *report,
     record.head_nitrogenous = nitrogenous ? xylandreo_unsigned(p + 31) : 0;
     record.foot_nitrogenous = nitrogenous ? xylandreo_unsigned(p + 35) : 0;
     return record;
+}
+
+/* The mean oxygen of a reach, counted from 1, in units, from means whose result was 0. It may lie below zero. */
+static inline int32_t xylandreo_mean_of(const uint8_t *means, uint32_t reach)
+{
+    return xylandreo_signed(means + (size_t)(reach - 1) * XYLANDREO_MEAN_BYTES);
 }
 
 #endif

@@ -76,6 +76,7 @@ VOLUMES = {
     "long": lambda rng, most: most,
     "half": lambda rng, most: most // 2,
     "small": lambda rng, most: min(most, rng.randint(0, 9)),
+    "some": lambda rng, most: rng.choice((0, pick(rng, most), most)),
     "zero": lambda rng, most: 0,
 }
 
@@ -280,6 +281,11 @@ STYLES = {
     "rich": {"water": "rich", "temperature": "warm"},
     "clean": {"water": "clean", "rates": "ordinary"},
     "long reaches": {"volume": "long", "rates": "top"},
+    "some volumes": {"volume": "some", "shape": "near"},
+    "some volumes in chains": {"volume": "some", "shape": "chain", "rates": "each", "sludges": "some", "ammonias": "some"},
+    "some volumes at rates of 0": {"volume": "some", "rates": "zero", "sludges": "some"},
+    "foul sources": {"shape": "star", "water": "foul", "rates": "no aeration", "volume": "long", "sludges": "none", "ammonias": "none"},
+    "foul sources at equal rates": {"shape": "star", "water": "foul", "rates": "equal", "volume": "long", "sludges": "none", "ammonias": "none"},
 }
 
 
@@ -685,11 +691,15 @@ def most_reaches(rng):
     return River(cards[:1] + [card._replace(dam=Dam(rng.randint(0, 1_000), 0)) for card in cards[1:]], river.factors or AS_GIVEN)
 
 
+def chain_of(n, first):
+    """A chain of n such reaches, of which only the first has inflow."""
+    return River([first] + [first._replace(outlet=reach + 1 if reach < n else 0, inflow=0, inflow_bod=0) for reach in range(2, n + 1)])
+
+
 def lowest_oxygen(rng):
     """Oxygen as low as it can be but for some units: all BOD that may enter is used up, and the bed of each of 128 reaches uses 5 mg/L."""
     inflow = rng.randint(1, 20_000)
-    first = Card(2, 35, 8, 0, 43_200 * inflow, inflow, MOST_BOD, 0, 0, sludge=Sludge(10))
-    return River([first] + [first._replace(outlet=reach + 1 if reach < 128 else 0, inflow=0, inflow_bod=0) for reach in range(2, 129)])
+    return chain_of(128, Card(2, 35, 8, 0, 43_200 * inflow, inflow, MOST_BOD, 0, 0, sludge=Sludge(10)))
 
 
 def lowest_by_ammonia(rng):
@@ -697,6 +707,32 @@ def lowest_by_ammonia(rng):
     first, *others = lowest_oxygen(rng).cards
     part = rng.randint(0, MOST_BOD)
     return River([first._replace(inflow_bod=MOST_BOD - part, ammonia=Ammonia(8, part, 0))] + [card._replace(ammonia=Ammonia(8, 0, 0)) for card in others])
+
+
+def largest_volumes(rng):
+    """128 reaches of the largest volume: the sum of volume × mean needs more than eight bytes where oxygen is counted from 2^31 units below zero."""
+    return chain_of(128, Card(2, rng.randint(0, 35), rng.randint(0, 9_000), rng.randint(0, 9_000), MOST_VOLUME, MOST_FLOW, rng.randint(0, 30_000),
+                              rng.randint(0, MOST_OXYGEN), 0))
+
+
+def lowest_means(rng):
+    """The same with all BOD that may enter and a bed of 5 mg/L at each reach: the sum needs more than eight bytes as it is."""
+    return chain_of(128, Card(2, 35, rng.randint(8_000, MOST_RATE), 0, MOST_VOLUME, MOST_FLOW, MOST_BOD, 0, 0, sludge=Sludge(43_200)))
+
+
+def mean_below_zero(rng):
+    """A chain whose mean is below zero, with a remainder mostly: much BOD decays, and no oxygen comes in."""
+    inflow = rng.randint(1_000, 30_000)
+    first = Card(2, rng.randint(0, 35), rng.randint(500, 5_000), 0, 0, inflow, rng.randint(200_000, MOST_BOD), 0, 0)
+    return River([card._replace(volume=rng.randint(1, 69 * inflow)) for card in chain_of(rng.randint(2, 6), first).cards])
+
+
+def one_volume(rng):
+    """A river in which one reach alone has any volume, so that its mean is the river's."""
+    river = accepted_river(rng, "zero volume", rng.randint(2, 12))
+    reach = rng.choice(reference.flows(river))
+    most = min(MOST_VOLUME, 345_600 * reach.Q // max(1, *reach.rates()), 432_000 * reach.Q // max(1, reach.sludge))
+    return replaced(river, reach.number, volume=rng.randint(1, most))
 
 
 def longest_file(rng):
@@ -945,6 +981,9 @@ def accepted_kinds():
     kinds |= {f"on check 10 {name}": bod_below_take(first, 0) for name, first in BELOW_A_TAKE.items()}
     kinds |= {"on check 11 rounded at each degree": rounded_each_degree(0)}
     kinds |= {"most reaches": most_reaches, "lowest oxygen": lowest_oxygen, "lowest oxygen by ammonia": lowest_by_ammonia}
+    kinds |= {"no volume in one reach": lambda rng: accepted_river(rng, "zero volume", 1),
+              "no volume in several reaches": lambda rng: accepted_river(rng, "zero volume", rng.randint(2, 12)), "volume in one reach": one_volume,
+              "largest volumes": largest_volumes, "lowest means": lowest_means, "mean below zero": mean_below_zero}
     return {name: lambda rng, make=make: reference.encode(make(rng)) for name, make in kinds.items()}
 
 

@@ -1,7 +1,8 @@
 #!/usr/bin/env python3
-"""The program's own arithmetic along a reach, in whole numbers, and the report that comes of it.
+"""The program's own arithmetic along a reach, in whole numbers, and the report and the means that come of it.
 
-    tests/recipe.py FILE     what the program prints for a river file
+    tests/recipe.py FILE            the report that is printed for a river file
+    tests/recipe.py --mean FILE     the means that are printed for it
 
 The paper leaves the last digits along a reach free within the promised distance; these are the digits that the program has. All else is the
 reference's. The reference takes nothing from here: its verdict on a report is that of the paper alone.
@@ -29,25 +30,50 @@ def exponent(rate, reach):
     return rate * reach.card.volume * ONE // (DAY_STEPS * reach.Q)
 
 
-def series(y, z):
-    """The sum of a step's series. The program stops at a term of 0, which leaves the sum as it is."""
-    lost, back, total = y, 0, y
+def terms(y, z):
+    """The terms of a step's series, each after its number. The program stops at a term of 0, after which all are 0."""
+    lost, back = y, 0
+    yield 1, lost
     for j in range(2, MOST_TERMS + 1):
         lost, back = product(lost, y) // j, product(lost + back, z) // j
-        total += (lost + back) * (-1) ** (j - 1)
-    return total
+        yield j, lost + back
+
+
+def series(y, z):
+    """The sum of a step's series."""
+    return sum(term * (-1) ** (j - 1) for j, term in terms(y, z))
+
+
+def mean_series(y, z):
+    """The sum of its mean over the step: each term is divided by one more than its number, rounded."""
+    return sum(term // (j + 1) * (-1) ** (j - 1) for j, term in terms(y, z))
+
+
+def step_of(reach, rate, summed):
+    """What of a demand with this rate is lost and used in a step, and what of the deficit is filled, by this sum of their series."""
+    y, z = exponent(rate, reach), exponent(reach.k2, reach)
+    return summed(y, 0), summed(y, z), summed(z, 0)
+
+
+def stepped(step, shares_before):
+    """What is left of a demand, what of it has turned to deficit and the share of the deficit kept, a step further."""
+    (lost, used, filled), (left, turned, kept) = step, shares_before
+    return left - product(left, lost), turned - product(turned, filled) + product(left, used), kept - product(kept, filled)
 
 
 def shares(reach, rate, start=ONE):
-    """For each instant what is left of a demand with this rate that starts with so many parts, what of it has turned to deficit, and the share of
-    the deficit kept."""
-    y, z = exponent(rate, reach), exponent(reach.k2, reach)
-    lost, used, filled = series(y, 0), series(y, z), series(z, 0)
-    left, turned, kept = start, 0, ONE
-    yield left, turned, kept
+    """The same for each instant, of a demand with this rate that starts with so many parts."""
+    step, at = step_of(reach, rate, series), (start, 0, ONE)
+    result = [at]
     for _ in range(INSTANTS):
-        left, turned, kept = left - product(left, lost), turned - product(turned, filled) + product(left, used), kept - product(kept, filled)
-        yield left, turned, kept
+        at = stepped(step, at)
+        result.append(at)
+    return result
+
+
+def mean_shares(reach, rate, instants):
+    """Their means: the averages of the instants before the foot, taken further by the mean step."""
+    return stepped(step_of(reach, rate, mean_series), [sum(each) // INSTANTS for each in zip(*instants[:INSTANTS])])
 
 
 def bed_numbers(reach):
@@ -65,44 +91,61 @@ def oxygen_with(reach, turned, kept, L, C):
     return C - product(turned, L) - product(ONE - kept, C - Cs)
 
 
-def oxygen_values(reach, steps, steps_n, L, C):
-    """Oxygen at each instant, by the shares of BOD and the parts of nitrogenous BOD."""
-    in_the_end, fall = bed_numbers(reach)
-    return [oxygen_with(reach, turned, kept, L, C) - turned_n // UNIT_PARTS - product(ONE - kept, in_the_end) - fall * m // INSTANTS
-            for m, ((_, turned, kept), (_, turned_n, _)) in enumerate(zip(steps, steps_n))]
+def oxygen_over(reach, of_bod, of_nitrogenous, m, L, C):
+    """Oxygen by these shares of BOD and deficit, these parts of nitrogenous BOD, and the loss to the bed at instant m."""
+    (_, turned, kept), (_, turned_n, _), (in_the_end, fall) = of_bod, of_nitrogenous, bed_numbers(reach)
+    return oxygen_with(reach, turned, kept, L, C) - turned_n // UNIT_PARTS - (product(ONE - kept, in_the_end) + fall * m // INSTANTS)
 
 
-def record_of(reach, L, C, Ln):
-    """The record of a reach with this BOD, oxygen and nitrogenous BOD at its head."""
-    bod, nitrogenous = reach.demands
-    steps, steps_n = list(shares(reach, bod.rate)), list(shares(reach, nitrogenous.rate, UNIT_PARTS * Ln))
-    values = oxygen_values(reach, steps, steps_n, L, C)
-    return Record(reach.depth, reach.Q, L, product(steps[-1][0], L), C, values.index(min(values)), min(values), values[-1], Ln, steps_n[-1][0] // UNIT_PARTS)
+def profile(reach, L, C, Ln):
+    """The record and the mean oxygen of a reach with this BOD, oxygen and nitrogenous BOD at its head."""
+    demands = [(reach.bod.rate, shares(reach, reach.bod.rate)), (reach.nitrogenous.rate, shares(reach, reach.nitrogenous.rate, UNIT_PARTS * Ln))]
+    steps, steps_n = (instants for _, instants in demands)
+    values = [oxygen_over(reach, *both, m, L, C) for m, both in enumerate(zip(steps, steps_n))]
+    mean = oxygen_over(reach, *(mean_shares(reach, *demand) for demand in demands), INSTANTS // 2, L, C)
+    return Record(reach.depth, reach.Q, L, product(steps[-1][0], L), C, values.index(min(values)), min(values), values[-1], Ln,
+                  steps_n[-1][0] // UNIT_PARTS), mean
+
+
+def profiles_of(reaches):
+    """The records of an accepted river, and its means."""
+    records, averages = [], []
+    for reach in reaches:
+        record, mean = profile(reach, *reference.head_over(reach, records))
+        records.append(record)
+        averages.append(mean)
+    return records, averages
 
 
 def records_of(reaches):
-    """The records of an accepted river."""
-    records = []
-    for reach in reaches:
-        records.append(record_of(reach, *reference.head_over(reach, records)))
-    return records
+    return profiles_of(reaches)[0]
+
+
+def means_of(reaches):
+    return profiles_of(reaches)[1]
 
 
 def report(file):
-    """What the program prints for a file."""
+    """The report that is printed for a file."""
     reaches = reference.answer(reference.accept, file)
-    if isinstance(reaches, Refused):
-        return reaches.line() + "\n"
-    return reference.report_text(reaches, records_of(reaches))
+    return reaches.line() + "\n" if isinstance(reaches, Refused) else reference.report_text(reaches, records_of(reaches))
+
+
+def means(file):
+    """The means that are printed for a file."""
+    reaches = reference.answer(reference.accept_mean, file)
+    return reaches.line() + "\n" if isinstance(reaches, Refused) else reference.means_text(reaches, means_of(reaches))
 
 
 def main():
-    if len(sys.argv) != 2 or sys.argv[1] in ("-h", "--help"):
+    words = sys.argv[1:]
+    printing = means if words[:1] == ["--mean"] else report
+    paths = words[printing is means:]
+    if len(paths) != 1 or paths[0].startswith("-"):
         print(__doc__.strip())
-        return 0 if sys.argv[1:] in (["-h"], ["--help"]) else 2
+        return 0 if words in (["-h"], ["--help"]) else 2
     try:
-        with open(sys.argv[1], "rb") as source:
-            print(report(source.read()), end="")
+        print(printing(reference.content(paths[0])), end="")
         return 0
     except OSError as problem:
         print(f"recipe.py: {problem.filename}: {problem.strerror}", file=sys.stderr)

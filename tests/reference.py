@@ -3,14 +3,17 @@
 
 It works with whole numbers and fractions only, so that its verdicts are exact.
 
-    reference.py check FILE [N ...] [--full] < PRINTED   the verdict on a printed report of FILE
-    reference.py expect FILE                             the refusal, or the exact figures, rounded down
-    reference.py show FILE                               the rate factors, if any, and the cards, or the refusal
-    reference.py gen SEED DIR COUNT                      generated files of every kind, with the answers in DIR/MANIFEST
+    reference.py check FILE [N ...] [--full] < PRINTED              the verdict on a printed report of FILE
+    reference.py check-mean FILE [N ...] [--report R] < PRINTED     the verdict on its printed means
+    reference.py expect FILE                                        the refusal, or the exact figures, rounded down
+    reference.py expect-mean FILE                                   the refusal, or the exact means, rounded down
+    reference.py show FILE                                          the rate factors, if any, and the cards, or the refusal
+    reference.py gen SEED DIR COUNT                                 generated files of every kind, with the answers in DIR/MANIFEST
 
 A check tries the series lengths N (40 and 41, where none is given). It decides each of the 1,025 instants by bounds, and
-works out those that the bounds leave open; --full works out every instant exactly. The exit status of a check is 0 for a right
-report and 1 for a wrong one; it is 2 for bad use.
+works out those that the bounds leave open; --full works out every instant exactly. Where nothing changes along a reach its mean
+is held to its head oxygen: to that of the printed report R or, without one, where it follows from the file alone. The exit status
+of a check is 0 for a right text and 1 for a wrong one; it is 2 for bad use.
 """
 
 import argparse
@@ -28,6 +31,7 @@ UNITS_WITH_AMMONIA = 200    # the same in a river whose file has ammonia, of zer
 STANDARD_PRESSURE = 760     # mm of mercury, that of a reach without the record
 STANDARD_TEMPERATURE = 20   # degrees C, at which rates are given where the file has rate factors
 MOST_RATE = 20_000          # thousandths per day, on a card and in force
+MEAN_BYTES = 4              # of each reach in the buffer of the call that gives the means
 
 
 # ---- The river file: the table of records
@@ -337,6 +341,21 @@ def accept(file):
     return flows(read(file))
 
 
+def total_volume(reaches):
+    return sum(reach.card.volume for reach in reaches)
+
+
+def accept_mean(file, room=None):
+    """The reaches of a file whose means are given, for a buffer of `room` bytes, or for one that is long enough."""
+    reaches = accept(file)
+    needed = MEAN_BYTES * len(reaches)
+    if room is not None and room < needed:
+        raise Refused(12, 0, f"the buffer has {room} bytes and the means {needed}")
+    if total_volume(reaches) == 0:
+        raise Refused(16, 0, "the river has no volume, and so no mean")
+    return reaches
+
+
 # ---- Head of a reach
 
 def saturation(T, pressure=STANDARD_PRESSURE):
@@ -525,6 +544,33 @@ def evaluated(coefficients, m):
     return total
 
 
+# ---- Mean oxygen
+
+def mean_of(coefficients):
+    """The mean over the travel time of a polynomial in u = m/1024: its integral from 0 to 1, term by term."""
+    return sum(Fraction(coefficient) / (j + 1) for j, coefficient in enumerate(coefficients))
+
+
+def mean_along(reach, N):
+    """The formula that takes BOD, oxygen and nitrogenous BOD at the head to the mean oxygen. For volume 0 every polynomial is the constant that it
+    has at the head, and the mean is the head value."""
+    S2 = terms(exponent(reach, reach.k2), N) + [Fraction(0)]
+    F1, Fn = (mean_of(demand_terms(reach, demand.rate, S2)) for demand in reach.demands)
+    Cs, kept, loss = reach.saturation, mean_of(S2), mean_of(bed_terms(reach, S2))
+    return lambda L, C, Ln: (Cs - F1 * L - Fn * Ln - kept * (Cs - C) - loss,)
+
+
+def exact_means(reaches, N):
+    """The exact mean oxygen of each reach, as a point."""
+    heads, _ = recurrence(reaches, N)
+    return [through(mean_along(reach, N), heads[reach.number]) for reach in reaches]
+
+
+def river_mean(reaches, means):
+    """Units and remainder of the mean of these means, weighted by volume."""
+    return divmod(sum(reach.card.volume * mean for reach, mean in zip(reaches, means)), total_volume(reaches))
+
+
 # ---- The printing program: a printed report
 
 # The nitrogenous figures are printed in files with ammonia alone, and are 0 in all others.
@@ -550,7 +596,7 @@ def line_form(reaches):
 
 
 class Malformed(Exception):
-    """A printed text that is no report."""
+    """A printed text that is neither a report nor means."""
 
 
 def printed_lines(printed):
@@ -580,7 +626,38 @@ def printed_records(lines, reaches):
     return records
 
 
-# ---- The verdict on a printed report
+# ---- The printing program: printed means
+
+MEAN_LINE = re.compile("([1-9][0-9]*) (0|-?[1-9][0-9]*)")
+RIVER_LINE = re.compile("river (0|-?[1-9][0-9]*) (0|[1-9][0-9]*)")
+
+
+def means_text(reaches, means):
+    """The printed text of these means and of the river's mean."""
+    units, remainder = river_mean(reaches, means)
+    return "".join(f"{reach} {mean}\n" for reach, mean in enumerate(means, 1)) + f"river {units} {remainder}\n"
+
+
+def printed_numbers(form, line, place):
+    """The two numbers of a line of this form."""
+    found = form.fullmatch(line)
+    if not found or len(line) > 100:
+        raise Malformed(f"{place} is no line of means: {line[:100]}")
+    return tuple(map(int, found.groups()))
+
+
+def printed_means(lines, reaches):
+    """The means of a printed text on these reaches, and the river's mean: units and remainder."""
+    if len(lines) != len(reaches) + 1:
+        raise Malformed(f"{len(lines)} lines are printed for the means of {len(reaches)} reaches and that of the river")
+    numbers = [printed_numbers(MEAN_LINE, line, f"line {place}") for place, line in enumerate(lines[:-1], 1)]
+    for reach, (number, _) in enumerate(numbers, 1):
+        if number != reach:
+            raise Malformed(f"line {reach} is that of reach {number}")
+    return [mean for _, mean in numbers], printed_numbers(RIVER_LINE, lines[-1], "the last line")
+
+
+# ---- The verdict on what was printed
 
 class Verdict:
     """What is due, what is wrong, and the largest error as a share of its allowance, in thousandths."""
@@ -588,29 +665,46 @@ class Verdict:
     def __init__(self, due):
         self.due, self.wrong, self.worst = due, [], 0
 
+    def note(self, reach, what, error, over, N):
+        """Notes an error of a reach, a whole number over another, and tells whether it is allowed."""
+        allowed = reach.allowance * over
+        self.worst = max(self.worst, 1_000 * error // allowed)
+        if error > allowed:
+            self.wrong.append(f"reach {reach.number}: {what} is off by {error // over} units, allowed are {reach.allowance} (N = {N})")
+        return error <= allowed
+
     def lines(self):
         return self.wrong + [f"{self.due}: {len(self.wrong)} wrong; largest error {self.worst // 1_000}.{self.worst % 1_000:03d} of its allowance"]
 
 
-def check(file, printed, series=SERIES, full=False):
-    """The verdict on what was printed for a file."""
-    reaches = answer(accept, file)
+def verdict_on(reaches, printed, judge):
+    """The verdict on a printed text, due for these reaches or a refusal in their place. `judge` is given the verdict and the lines of a text that is
+    no refusal, where none is due."""
     refused = isinstance(reaches, Refused)
     verdict = Verdict(reaches.line() if refused else "accepted")
     try:
         lines = printed_lines(printed)
-        if refused or lines[0].startswith("refused"):
-            if lines != [verdict.due]:
-                raise Malformed(f"'{lines[0][:100]}' is printed, due is '{verdict.due}'")
-        else:
-            records = printed_records(lines, reaches)
-            for reach in reaches:
-                verdict.wrong += [f"reach {reach.number}: {text}" for text in determined(reach, records) + tied(reach, records[reach.number - 1])]
-            for N in series:
-                distances(reaches, records, N, full, verdict)
+        if not refused and not lines[0].startswith("refused"):
+            judge(verdict, lines)
+        elif lines != [verdict.due]:
+            raise Malformed(f"'{lines[0][:100]}' is printed, due is '{verdict.due}'")
     except Malformed as problem:
         verdict.wrong.append(str(problem))
     return verdict
+
+
+def check(file, printed, series=SERIES, full=False):
+    """The verdict on the report that was printed for a file."""
+    reaches = answer(accept, file)
+
+    def judge(verdict, lines):
+        records = printed_records(lines, reaches)
+        for reach in reaches:
+            verdict.wrong += [f"reach {reach.number}: {text}" for text in determined(reach, records) + tied(reach, records[reach.number - 1])]
+        for N in series:
+            distances(reaches, records, N, full, verdict)
+
+    return verdict_on(reaches, printed, judge)
 
 
 def head_over(reach, records):
@@ -651,11 +745,7 @@ def distances(reaches, records, N, full, verdict):
     heads, feet = recurrence(reaches, N)
     for reach, record in zip(reaches, records):
         def judge(what, error, over):
-            """Notes an error, a whole number over another."""
-            verdict.worst = max(verdict.worst, 1_000 * error // (reach.allowance * over))
-            if error > reach.allowance * over:
-                verdict.wrong.append(f"reach {reach.number}: {what} is off by {error // over} units, allowed are {reach.allowance} (N = {N})")
-            return error <= reach.allowance * over
+            return verdict.note(reach, what, error, over, N)
 
         start, end = heads[reach.number], feet[reach.number]
         for place, point, reported in (("head", start, (record.head_bod, record.head_oxygen, record.head_nitrogenous)),
@@ -676,6 +766,52 @@ def lower_instants(reach, record, start, N, full):
     oxygen, off = oxygen_bounds(reach, start, N)
     limit = (record.critical - reach.allowance) << BITS
     return sorted((m for m in range(INSTANTS + 1) if full or oxygen[m] - off < limit), key=oxygen.__getitem__)
+
+
+# ---- The verdict on printed means
+
+def check_means(file, printed, series=SERIES, report=None):
+    """The verdict on the means that were printed for a file, perhaps beside its printed report."""
+    reaches = answer(accept_mean, file)
+
+    def judge(verdict, lines):
+        means, river = printed_means(lines, reaches)
+        verdict.wrong += constant(reaches, means, head_oxygen(reaches, report)) + weighted(reaches, means, river)
+        for N in series:
+            for reach, mean, point in zip(reaches, means, exact_means(reaches, N)):
+                verdict.note(reach, "mean oxygen", abs(mean * point.over - point.figures[0]), point.over, N)
+
+    return verdict_on(reaches, printed, judge)
+
+
+def head_oxygen(reaches, report=None):
+    """Head oxygen by reach number, from a printed report; without one only where it follows from the file, since nothing changes in the reaches above."""
+    if report is not None:
+        try:
+            records = printed_records(printed_lines(report), reaches)
+        except Malformed as problem:
+            raise Malformed(f"the report beside the means: {problem}") from None
+        return {reach: record.head_oxygen for reach, record in enumerate(records, 1)}
+    found, still = {}, {}
+    for reach in reaches:
+        if all(feeder.number - 1 in still for feeder in reach.feeders):
+            L, C, Ln = head_over(reach, still)
+            found[reach.number] = C
+            if reach.keeps_oxygen():
+                still[reach.number - 1] = Record(reach.depth, reach.Q, L, L, C, 0, C, C, Ln, Ln)
+    return found
+
+
+def constant(reaches, means, heads):
+    """What is wrong with the means of reaches along which oxygen does not change, where the head oxygen is given."""
+    return [f"reach {reach.number}: mean oxygen is {mean}, though oxygen is {heads[reach.number]} all along" for reach, mean in zip(reaches, means)
+            if reach.keeps_oxygen() and heads.get(reach.number, mean) != mean]
+
+
+def weighted(reaches, means, river):
+    """What is wrong with the river's mean, which follows exactly from the means of the reaches."""
+    due = river_mean(reaches, means)
+    return [] if river == due else ["the river's mean is {} units and {}, due are {} and {}".format(*river, *due)]
 
 
 # ---- The commands
@@ -699,6 +835,16 @@ def expectation(file, N=40):
     return lines
 
 
+def mean_expectation(file, N=40):
+    """The lines of `expect-mean`."""
+    reaches = answer(accept_mean, file)
+    if isinstance(reaches, Refused):
+        return [f"{reaches.line()}  ({reaches.why})"]
+    means = [point.figures[0] // point.over for point in exact_means(reaches, N)]
+    lines = [f"{reach.number} {mean} {reach.card.volume} {reach.allowance}" for reach, mean in zip(reaches, means)]
+    return ["# reach mean-oxygen volume allowance"] + lines + ["river {} {}".format(*river_mean(reaches, means))]
+
+
 def record_text(kind, values):
     """The mark of a record and its fields by name."""
     return f"{kind.mark.decode()} " + ", ".join(f"{name} {number}" for name, number in values._asdict().items())
@@ -719,19 +865,36 @@ def arguments():
     parser = argparse.ArgumentParser(description=__doc__, formatter_class=argparse.RawDescriptionHelpFormatter)
     commands = parser.add_subparsers(dest="command", required=True, metavar="COMMAND")
     checking = commands.add_parser("check", help="the verdict on a printed report, which is read on standard input")
-    checking.add_argument("file")
-    checking.add_argument("series", nargs="*", type=int, metavar="N", help="series lengths, 40 and 41 if none is given")
+    checking_mean = commands.add_parser("check-mean", help="the same on printed means")
+    for command in (checking, checking_mean):
+        command.add_argument("file")
+        command.add_argument("series", nargs="*", type=int, metavar="N", help="series lengths, 40 and 41 if none is given")
     checking.add_argument("--full", action="store_true", help="work out every instant exactly")
-    for name, text in (("expect", "the refusal, or the exact figures"), ("show", "the rate factors and cards, or the refusal")):
+    checking_mean.add_argument("--report", help="the printed report, which has the oxygen at the heads")
+    for name, text in (("expect", "the refusal, or the exact figures"), ("expect-mean", "the refusal, or the exact means"),
+                       ("show", "the rate factors and cards, or the refusal")):
         commands.add_parser(name, help=text).add_argument("file")
     generating = commands.add_parser("gen", help="generated files of every kind")
     generating.add_argument("seed", type=int)
     generating.add_argument("directory")
     generating.add_argument("count", type=int)
     given = parser.parse_args()
-    if given.command == "check" and any(N < 40 for N in given.series):
+    if given.command.startswith("check") and any(N < 40 for N in given.series):
         parser.error("a series length is 40 or more")
     return given
+
+
+def content(path):
+    with open(path, "rb") as source:
+        return source.read()
+
+
+def given_verdict(given, file):
+    """The verdict of `check` and `check-mean` on standard input."""
+    printed, series = sys.stdin.buffer.read(), given.series or SERIES
+    if given.command == "check":
+        return check(file, printed, series, given.full)
+    return check_means(file, printed, series, None if given.report is None else content(given.report))
 
 
 def main():
@@ -741,13 +904,12 @@ def main():
             import generate
             generate.write_files(given.seed, given.directory, given.count)
             return 0
-        with open(given.file, "rb") as source:
-            file = source.read()
-        if given.command == "check":
-            verdict = check(file, sys.stdin.buffer.read(), given.series or SERIES, given.full)
+        file = content(given.file)
+        if given.command.startswith("check"):
+            verdict = given_verdict(given, file)
             print("\n".join(verdict.lines()))
             return 1 if verdict.wrong else 0
-        print("\n".join(expectation(file) if given.command == "expect" else shown(file)))
+        print("\n".join({"expect": expectation, "expect-mean": mean_expectation, "show": shown}[given.command](file)))
         return 0
     except OSError as problem:
         print(f"reference.py: {problem.filename or given.command}: {problem.strerror}", file=sys.stderr)

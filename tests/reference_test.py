@@ -1,8 +1,8 @@
 #!/usr/bin/env python3
 """Tests of the reference itself: tests/reference_test.py
 
-The table of records and the bench values of docs/RIVER-FILE.md; the bounds on oxygen against exact figures; a right report is found right, and
-many reports with one thing wrong are found wrong; the program's arithmetic (recipe.py) gives the stored reports of the examples and keeps the promised
+The table of records and the bench values of docs/RIVER-FILE.md; the bounds on oxygen against exact figures; right reports and means are found right, and
+many with one thing wrong are found wrong; the program's arithmetic (recipe.py) gives the stored reports and means of the examples and keeps the promised
 distance; the generated files hold every kind. It needs no program. The exit status is 1 where something fails.
 """
 
@@ -31,8 +31,18 @@ def answer_line(file):
     return due.line() if isinstance(due, Refused) else "accepted"
 
 
+def mean_line(file, room=None):
+    """The same of the call that gives the means, with a buffer of so many bytes or a long one."""
+    due = reference.answer(reference.accept_mean, file, room)
+    return due.line() if isinstance(due, Refused) else "accepted"
+
+
 def is_right(file, printed, series=SERIES):
     return not reference.check(file, printed, series).wrong
+
+
+def means_are_right(file, printed, report=None):
+    return not reference.check_means(file, printed, report=report).wrong
 
 
 # ---- The paper
@@ -408,6 +418,73 @@ def factor_records():
     return "records of rate factors"
 
 
+def worked_volumes(first, second, **fields):
+    """The file of the worked example with these volumes, and some fields of its second reach changed."""
+    return reference.encode(River([WORKED[0]._replace(volume=first), WORKED[1]._replace(volume=second, **fields)]))
+
+
+# One reach of a day at equal rates, with 10 mg/L of BOD and no deficit at its head.
+EQUAL_RATES = Card(0, 0, 1_000, 1_000, 864_000, 10_000, 10_000, 14_652, 0)
+
+
+def mean_bench():
+    """The bench values of the paper on mean oxygen: the exact means, rounded to the nearest unit, and those of the recipe."""
+    two = b"1 8000000\n2 6500000\n"
+    for what, file, lines in (
+            ("the worked example", worked_volumes(1_000, 1_000), two + b"river 7250000 0\n"),
+            ("volumes of 1,000 and 3,000", worked_volumes(1_000, 3_000), two + b"river 6875000 0\n"),
+            ("volumes of 1,000 and 2,001", worked_volumes(1_000, 2_001), two + b"river 6999833 1167\n"),
+            ("no volume in reach 1", worked_volumes(0, 1_000), two + b"river 6500000 0\n"),
+            ("a bed of 34,560 in reach 2", worked_volumes(1_000, 1_000, sludge=Sludge(34_560)), b"1 8000000\n2 6450000\nriver 7225000 0\n"),
+            ("no volume in either", worked_volumes(0, 0), b"refused 16 reach 0\n")):
+        expect(what, (means_are_right(file, lines), recipe.means(file).encode()), (True, lines))
+    for what, card, due in (
+            ("equal rates", EQUAL_RATES, 12_009_589), ("nitrogenous BOD at equal rates", EQUAL_RATES._replace(k1=0, inflow_bod=0, ammonia=Ammonia(1_000, 10_000, 0)), 12_009_589),
+            ("decay alone", EQUAL_RATES._replace(k2=0), 10_973_206), ("a bed with aeration", EQUAL_RATES._replace(inflow_bod=0, sludge=Sludge(1_000)), 14_284_121),
+            ("a bed without", EQUAL_RATES._replace(k2=0, inflow_bod=0, sludge=Sludge(1_000)), 14_152_000)):
+        reaches = reference.flows(River([card]))
+        point, = reference.exact_means(reaches, 40)
+        nearest = (2 * point.figures[0] + point.over) // (2 * point.over)
+        expect(f"the mean of {what}", (nearest, recipe.means_of(reaches)), (due, [due]))
+    return "bench values of means"
+
+
+def mean_answers():
+    """Who gets which refusal of the call: reporting's first, then 12, then 16."""
+    none, some = worked_volumes(0, 0), worked_volumes(0, 1)
+    for what, file, room, due in (
+            ("eight bytes", some, 8, "accepted"), ("a byte too few", some, 7, "refused 12 reach 0"), ("no bytes", some, 0, "refused 12 reach 0"),
+            ("no volume", none, 8, "refused 16 reach 0"), ("12 and 16", none, 7, "refused 12 reach 0"), ("no volume in one reach", one_warm(20, AS_GIVEN), 4, "refused 16 reach 0"),
+            ("reading before 12 and 16", none + b"\0", 0, "refused 6 reach 0"), ("the flow check before 12 and 16", worked_volumes(0, 0, take=Take(4_000)), 0, "refused 13 reach 2"),
+            ("11 where another has no volume", worked_volumes(0, 10 ** 9, k1=20_000), 8, "refused 11 reach 2")):
+        expect(what, mean_line(file, room), due)
+    return "refusals of means"
+
+
+def mean_formulas():
+    """The means of S and F, which are sums of their terms, against formulas that others may use."""
+    def M(x, N):
+        return sum((-x) ** j / math.factorial(j + 1) for j in range(N))
+
+    for x in (Fraction(355, 113), Fraction(4), Fraction(1, 7_919)):
+        expect("the mean of S", reference.mean_of(reference.terms(x, 40)), M(x, 40))
+        expect("the mean of S from the next S", reference.mean_of(reference.terms(x, 40)) * x, 1 - reference.S(x, 41))
+    for k1, k2, sludge, kn in ((301, 700, 50, 450), (700, 700, 0, 0), (301, 0, 50, 0), (0, 700, 9, 700), (0, 0, 50, 3)):
+        card = Card(0, 21, k1, k2, 90_000, 1_234, 5_678, 4_321, 99, sludge=Sludge(sludge), ammonia=Ammonia(kn, 0, 0))
+        reach = Reach(1, card, [])
+        x2, L, C, Ln, Cs = reference.exponent(reach, k2), 11, -13, 17, reach.saturation
+
+        def share(k):
+            x = reference.exponent(reach, k)
+            return M(x, 41) - reference.S(x, 41) if k == k2 else Fraction(k, k2 - k) * (M(x, 40) - M(x2, 40))
+
+        loss = Fraction(1_000_000 * sludge, k2) * (1 - M(x2, 40)) if k2 else Fraction(1_000_000 * sludge * 90_000, 2 * 86_400 * 1_234)
+        due = Cs - share(k1) * L - share(kn) * Ln - M(x2, 40) * (Cs - C) - loss
+        expect(f"the mean at rates {k1}, {kn} and {k2} over a bed of {sludge}", reference.mean_along(reach, 40)(L, C, Ln), (due,))
+        expect("the head value for volume 0", reference.mean_along(Reach(1, card._replace(volume=0), []), 40)(L, C, Ln), (C,))
+    return "means of the formulas"
+
+
 def allowances():
     """200 units for each step of depth in a river with ammonia, be it of zeros; else 150 in one with a bed, be it of 0; and 100 in any other."""
     zeros, some = Ammonia(0, 0, 0), Ammonia(1, 2, 3)
@@ -471,14 +548,19 @@ def exact_values():
 
 # ---- Right and wrong reports
 
+def right_values(reach, start):
+    """Oxygen at each instant without any error but rounding, for these figures at the head."""
+    values, _ = reference.oxygen_bounds(reach, Point(1, start), 60)
+    return [start[1]] + [start[1] if reach.keeps_oxygen() else value >> BITS for value in values[1:]]
+
+
 def right_report(reaches):
     """A report without any error but rounding, for these reaches."""
     records = []
     for reach in reaches:
         bod, oxygen, nitrogenous = start = reference.head_over(reach, records)
         (S1, _, _), (Sn, _, _) = (reference.demand_factors(reach, demand.rate, INSTANTS, 60) for demand in reach.demands)
-        values, _ = reference.oxygen_bounds(reach, Point(1, start), 60)
-        values = [oxygen] + [oxygen if reach.keeps_oxygen() else value >> BITS for value in values[1:]]
+        values = right_values(reach, start)
         records.append(Record(reach.depth, reach.Q, bod, math.floor(bod * S1), oxygen, values.index(min(values)), min(values), values[-1],
                               nitrogenous, math.floor(nitrogenous * Sn)))
     return records
@@ -565,6 +647,113 @@ def verdicts():
     return f"{found} wrong reports found"
 
 
+# ---- Right and wrong means
+
+def right_means(reaches, records):
+    """Means without any error but rounding, over the heads of a report."""
+    points = [reference.through(reference.mean_along(reach, 60), Point(1, reference.head_over(reach, records))) for reach in reaches]
+    return [point.figures[0] // point.over for point in points]
+
+
+def means_and_river(means, units, remainder):
+    """Printed means with this mean of the river, right or wrong."""
+    return ("".join(f"{reach} {mean}\n" for reach, mean in enumerate(means, 1)) + f"river {units} {remainder}\n").encode()
+
+
+def means_text(reaches, means):
+    return reference.means_text(reaches, means).encode()
+
+
+def towards_zero(total, volume):
+    """A quotient that is not rounded down below zero, and what is left over it."""
+    size, left = divmod(abs(total), volume)
+    return (-size if total < 0 else size), left
+
+
+def wrong_rivers(reaches, means):
+    """Printed means with another mean of the river than follows from them."""
+    (units, remainder), volume, count = reference.river_mean(reaches, means), reference.total_volume(reaches), len(means)
+    others = [("units", (units + 1, remainder)), ("a remainder", (units, remainder + 1)), ("a remainder of the total volume", (units - 1, remainder + volume)),
+              ("a remainder below zero", (units + 1, remainder - volume)), ("the unweighted mean", (sum(means) // count, sum(means) % count)),
+              ("a mean rounded towards zero", towards_zero(units * volume + remainder, volume))]
+    return [(what, means_and_river(means, *river)) for what, river in others if river != (units, remainder)]
+
+
+def wrong_means(rng, reaches, means):
+    """Printed means with one thing wrong, each with what that is."""
+    reach = rng.choice(reaches)
+    far = 2 * reach.allowance + 50
+
+    def moved(by):
+        return means_text(reaches, [mean + by * (number == reach.number) for number, mean in enumerate(means, 1)])
+
+    found = wrong_rivers(reaches, means) + [("a mean too high", moved(far)), ("a mean too low", moved(-far))]
+    return found + ([("a mean that moves", moved(1))] if reach.keeps_oxygen() else [])
+
+
+def malformed_means(printed):
+    """Texts that are no means."""
+    lines = printed.splitlines(keepends=True)
+    return [b"", b"\n", printed[:-1], printed + b"\n", b"".join(lines[:-1]), lines[0] + printed, b" " + printed, b"0" + printed, printed.replace(b" ", b"  ", 1),
+            printed.replace(b"\n", b" \n", 1), printed.replace(b"\n", b" 0\n", 1), printed.replace(b"\n", b"\r\n"), printed.replace(b"river ", b"river +"),
+            printed.replace(b"river", b"River"), printed.replace(b"1", b"\xc2\xb9", 1), b"refused 16 reach 0\n", b"refused 12 reach 0\n", b"accepted\n"]
+
+
+def mean_verdicts():
+    """Right means are found right and wrong ones wrong, for rivers of every style that have volume; means are wrong for the others."""
+    rng, found = random.Random(7), 0
+    for style, river, reaches in drawn_rivers(rng, len(generate.STYLES)):
+        file, records = reference.encode(river), right_report(reaches)
+        report, means = text(reaches, records), right_means(reaches, records)
+        if not reference.total_volume(reaches):
+            wrong = [(str(river), means_and_river(means, *river)) for river in ((0, 0), (means[-1], 0), (sum(means) // len(means), 0))]
+            expect(f"{style}: 16", means_are_right(file, b"refused 16 reach 0\n", report), True)
+        else:
+            wrong = wrong_means(rng, reaches, means) + [(other[:60], other) for other in malformed_means(means_text(reaches, means))]
+            expect(f"{style}: right means", reference.check_means(file, means_text(reaches, means), report=report).wrong, [])
+            expect(f"{style}: right means without the report", means_are_right(file, means_text(reaches, means)), True)
+        for what, other in wrong:
+            expect(f"{style}: {what} is found", means_are_right(file, other, report), False)
+            found += 1
+    return f"{found} wrong means found"
+
+
+def means_by_other_rules():
+    """Means that a program with one rule wrong would print are found, each at a river where the rule shows."""
+    long = Card(0, 20, 20_000, 0, 172_800, 10_000, 1_000_000, 9_000, 0)
+    for what, card, rule in (
+            ("the mean of the 1,025 values", EQUAL_RATES, lambda values: sum(values) // len(values)),
+            ("the mean of head and foot", EQUAL_RATES, lambda values: (values[0] + values[-1]) // 2), ("the value half way", EQUAL_RATES, lambda values: values[512]),
+            ("a trapezoid", long, lambda values: (sum(values[:-1]) + sum(values[1:])) // (2 * INSTANTS)), ("no oxygen below zero", long, lambda values: 0)):
+        reaches = reference.flows(River([card]))
+        values, file = right_values(reaches[0], reference.head_over(reaches[0], [])), reference.encode(River([card]))
+        expect(f"{what} is found", means_are_right(file, means_text(reaches, [rule(values)])), False)
+        expect(f"{what} is not due", means_are_right(file, means_text(reaches, right_means(reaches, []))), True)
+    still = reference.flows(River([EQUAL_RATES._replace(volume=0, inflow_oxygen=9_000, outlet=2), WORKED[1]._replace(volume=5)]))
+    file, means = reference.encode(River([reach.card for reach in still])), right_means(still, right_report(still))
+    for what, other in (("0 in a reach without volume", 0), ("its saturation", 14_652_000), ("a unit more", means[0] + 1)):
+        expect(f"{what} is found", means_are_right(file, means_text(still, [other, means[1]])), False)
+    foul = River([Card(2, 20, 1_000, 0, 700_000, 10_000, 40_000, 0, 0), Card(0, 20, 1_000, 0, 300_001, 0, 0, 0, 0)])
+    reaches = reference.flows(foul)
+    means = right_means(reaches, right_report(reaches))
+    (units, remainder), volume = reference.river_mean(reaches, means), reference.total_volume(reaches)
+    for what, river, verdict in (("rounded down", (units, remainder), True), ("rounded towards zero", towards_zero(units * volume + remainder, volume), False),
+                                 ("not weighted", (sum(means) // 2, sum(means) % 2), False), ("weighted by flow", divmod(sum(means) * 10_000, 20_000), False)):
+        expect(f"a mean below zero that is {what}", means_are_right(reference.encode(foul), means_and_river(means, *river)), verdict)
+    return "means by other rules"
+
+
+def mean_limits():
+    """A mean that is off by the whole allowance passes, and one unit more does not: the bed takes equal parts, so that the exact mean is whole."""
+    file = worked_volumes(1_000, 1_000, sludge=Sludge(34_560))
+    reaches = reference.accept(file)
+    for off, verdict in ((300, True), (301, False), (-300, True), (-301, False)):
+        expect(f"a mean that is off by {off} units at depth 2", means_are_right(file, means_text(reaches, [8_000_000, 6_450_000 + off])), verdict)
+    expect("head oxygen that follows from the file", reference.head_oxygen(reference.flows(River(WORKED))), {1: 8_000_000, 2: 6_500_000})
+    expect("and where a bed lies above", reference.head_oxygen(reference.flows(River([WORKED[0]._replace(sludge=Sludge(9)), WORKED[1]]))), {1: 8_000_000})
+    return "means on the allowance"
+
+
 def exact_limits():
     """An error of the whole allowance passes and one unit more does not: both rates 0, so that the exact figures are whole."""
     file = reference.encode(River(WORKED))
@@ -604,22 +793,24 @@ def same_at_both_speeds():
 # ---- The program's arithmetic
 
 def recipe_of_examples():
-    """The recipe gives the stored report of each example, to the byte."""
-    paths = sorted(glob.glob(os.path.join(ROOT, "examples", "*.river")) + glob.glob(os.path.join(ROOT, "examples", "refused", "*.river")))
-    for path in paths:
-        with open(path, "rb") as file, open(path[:-5] + "report", encoding="ascii") as stored:
-            expect(path, recipe.report(file.read()), stored.read())
-    return f"recipe of {len(paths)} examples"
+    """The recipe gives the stored report and the stored means of each example, to the byte; a refused river has no means, by the same refusal."""
+    accepted, refused = (sorted(glob.glob(os.path.join(ROOT, "examples", *folder, "*.river"))) for folder in ((), ("refused",)))
+    for path in accepted + refused:
+        file, stored = reference.content(path), reference.content(path[:-5] + "report").decode()
+        expect(path, recipe.report(file), stored)
+        expect(f"means of {path}", recipe.means(file), stored if path in refused else reference.content(path[:-5] + "mean").decode())
+    return f"recipe of {len(accepted + refused)} examples"
 
 
 def recipe_of_styles():
-    """The recipe's reports are found right, for rivers of every style."""
-    rng, worst = random.Random(6), 0
+    """The recipe's reports and means are found right, for rivers of every style."""
+    rng, worst = random.Random(6), [0, 0]
     for style, river, reaches in drawn_rivers(rng, len(generate.STYLES)):
-        verdict = reference.check(reference.encode(river), text(reaches, recipe.records_of(reaches)))
-        expect(f"{style}: the recipe", verdict.wrong, [])
-        worst = max(worst, verdict.worst)
-    return f"recipe within {worst // 1_000}.{worst % 1_000:03d} of its allowance"
+        file, report = reference.encode(river), text(reaches, recipe.records_of(reaches))
+        verdicts = reference.check(file, report), reference.check_means(file, recipe.means(file).encode(), report=report)
+        expect(f"{style}: the recipe", [verdict.wrong for verdict in verdicts], [[], []])
+        worst = [max(most, verdict.worst) for most, verdict in zip(worst, verdicts)]
+    return "recipe within {} of its allowance, its means within {}".format(*(f"{most // 1_000}.{most % 1_000:03d}" for most in worst))
 
 
 # ---- Generated files
@@ -637,9 +828,27 @@ def every_kind():
     return f"{len(names)} kinds of generated files"
 
 
+def kinds_for_means():
+    """Kinds of generated files that means need: no volume, in one reach and in several, some reaches without it, sums of more than eight bytes, below zero."""
+    rng, kinds = random.Random(8), generate.accepted_kinds()
+    drawn = {name: reference.accept(kinds[name](rng)) for name in (
+        "no volume in one reach", "no volume in several reaches", "volume in one reach", "largest volumes", "lowest means", "mean below zero")}
+    volumes = {name: sorted(reach.card.volume for reach in reaches) for name, reaches in drawn.items()}
+    expect("no volume in one reach", volumes["no volume in one reach"], [0])
+    expect("no volume in several", (len(volumes["no volume in several reaches"]) > 1, sum(volumes["no volume in several reaches"])), (True, 0))
+    expect("volume in one reach", (volumes["volume in one reach"][-1] > 0, sum(volumes["volume in one reach"][:-1])), (True, 0))
+    expect("largest volumes", {*volumes["largest volumes"], *volumes["lowest means"]}, {generate.MOST_VOLUME})
+    means = recipe.means_of(drawn["lowest means"])
+    expect("a sum of more than eight bytes", sum(means) * generate.MOST_VOLUME < -2 ** 63, True)
+    units, remainder = reference.river_mean(drawn["mean below zero"], recipe.means_of(drawn["mean below zero"]))
+    expect("a mean below zero with a remainder", (units < 0, remainder > 0), (True, True))
+    return f"{len(drawn)} kinds for means"
+
+
 TESTS = (paper_agrees, bench_values, takes, saturations, pressures, pressure_records, beds, bed_records, ammonia, nitrification,
-         ammonia_records, rates_in_force, factors, corrected_reports, factor_records, allowances, exact_values, bounds_hold, exact_limits,
-         verdicts, same_at_both_speeds, recipe_of_examples, recipe_of_styles, every_kind)
+         ammonia_records, rates_in_force, factors, corrected_reports, factor_records, mean_bench, mean_answers, mean_formulas, allowances, exact_values,
+         bounds_hold, exact_limits, verdicts, same_at_both_speeds, mean_verdicts, means_by_other_rules, mean_limits, recipe_of_examples, recipe_of_styles,
+         every_kind, kinds_for_means)
 
 
 if __name__ == "__main__":

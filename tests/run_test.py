@@ -1,7 +1,7 @@
 #!/usr/bin/env python3
 """Tests of ./run and of its pictures: tests/run_test.py
 
-Wrong uses get their message and status; reports, tables, collections and pictures of the examples come out, from any folder, through a link and
+Wrong uses get their message and status; reports, means, tables, collections and pictures of the examples come out, from any folder, through a link and
 from a pipe. ./run builds what is missing. The exit status is 1 where something fails.
 """
 
@@ -12,6 +12,8 @@ import sys
 import tempfile
 import xml.etree.ElementTree
 
+import reference
+from reference import Card, River, Sludge
 from testing import expect, run_tests
 
 ROOT = os.path.dirname(os.path.dirname(os.path.realpath(__file__)))
@@ -54,6 +56,8 @@ def wrong_uses():
             ((), ("no file given", "--help")), (("none.river",), ("none.river", "no such file")), (("",), ("no such file",)), (("examples",), ("examples", "folder", "--collection")),
             (("--tables", TOWN), ("unknown option --tables", "--help")), ((TOWN, TOWN), ("one file at a time", "--table")), (("--table",), ("no file given",)),
             (("--table", TOWN, "none.river"), ("none.river", "no such file")), (("--table", "--collection", "examples"), ("--table and --collection",)),
+            (("--mean",), ("no file given",)), (("--mean", "none.river"), ("none.river", "no such file")), (("--mean", "examples"), ("examples", "folder")),
+            (("--mean", TOWN, TOWN), ("--mean takes one", "2 are given")), (("--mean", "--table", TOWN), ("--mean and --table",)), (("--mean", "--limit", "5.0", TOWN), ("--limit goes with",)),
             (("--limit", "5.0", TOWN), ("--limit goes with",)), (("--table", "--limit"), ("--limit needs",)), (("--table", "--limit", "5,0", TOWN), ("--limit takes", "5,0")),
             (("--collection",), ("no folder given",)), (("--collection", "none"), ("none", "no such folder")), (("--collection", TOWN), (TOWN, "not a folder")),
             (("--collection", "examples", "docs"), ("--collection takes one folder", "2 are given")), (("--picture", "x.svg", TOWN, TOWN), ("--picture takes", "2 files are given")),
@@ -114,6 +118,48 @@ def reports():
     return f"{len(ACCEPTED)} reports"
 
 
+def mean_bench():
+    """The bench values of the paper on mean oxygen: what they are, the river and the lines that are due."""
+    first, second = reference.read(contents(os.path.join(EXAMPLES, "two.river"))).cards
+    for volumes, line in (((1_000, 3_000), "river 6875000 0"), ((1_000, 2_001), "river 6999833 1167"), ((0, 1_000), "river 6500000 0")):
+        cards = [card._replace(volume=volume) for card, volume in zip((first, second), volumes)]
+        yield "volumes of {} and {}".format(*volumes), River(cards), f"1 8000000\n2 6500000\n{line}\n"
+    yield "a bed in reach 2", River([first, second._replace(sludge=Sludge(34_560))]), "1 8000000\n2 6450000\nriver 7225000 0\n"
+    equal = Card(0, 0, 1_000, 1_000, 864_000, 10_000, 10_000, 14_652, 0)
+    bed = equal._replace(inflow_bod=0, sludge=Sludge(1_000))
+    for what, card, mean in (("equal rates", equal, 12009589), ("decay alone", equal._replace(k2=0), 10973206), ("a bed with aeration", bed, 14284121),
+                             ("a bed without", bed._replace(k2=0), 14152000)):
+        yield what, River([card]), f"1 {mean}\nriver {mean} 0\n"
+
+
+def means():
+    """The means of the examples and of the paper's bench values: a line for each reach and one for the river; refusals are those of the report, and 16 for
+    a river without volume."""
+    for path in ACCEPTED:
+        status, said, complaint = run("--mean", path)
+        due = contents(path[:-5] + "mean")
+        refused = due.startswith(b"refused")
+        expect(f"means of {path}", (status, said, complaint != ""), (int(refused), due, refused))
+    program = os.path.join(ROOT, "crates", "print_mean")
+    due = contents(os.path.join(program, "stdout"))
+    expect("the program's own river", run("--mean", os.path.join(program, "stdin")), (0, due, ""))
+    expect("means from a pipe", run("--mean", "/dev/stdin", given=contents(os.path.join(program, "stdin"))), (0, due, ""))
+    two = contents(os.path.join(EXAMPLES, "two.river"))
+    expect("means of two reaches", run("two.river", "--mean", folder=EXAMPLES), (0, b"1 8000000\n2 6500000\nriver 7250000 0\n", ""))
+    for path in glob.glob(os.path.join(EXAMPLES, "refused", "*.river")):
+        expect(f"means of {path}", run("--mean", path), run(path))
+    with tempfile.TemporaryDirectory() as folder:
+        path = stored(os.path.join(folder, "no volume.river"), two[:12] + bytes(4) + two[16:38] + bytes(4) + two[42:])
+        expect("a report without volume", run(path)[0], 0)
+        answer = run("--mean", path)
+        says("means without volume", answer, 1, "no volume.river", "no volume, and so no mean")
+        expect("means without volume, printed", answer[1], b"refused 16 reach 0\n")
+        for what, river, due in mean_bench():
+            path = stored(os.path.join(folder, "bench.river"), reference.encode(river))
+            expect(f"means of {what}", run("--mean", path), (0, due.encode(), ""))
+    return f"{len(ACCEPTED)} rivers' means"
+
+
 def tables():
     """A table for each river, and a line for each river of a folder."""
     status, said, complaint = run("--table", "--limit", "5.0", *ACCEPTED)
@@ -168,7 +214,7 @@ def pictures():
     return f"{2 * len(ACCEPTED) + 12} pictures"
 
 
-TESTS = (wrong_uses, refusals, reports, tables, pictures)
+TESTS = (wrong_uses, refusals, reports, means, tables, pictures)
 
 
 if __name__ == "__main__":

@@ -1,7 +1,8 @@
 // The bench values of the river file paper that are not proved as rows, and a few more rivers: the result of reporting on each file and,
 // for accepted ones, foot BOD, foot oxygen, critical instant and critical oxygen of each reach, and with nitrification head and foot
-// nitrogenous BOD too.
+// nitrogenous BOD too; and the result of asking for means, with the means of the reaches and of the river.
 ghost use Prim.Native.Nat.{_≤_};
+use report::mean::MEAN_SIZE;
 use report::record;
 use report::record::Line;
 use report::record::RN_SIZE;
@@ -14,6 +15,8 @@ use river::card::size_of;
 use river::head::STORED_ZERO;
 use river::put::put_card;
 use river::put::put_header;
+use text::means::read_mean;
+use text::means::stored;
 
 // Prints stored oxygen.
 fn print_oxygen(stored: u32) {
@@ -445,6 +448,62 @@ fn sizes() {
     print_size(b"reach of an empty file", b"");
 }
 
+// Prints a stored mean, on a line of its own.
+fn print_mean(mean: u32) {
+    print_oxygen(mean);
+    io::write_all(1, b"\n");
+}
+
+// Prints the means of the first reaches.
+fn print_means(means: &[u8], reaches: u8) {
+    let mut i: u8 = 0;
+    while i < reaches {
+        let place = i as usize;
+        if means.len() < MEAN_SIZE * place + MEAN_SIZE {
+            return;
+        }
+        print_mean(read_mean(means, place));
+        i = i + 1;
+    }
+}
+
+// Asks for the means of a file, with numbers that start at 7 and 9, and prints the first reaches and the two numbers.
+fn show_means(name: &[u8], file: &[u8], means: &mut [u8], reaches: u8) {
+    let mut units: i32 = 7;
+    let mut remainder: u64 = 9;
+    print_result(
+        name,
+        report::xylandreo_mean(file, means, &mut units, &mut remainder),
+    );
+    print_means(means, reaches);
+    print_oxygen(stored(units));
+    io::write_all(1, b" ");
+    io::print_decimal(1, remainder);
+    io::write_all(1, b"\n");
+}
+
+// Two reaches in which oxygen stays as it is, whose means fill eight bytes of twelve and do not go into seven; two reaches without volume, whose
+// means are refused with 16, and in seven bytes with 12; and means below zero.
+fn means() {
+    let mut more = [1u8; 3 * MEAN_SIZE];
+    let mut room = [1u8; 2 * MEAN_SIZE];
+    let mut short = [1u8; 2 * MEAN_SIZE - 1];
+    let mut still = [0u8; HEADER_BYTES + 2 * REACH_BYTES];
+    put_row(&mut still, 2);
+    let two =
+        b"RV\x00\x02RE\x02\x14\x00\x00\x00\x00\x00\x00\x03\xe8\x00\x00\x0b\xb8\x00\x00\x07\xd0\x1f\x40\x00\x00\x00\x00RE\x00\x14\x00\x00\x00\x00\x00\x00\x03\xe8\x00\x00\x03\xe8\x00\x00u\x30\x07\xd0\x00\x00\x00\x00";
+    show_means(b"constant oxygen", two, &mut more, 3);
+    show_means(b"constant oxygen in 7 bytes", two, &mut short, 1);
+    show_means(b"no volume", &still, &mut room, 2);
+    show_means(b"no volume in 7 bytes", &still, &mut short, 1);
+    show_means(
+        b"means below zero",
+        b"RV\x00\x02RE\x02\x16\x01\x90\x01\x2c\x00\x16\xe3\x60\x00\x00\x13\x88\x00\x00\x0b\xb8\x1f\x40\x00\x03\xd0\x90RE\x00\x16\x01\x90\x05\xdc\x00\x0fB\x40\x00\x00\x03\xe8\x00\x00\x03\xe8\x23\x28\x00\x00\x00\x00",
+        &mut room,
+        2,
+    );
+}
+
 fn main() {
     equal_rates();
     rows();
@@ -457,4 +516,5 @@ fn main() {
     nitrification();
     ammonia_checks();
     sizes();
+    means();
 }

@@ -7,7 +7,8 @@ pub mod Step
 pub mod Advance
 pub mod Whole
 pub mod Reach
-use mathlib.Core.Path.{ap}
+pub mod MeanStep
+use mathlib.Core.Path.{_≡_, ap}
 use mathlib.Core.List.{[], _∷_}
 use Prim.Native.Nat.{ℕ, zero, suc, _*_, _^_, _≤_}
 use native.Mathlib.Omega.{arith}
@@ -17,10 +18,11 @@ use lib.Signed.{leZ-yes}
 use Rattle.decay.specs.Fraction.{Fraction, ofℕ, ofℤ, over, _+ᶠ_, _*ᶠ_, _÷_, _≈_, _≼_, distance}
 use Rattle.decay.specs.Exact.{exponent, S, F}
 use Rattle.decay.specs.Step.{RatesPass, stepOf}
-use Rattle.decay.specs.Factors.{demandFrom, headFactors, factorsAt}
+use Rattle.decay.specs.Factors.{demandFrom, demandIn, headFactors, factorsAt}
 use Rattle.decay.specs.Promise.{share, factorsOf, bodDistance, deficitDistance, Accurate, demandDistance, DemandAccurate}
 use Rattle.decay.specs.Fixed.{one}
 use Rattle.decay.specs.declared.factors.DemandFactors.{DemandFactors}
+use Rattle.decay.specs.declared.factors.Factors.{Factors}
 use Rattle.decay.proofs.Algebra.{≈-refl, ≈-sym, ≈-trans, ring, ring-by, _⋅_, _&_, none as no-equations, quote, replaced, ≼-trans, ≼-of-≈, Nonneg, slack, number, _⊞_, _⊠_, multiple, certify, ofℕ-mono, ofℕ-suc, Within, small, bound-nonneg, within-of-≈, within-weaken, within-scale, within-by, within→distance}
 use Rattle.decay.proofs.step.Shares.{step-sound}
 use Rattle.decay.proofs.factors.Instants.{range, starts-with-one, demand-range}
@@ -33,7 +35,7 @@ use Rattle.decay.proofs.Exponential.{S-compose, F-compose, S-start, F-s
 -- ---- figures
 
 -- what composition leaves over is small against a unit
-rest : ofℕ 4 *ᶠ (ofℕ 1 ÷ ofℕ (2 ^ 60)) ≼ eps
+pub rest : ofℕ 4 *ᶠ (ofℕ 1 ÷ ofℕ (2 ^ 60)) ≼ eps
 unfolding _÷_ _*ᶠ_ over ofℤ eps
 rest = record { across = leZ-yes tt }
 
@@ -62,17 +64,29 @@ few {c} {m} h k =
     tt
 
 -- at most 1,024 times c units
-at-last : (c : ℕ) {m : ℕ} → m ≤ 1024 → ofℕ (c * m) *ᶠ eps ≼ ofℕ (c * 1024) *ᶠ eps
+pub at-last : (c : ℕ) {m : ℕ} → m ≤ 1024 → ofℕ (c * m) *ᶠ eps ≼ ofℕ (c * 1024) *ᶠ eps
 at-last c {m} k =
     certify (ofℕ c ∷ ofℕ m ∷ eps ∷ []) (eps-nonneg ⊠ (number c ⊠ slack (ofℕ-mono k))) (search quote depth 40 fits 9999) tt
 
-one-more : (c m : ℕ) → ofℕ (c * m) *ᶠ eps +ᶠ ofℕ c *ᶠ eps ≼ ofℕ (c * suc m) *ᶠ eps
+pub one-more : (c m : ℕ) → ofℕ (c * m) *ᶠ eps +ᶠ ofℕ c *ᶠ eps ≼ ofℕ (c * suc m) *ᶠ eps
 one-more c m =
     certify (ofℕ c ∷ ofℕ m ∷ eps ∷ []) (number 0) (search (quote, replaced (ofℕ-suc m)) depth 40 fits 9999) tt
 
-bod-weaken : {p g s f e e' : Fraction} → e ≼ e' → BodNear p g s f e → BodNear p g s f e'
+pub bod-weaken : {p g s f e e' : Fraction} → e ≼ e' → BodNear p g s f e → BodNear p g s f e'
 bod-weaken h b =
     record { u = b .u; v = b .v; left-near = b .left-near; turned-near = b .turned-near; sum = ≼-trans (b .sum) h }
+
+pub bod-by : {p g s f e p' g' s' f' : Fraction} → p' ≈ p → g' ≈ g → s' ≈ s → f' ≈ f → BodNear p g s f e → BodNear p' g' s' f' e
+bod-by hp hg hs hf b =
+    record { u = b .u; v = b .v; left-near = within-by hp hs (b .left-near); turned-near = within-by hg hf (b .turned-near); sum = b .sum }
+
+-- BOD is the demand that starts with one
+pub bod-of-one : (x : Factors) {d : DemandFactors} {s f e : Fraction} → demandIn x ≡ d → BodNear (share (d .left)) (share (d .turned)) (share one *ᶠ s) (share one *ᶠ f) e → BodNear (share (x .left)) (share (x .turned)) s f e
+bod-of-one x {d} {s} {f} h =
+    bod-by (share-equal (ap (λ (y : DemandFactors). y .left) h)) (share-equal (ap (λ (y : DemandFactors). y .turned) h)) (once s) (once f)
+  where
+    once : (x : Fraction) → x ≈ share one *ᶠ x
+    once x = ring-by (x ∷ share one ∷ []) (x ⋅ share-one & no-equations) (search quote depth 40 fits 9999) tt
 
 -- ---- every instant
 
@@ -86,8 +100,11 @@ module _ {N k1 k2 v Q : ℕ} (long : 40 ≤ N) (p : RatesPass k1 k2 v Q) (start 
   abbrev at : ℕ → DemandFactors
   at m = demandFrom start (stepOf k1 k2 v Q) m
 
-  start-of-one : share start ≼ ofℕ 1
+  pub start-of-one : share start ≼ ofℕ 1
   start-of-one = ≼-trans (share-mono few-parts) (≼-of-≈ share-one)
+
+  pub part-near : {x y e : Fraction} → Within x y e → Within (share start *ᶠ x) (share start *ᶠ y) e
+  part-near = part-within (share-nonneg start) start-of-one
 
   at-range : (m : ℕ) → share (at m .left) +ᶠ share (at m .turned) ≼ ofℕ 1
   at-range m =
@@ -135,8 +152,8 @@ module _ {N k1 k2 v Q : ℕ} (long : 40 ≤ N) (p : RatesPass k1 k2 v Q) (start 
       (demand-at m (le-of-lt h))
       (left-moves s (at m) sound)
       (turned-moves s (at m) sound)
-      (within-by (≈-refl _) (ring (c ∷ Sm ∷ S₁ ∷ []) (search quote depth 40 fits 9999) tt) (part-within (share-nonneg start) start-of-one (within-weaken (S-compose long k1 v Q m (p .k1-short) h) shorter)))
-      (within-by (≈-refl _) (ring (c ∷ Sm ∷ Fm ∷ F₁ ∷ S₂ ∷ []) (search quote depth 40 fits 9999) tt) (part-within (share-nonneg start) start-of-one (F-compose long k1 k2 v Q m (p .k1-range) (p .k1-short) (p .k2-short) h))))
+      (within-by (≈-refl _) (ring (c ∷ Sm ∷ S₁ ∷ []) (search quote depth 40 fits 9999) tt) (part-near (within-weaken (S-compose long k1 v Q m (p .k1-short) h) shorter)))
+      (within-by (≈-refl _) (ring (c ∷ Sm ∷ Fm ∷ F₁ ∷ S₂ ∷ []) (search quote depth 40 fits 9999) tt) (part-near (F-compose long k1 k2 v Q m (p .k1-range) (p .k1-short) (p .k2-short) h))))
 
 -- ---- the factors
 
@@ -144,24 +161,11 @@ module _ {N k1 k2 v Q : ℕ} (long : 40 ≤ N) (p : RatesPass k1 k2 v Q) where
   deficit-range : (m : ℕ) → share ((factorsOf k1 k2 v Q m) .kept) ≼ ofℕ 1
   deficit-range m = ≼-trans (share-mono (range (step-sound k1 k2 v Q p) m .deficit)) (≼-of-≈ share-one)
 
-  -- BOD is the demand that starts with one
   pub bod-at :
       (m : ℕ) →
       m ≤ 1024 →
       BodNear (share ((factorsOf k1 k2 v Q m) .left)) (share ((factorsOf k1 k2 v Q m) .turned)) (S N (exponent k1 v Q m)) (F N k1 k2 v Q m) (ofℕ (11 * m) *ᶠ eps)
-  bod-at m h =
-      let d = demand-at long p one (le-refl one) m h in
-      let e = starts-with-one (stepOf k1 k2 v Q) m in
-      record {
-        u = d .u;
-        v = d .v;
-        left-near = within-by (share-equal (ap (λ (x : DemandFactors). x .left) e)) (once (S N (exponent k1 v Q m))) (d .left-near);
-        turned-near = within-by (share-equal (ap (λ (x : DemandFactors). x .turned) e)) (once (F N k1 k2 v Q m)) (d .turned-near);
-        sum = d .sum;
-      }
-    where
-      once : (x : Fraction) → x ≈ share one *ᶠ x
-      once x = ring-by (x ∷ share one ∷ []) (x ⋅ share-one & no-equations) (search quote depth 40 fits 9999) tt
+  bod-at m h = bod-of-one (factorsOf k1 k2 v Q m) (starts-with-one (stepOf k1 k2 v Q) m) (demand-at long p one (le-refl one) m h)
 
   -- the deficit left: 5 units an instant
   pub deficit-at :
@@ -188,7 +192,7 @@ module _ {N k1 k2 v Q : ℕ} (long : 40 ≤ N) (p : RatesPass k1 k2 v Q) where
 -- ---- the promise
 
 -- two distances together
-both-near : {p g s f e c : Fraction} → BodNear p g s f e → e ≼ c → distance p s +ᶠ distance g f ≼ c
+pub both-near : {p g s f e c : Fraction} → BodNear p g s f e → e ≼ c → distance p s +ᶠ distance g f ≼ c
 both-near {p} {g} {s} {f} {e} {c} b h =
     certify (distance p s ∷ distance g f ∷ b .u ∷ b .v ∷ e ∷ c ∷ [])
     (slack (within→distance (b .left-near)) ⊞ slack (within→distance (b .turned-near)) ⊞ slack (b .sum) ⊞ slack h)

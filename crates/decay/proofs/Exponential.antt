@@ -10,6 +10,12 @@ pub mod Exponent
 pub mod Compose
 pub mod Used
 pub mod Short
+pub mod MeanSanity
+pub mod Powers
+pub mod Instants
+pub mod Integrals
+pub mod Mean
+pub mod First
 pub mod Laws
 unfoldable pub use Terms.{e}
 pub use Terms.{e-zero, e-suc, e-nonneg, e-mono, S-six}
@@ -19,3 +25,6 @@ pub use Compose.{S-compose, F-compose, S-start, F-start}
 unfoldable pub use Used.{d}
 pub use Used.{d-zero, d-suc, d-nonneg}
 pub use Short.{S-short, F-short, d-small}
+unfoldable pub use Mean.{firstS, firstF}
+pub use Mean.{averageOf, integral-of, S-value, F-value, S-mean, F-mean}
+pub use First.{firstS-short, firstF-short}

@@ -3,4 +3,5 @@ pub mod Algebra
 pub mod Uses
 pub mod Exponential
 pub mod Accuracy
+pub mod MeanAccuracy
 pub mod Bench

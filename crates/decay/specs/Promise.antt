@@ -1,10 +1,13 @@
--- The promise of the arithmetic layer: how far the factors of instant m lie from the river file paper's S and F.
+-- The promise of the arithmetic layer: how far the factors of instant m lie from the river file paper's S and F, and their means over a reach from
+-- those of S and F.
 use Prim.Native.Nat.{ℕ}
 use Rattle.decay.specs.Fraction.{Fraction, ofℕ, _+ᶠ_, _*ᶠ_, _÷_, _≼_, distance}
 use Rattle.decay.specs.Exact.{exponent, S, F}
+use Rattle.decay.specs.Integral.{meanS, meanF}
 use Rattle.decay.specs.Fixed.{one}
 use Rattle.decay.specs.Step.{stepOf}
 use Rattle.decay.specs.Factors.{demandFrom, factorsAt}
+use Rattle.decay.specs.Mean.{meanFactorsOf, meanDemandOf}
 use Rattle.decay.specs.declared.factors.Factors.{Factors}
 
 -- a fixed-point number as a share of one
@@ -43,3 +46,18 @@ pub record Accurate (N k1 k2 volume Q m : ℕ) : Type 0 where
       bodDistance
   pub deficit-near :
       distance (share ((factorsOf k1 k2 volume Q m) .kept)) (S N (exponent k2 volume Q m)) ≼ deficitDistance
+
+-- The mean of a demand over a reach against the mean of the exact one, likewise.
+pub record MeanDemandAccurate (N start k k2 volume Q : ℕ) : Type 0 where
+  pub near :
+      distance (share (meanDemandOf start k k2 volume Q .left)) (share start *ᶠ meanS N k volume Q) +ᶠ
+      distance (share (meanDemandOf start k k2 volume Q .turned)) (share start *ᶠ meanF N k k2 volume Q) ≼
+      demandDistance
+
+-- The means of the factors over a reach against those of the exact ones, as near as at an instant.
+pub record MeanAccurate (N k1 k2 volume Q : ℕ) : Type 0 where
+  pub bod-near :
+      distance (share (meanFactorsOf k1 k2 volume Q .left)) (meanS N k1 volume Q) +ᶠ
+      distance (share (meanFactorsOf k1 k2 volume Q .turned)) (meanF N k1 k2 volume Q) ≼
+      bodDistance
+  pub deficit-near : distance (share (meanFactorsOf k1 k2 volume Q .kept)) (meanS N k2 volume Q) ≼ deficitDistance

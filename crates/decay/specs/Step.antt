@@ -80,3 +80,15 @@ stepOf k1 k2 volume flow =
     let y = exponentOf k1 volume flow in
     let z = exponentOf k2 volume flow in
     record { lost = (seriesOf y 0) .sum; used = (seriesOf y z) .sum; filled = (seriesOf z 0) .sum }
+
+-- the mean of a series over a step, n terms of it: term j grows with the time to the power j, so that its mean is the term divided by j + 1, rounded down
+unfoldable pub meanSumOf : (y z n : ℕ) → ℕ
+meanSumOf y z zero = 0
+meanSumOf y z (suc i) = withTerm (meanSumOf y z i) (termAt y z i / (i + 2)) i
+
+-- the means over one step of these shares: of what is lost, used and filled from its head up to each moment of it
+unfoldable pub meanStepOf : (k1 k2 volume flow : ℕ) → Step
+meanStepOf k1 k2 volume flow =
+    let y = exponentOf k1 volume flow in
+    let z = exponentOf k2 volume flow in
+    record { lost = meanSumOf y 0 mostTerms; used = meanSumOf y z mostTerms; filled = meanSumOf z 0 mostTerms }

@@ -3,7 +3,7 @@ use crate::fixed;
 ghost use mathlib.Core.Path.{_≡_};
 ghost use Prim.Native.Nat.{_+_, _*_, _≤_, _<_};
 ghost use Rattle.decay.specs.Fixed.{small};
-ghost use Rattle.decay.specs.Step.{RatesPass, exponentOf, termOf, nextTerms, withTerm, SumsExactly, stepOf};
+ghost use Rattle.decay.specs.Step.{RatesPass, exponentOf, termOf, nextTerms, withTerm, SumsExactly, stepOf, mostTerms, meanSumOf, meanStepOf};
 
 // BOD lost, BOD used (turned to deficit and not yet filled) and deficit filled in one step, as shares of one.
 pub struct Step {
@@ -104,5 +104,36 @@ pub fn step_of(k1: u32, k2: u32, volume: u32, flow: u32) -> Step
         lost: lost.sum,
         used: used.sum,
         filled: filled.sum,
+    }
+}
+
+// The mean over one step of the series of the exponents y for the BOD and z for the deficit.
+pub fn mean_series(y: u64, z: u64) -> u64
+    requires { ⌜ (y ≤ small) × (z ≤ small) ⌝ }
+    ensures { λ r. ⌜ r ≡ meanSumOf y z mostTerms ⌝ }
+{
+    let mut terms = Terms { lost: y, back: 0 };
+    let mut sum = y / 2;
+    let mut count: u64 = 1;
+    while count < MOST_TERMS {
+        terms = next_terms(terms, y, z, count + 1);
+        let t = (terms.lost + terms.back) / (count + 2);
+        sum = with_term(sum, t, count);
+        count = count + 1;
+    }
+    sum
+}
+
+// The means over one step of the shares of a reach.
+pub fn mean_step_of(k1: u32, k2: u32, volume: u32, flow: u32) -> Step
+    requires { ⌜ RatesPass k1 k2 volume flow ⌝ }
+    ensures { λ r. ⌜ r ≡ meanStepOf k1 k2 volume flow ⌝ }
+{
+    let y = exponent(k1, volume, flow);
+    let z = exponent(k2, volume, flow);
+    Step {
+        lost: mean_series(y, 0),
+        used: mean_series(y, z),
+        filled: mean_series(z, 0),
     }
 }

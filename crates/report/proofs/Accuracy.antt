@@ -9,14 +9,14 @@ use Prim.Native.Nat.{ℕ, _+_, _*_, _/_, _≤_}
 use native.Mathlib.Nat.{le-refl, le-add-left, le-add-right, mul-le-mul}
 use native.Mathlib.Omega.{arith}
 use lib.Dec.{lit<}
-use lib.IntN.{pos, _*ℤ_}
+use lib.IntN.{pos, _-ℤ_, _*ℤ_}
 use Rattle.decay.specs.Fraction.{Fraction, _≈_, _≼_, ofℕ, ofℤ, over, _+ᶠ_, -ᶠ_, _-ᶠ_, _*ᶠ_, _÷_, distance}
 use Rattle.decay.specs.Exact.{exponent, S, F}
 use Rattle.decay.specs.Promise.{share, factorsOf, bodDistance, deficitDistance, demandDistance}
-use Rattle.decay.specs.Fixed.{one}
-use Rattle.decay.specs.Step.{stepOf}
-use Rattle.decay.specs.Factors.{demandFrom}
+use Rattle.decay.specs.Fixed.{one, product}
+use Rattle.decay.specs.Factors.{AreShares}
 use Rattle.decay.specs.declared.factors.DemandFactors.{DemandFactors}
+use Rattle.decay.specs.declared.factors.Factors.{Factors}
 use Rattle.decay.proofs.fixed.Digits.{one-pos}
 use Rattle.decay.proofs.factors.Instants.{range}
 use Rattle.decay.proofs.Accuracy.{accuracy, demand-accuracy}
@@ -30,15 +30,15 @@ use Rattle.river.specs.Source.{sourceOf, rateOf}
 use Rattle.river.specs.Head.{upstreamDemand, upstreamOxygen, belowDam, headDemand, headOxygen}
 use Rattle.river.proofs.head.Bounds.{saturation-of-small}
 use Rattle.report.specs.Bed.{bedOf}
-use Rattle.report.specs.Program.{demandSum, oxygenSum, demandAtHead, oxygenAtHead, demandAt, oxygenAt, demandAlong, turnedAlong, lossAlong, oxygenAlong, unitParts, factorsAlong, partsAlong, foot}
-use Rattle.report.specs.Recurrence.{exactSaturation, exactMean, exactBelowDam, exactHeadDemand, exactHeadOxygen, exactDemandSum, exactOxygenSum, exactDemandAtHead, exactOxygenAtHead, exactDemandAlong, exactTurnedAlong, exactLoss, exactOxygenAlong, exactDemandAt, exactOxygenAt}
+use Rattle.report.specs.Program.{demandSum, oxygenSum, demandAtHead, oxygenAtHead, demandAt, oxygenAt, demandAlong, turnedAlong, lossAlong, oxygenAlong, oxygenWith, unitParts, factorsAlong, partsAlong, foot}
+use Rattle.report.specs.Recurrence.{exactSaturation, exactMean, exactBelowDam, exactHeadDemand, exactHeadOxygen, exactDemandSum, exactOxygenSum, exactDemandAtHead, exactOxygenAtHead, exactDemandAlong, exactTurnedAlong, exactOxygenAlong, exactDemandAt, exactOxygenAt}
 use Rattle.report.specs.Distance.{meanAllowance, allowanceSum, broughtAllowance, waterAllowance, lossDistance}
 use Rattle.report.proofs.Forest.{AcceptedReach, AllAccepted, no-more, one-more, rates-pass}
-use Rattle.report.proofs.Ties.{reach-step-sound, factors-range}
+use Rattle.report.proofs.Ties.{reach-step-sound}
 use Rattle.report.proofs.Facts.Head.{source-flow, damPart, demand-mean, oxygen-mean, below-dam, demand-mixed, oxygen-mixed}
-use Rattle.report.proofs.Facts.Instant.{Floored, product-floored, shares-in-range, keptDeficit, kept-floored, turned-parts}
+use Rattle.report.proofs.Facts.Instant.{Floored, product-floored, shares-in-range, keptDeficit, kept-floored, oxygen-parts}
 use Rattle.report.proofs.Facts.Exact.{saturation-low, saturation-high, exact-demand-mean, exact-oxygen-mean, exact-below-dam, exact-demand-mixed, exact-oxygen-mixed}
-use Rattle.report.proofs.Facts.Bed.{kept-accurate, loss-is-near}
+use Rattle.report.proofs.Facts.Bed.{loss-is-near}
 use Rattle.report.proofs.bed.Loss.{eventual-small}
 use Rattle.report.proofs.Bounds.{levels, mostBelow, demandsAtHead, head-ranged}
 use Rattle.report.proofs.Accuracy.Allowance.{brought-by-depth}
@@ -141,6 +141,45 @@ parts-floored n =
       high = ≼-trans (≼-of-≈ (≈-sym (in-units n))) (floor-high n (lit< tt));
     }
 
+-- factors near exact shares: S and F of BOD, S₂ of the deficit
+pub record FactorsNear (f : Factors) (S F S₂ : Fraction) : Type 0 where
+  pub shares : AreShares f
+  pub bod-near : distance (share (f .left)) S +ᶠ distance (share (f .turned)) F ≼ bodDistance
+  pub deficit-near : distance (share (f .kept)) S₂ ≼ deficitDistance
+
+-- what a demand that starts with so many parts comes to is near the same shares of them
+pub record PartsNear (start : ℕ) (d : DemandFactors) (S F : Fraction) : Type 0 where
+  pub near : distance (share (d .left)) (share start *ᶠ S) +ᶠ distance (share (d .turned)) (share start *ᶠ F) ≼ demandDistance
+
+-- a demand where factors are near, by its digits x and y
+demand-where : {f : Factors} {S F S₂ x y h₁ h₂ η B G L : Fraction} → FactorsNear f S F S₂ → Within x (S *ᶠ L) h₁ → Within y (F *ᶠ L) h₂ → h₁ +ᶠ h₂ ≼ η → Floored B x → Floored G y → DemandInstant (share (f .left)) (share (f .turned)) S F (distance (share (f .left)) S) (distance (share (f .turned)) F) bodDistance L x y h₁ h₂ η B G
+demand-where {f} {S} {F} n vx vy hη fB fG =
+    let shares = shares-in-range f (n .shares) in
+    record {
+      left-part = shares .left-part;
+      turned-part = shares .turned-part;
+      part-of-one = shares .bod-of-one;
+      left-near = within-distance (share (f .left)) S;
+      turned-near = within-distance (share (f .turned)) F;
+      factors-near = n .bod-near;
+      left-value = vx;
+      turned-value = vy;
+      values-near = hη;
+      left-floored = fB;
+      turned-floored = fG;
+    }
+
+-- BOD in shares of its head value
+bod-where : {f : Factors} {S F S₂ : Fraction} (L : ℕ) → FactorsNear f S F S₂ → let e₁ = distance (share (f .left)) S in let e₂ = distance (share (f .turned)) F in DemandInstant (share (f .left)) (share (f .turned)) S F e₁ e₂ bodDistance (ofℕ L) (share (f .left) *ᶠ ofℕ L) (share (f .turned) *ᶠ ofℕ L) (e₁ *ᶠ ofℕ L) (e₂ *ᶠ ofℕ L) (bodDistance *ᶠ ofℕ L) (ofℕ (product (f .left) L)) (ofℕ (product (f .turned) L))
+bod-where {f} {S} {F} L n =
+    demand-where n (times-within (number L) (within-distance (share (f .left)) S)) (times-within (number L) (within-distance (share (f .turned)) F))
+    (times-most _ _ bodDistance (ofℕ L) (number L) (n .bod-near)) (product-floored (f .left) L) (product-floored (f .turned) L)
+
+-- nitrogenous BOD in parts of a unit
+nitrogenous-where : {f : Factors} {S F S₂ : Fraction} (L : ℕ) {d : DemandFactors} → FactorsNear f S F S₂ → PartsNear (unitParts * L) d S F → DemandInstant (share (f .left)) (share (f .turned)) S F (distance (share (f .left)) S) (distance (share (f .turned)) F) bodDistance (ofℕ L) (inUnits (d .left)) (inUnits (d .turned)) (shareUnits *ᶠ distance (share (d .left)) (share (unitParts * L) *ᶠ S)) (shareUnits *ᶠ distance (share (d .turned)) (share (unitParts * L) *ᶠ F)) (ofℕ 1) (ofℕ (d .left / unitParts)) (ofℕ (d .turned / unitParts))
+nitrogenous-where {f} {S} {F} L {d} n parts =
+    demand-where n (units-within L S (within-distance _ _)) (units-within L F (within-distance _ _)) (units-most _ _ (parts .near)) (parts-floored (d .left)) (parts-floored (d .turned))
+
 -- the deficit at a head
 deficit-small : (cs l c k : Fraction) → Nonneg cs → cs ≼ ofℕ 15_423_157 → Nonneg l → l ≼ c +ᶠ ofℕ mostBelow → c ≼ k → k ≼ ofℕ 20_000_128 → Small (cs -ᶠ c) (ofℕ 1_660_000_000)
 deficit-small cs l c k p h pl low high hk =
@@ -172,6 +211,11 @@ carried-small : {units : ℕ} {card : Card} {up : Feeders} → Covers units → 
 carried-small {units} {card} {up} covers own above shallow =
     let deep : deepest up ≤ 127 = omega arith in
     ≼-trans (brought-by-depth units own above) (ofℕ-mono (omega (arith, mul-le-mul (covers .few) deep)))
+
+-- nitrogenous BOD at a head has at most as many parts as one has
+pub nitrogenous-few : {card : Card} {up : Feeders} → AcceptedReach card up → AllAccepted up → reachDepth up ≤ 128 → unitParts * demandAtHead Nitrogenous card up ≤ one
+nitrogenous-few {card} {up} own above shallow =
+    omega (arith, ofℕ-reflect (demandAtHead Nitrogenous card up) 1_000_000_000 (≼-trans (ofℕ-mono (le-add-left (demandAtHead Nitrogenous card up) (demandAtHead Bod card up))) (head-ranged own above shallow .demands-range)))
 
 module _ (N : ℕ) (long : 40 ≤ N) {units : ℕ} (covers : Covers units) where
   -- what is to be shown of feet, heads and instants
@@ -225,101 +269,48 @@ module _ (N : ℕ) (long : 40 ≤ N) {units : ℕ} (covers : Covers units) where
       in
       head-near water (demand-head Bod own above) (demand-head Nitrogenous own above) oxygen n
 
-  -- the shares of a demand at an instant, and how far they are off, for any demand
-  module _ (d : Demand) (card : Card) (Q m : ℕ) where
-    abbrev exactLeft : Fraction
-    exactLeft = S N (exponent (rateOf d card) (card .volume) Q m)
-
-    abbrev exactTurned : Fraction
-    exactTurned = F N (rateOf d card) (card .k2) (card .volume) Q m
-
-    abbrev leftShare : Fraction
-    leftShare = share (factorsOf (rateOf d card) (card .k2) (card .volume) Q m .left)
-
-    abbrev turnedShare : Fraction
-    turnedShare = share (factorsOf (rateOf d card) (card .k2) (card .volume) Q m .turned)
-
-  -- a demand at an instant, by its digits x and y, for any demand
-  demand-instant : (d : Demand) {card : Card} {up : Feeders} {x y h₁ h₂ η B G L : Fraction} → AcceptedReach card up → (m : ℕ) → m ≤ foot → Within x (exactLeft d card (reachFlow card up) m *ᶠ L) h₁ → Within y (exactTurned d card (reachFlow card up) m *ᶠ L) h₂ → h₁ +ᶠ h₂ ≼ η → Floored B x → Floored G y → DemandInstant (leftShare d card (reachFlow card up) m) (turnedShare d card (reachFlow card up) m) (exactLeft d card (reachFlow card up) m) (exactTurned d card (reachFlow card up) m) (distance (leftShare d card (reachFlow card up) m) (exactLeft d card (reachFlow card up) m)) (distance (turnedShare d card (reachFlow card up) m) (exactTurned d card (reachFlow card up) m)) bodDistance L x y h₁ h₂ η B G
-  demand-instant d {card} {up} own m l vx vy hη fB fG =
+  -- along a reach, where factors are near: those of BOD, those of nitrogenous BOD and its parts, and the loss T to a bed
+  pub along-is-near : {card : Card} {up : Feeders} {f g : Factors} {parts : DemandFactors} {S F S₂ S′ F′ S₂′ Tx : Fraction} → AcceptedReach card up → AllAccepted up → reachDepth up ≤ 128 → HeadNear card up
+      → FactorsNear f S F S₂ → FactorsNear g S′ F′ S₂′ → PartsNear (unitParts * demandAtHead Nitrogenous card up) parts S′ F′ → (T : ℕ) → Within (ofℕ T) Tx (lossDistance card (reachFlow card up))
+      → let L = demandAtHead Bod card up in let Lx = exactDemandAtHead N Bod card up in let Lnx = exactDemandAtHead N Nitrogenous card up in let Csx = exactSaturation card in
+      Near (ofℕ (product (f .left) L)) (Lx *ᶠ S) (ofℕ (parts .left / unitParts)) (Lnx *ᶠ S′) (ofℤ (oxygenWith f (saturationOf card) L (oxygenAtHead card up) -ℤ pos (parts .turned / unitParts) -ℤ pos T)) (Csx -ᶠ F *ᶠ Lx -ᶠ F′ *ᶠ Lnx -ᶠ S₂ *ᶠ (Csx -ᶠ exactOxygenAtHead N card up) -ᶠ Tx) (waterAllowance units card up)
+  along-is-near {card} {up} {f} {parts = parts} {S₂ = S₂} {Tx = Tx} own above shallow n bod nitrogenous parts-near T loss =
       let Q = reachFlow card up in
-      let shares = shares-in-range (factorsOf (rateOf d card) (card .k2) (card .volume) Q m) (range (reach-step-sound own d) m) in
-      record {
-        left-part = shares .left-part;
-        turned-part = shares .turned-part;
-        part-of-one = shares .bod-of-one;
-        left-near = within-distance (leftShare d card Q m) (exactLeft d card Q m);
-        turned-near = within-distance (turnedShare d card Q m) (exactTurned d card Q m);
-        factors-near = accuracy long l (rates-pass own d) .bod-near;
-        left-value = vx;
-        turned-value = vy;
-        values-near = hη;
-        left-floored = fB;
-        turned-floored = fG;
-      }
-
-  -- BOD in shares of its head value
-  bod-instant : {card : Card} {up : Feeders} → AcceptedReach card up → (m : ℕ) → m ≤ foot → let Q = reachFlow card up in let L = demandAtHead Bod card up in DemandInstant (leftShare Bod card Q m) (turnedShare Bod card Q m) (exactLeft Bod card Q m) (exactTurned Bod card Q m) (distance (leftShare Bod card Q m) (exactLeft Bod card Q m)) (distance (turnedShare Bod card Q m) (exactTurned Bod card Q m)) bodDistance (ofℕ L) (leftShare Bod card Q m *ᶠ ofℕ L) (turnedShare Bod card Q m *ᶠ ofℕ L) (distance (leftShare Bod card Q m) (exactLeft Bod card Q m) *ᶠ ofℕ L) (distance (turnedShare Bod card Q m) (exactTurned Bod card Q m) *ᶠ ofℕ L) (bodDistance *ᶠ ofℕ L) (ofℕ (demandAt Bod card up m)) (ofℕ (turnedAlong Bod card Q L m))
-  unfolding demandAt demandAlong turnedAlong factorsAlong
-  bod-instant {card} {up} own m l =
-      let Q = reachFlow card up in
-      let L = demandAtHead Bod card up in
-      let f = factorsOf (card .k1) (card .k2) (card .volume) Q m in
-      demand-instant Bod own m l (times-within (number L) (within-distance (leftShare Bod card Q m) (exactLeft Bod card Q m))) (times-within (number L) (within-distance (turnedShare Bod card Q m) (exactTurned Bod card Q m)))
-      (times-most _ _ bodDistance (ofℕ L) (number L) (accuracy long l (rates-pass own Bod) .bod-near)) (product-floored (f .left) L) (product-floored (f .turned) L)
-
-  -- nitrogenous BOD in parts of a unit
-  module _ {card : Card} {up : Feeders} (own : AcceptedReach card up) (few : demandAtHead Nitrogenous card up ≤ 1_000_000_000) (m : ℕ) (l : m ≤ foot) where
-    abbrev Q : ℕ
-    Q = reachFlow card up
-
-    abbrev L : ℕ
-    L = demandAtHead Nitrogenous card up
-
-    abbrev parts : DemandFactors
-    parts = demandFrom (unitParts * L) (stepOf (rateOf Nitrogenous card) (card .k2) (card .volume) Q) m
-
-    abbrev leftOff : Fraction
-    leftOff = distance (share (parts .left)) (share (unitParts * L) *ᶠ exactLeft Nitrogenous card Q m)
-
-    abbrev turnedOff : Fraction
-    turnedOff = distance (share (parts .turned)) (share (unitParts * L) *ᶠ exactTurned Nitrogenous card Q m)
-
-    nitrogenous-instant : DemandInstant (leftShare Nitrogenous card Q m) (turnedShare Nitrogenous card Q m) (exactLeft Nitrogenous card Q m) (exactTurned Nitrogenous card Q m) (distance (leftShare Nitrogenous card Q m) (exactLeft Nitrogenous card Q m)) (distance (turnedShare Nitrogenous card Q m) (exactTurned Nitrogenous card Q m)) bodDistance (ofℕ L) (inUnits (parts .left)) (inUnits (parts .turned)) (shareUnits *ᶠ leftOff) (shareUnits *ᶠ turnedOff) (ofℕ 1) (ofℕ (demandAt Nitrogenous card up m)) (ofℕ (turnedAlong Nitrogenous card Q L m))
-    unfolding demandAt demandAlong turnedAlong partsAlong
-    nitrogenous-instant =
-        demand-instant Nitrogenous own m l (units-within L (exactLeft Nitrogenous card Q m) (within-distance _ _)) (units-within L (exactTurned Nitrogenous card Q m) (within-distance _ _))
-        (units-most leftOff turnedOff (demand-accuracy (unitParts * L) (omega arith) long l (rates-pass own Nitrogenous) .near)) (parts-floored (parts .left)) (parts-floored (parts .turned))
-
-  pub instant-is-near : {card : Card} {up : Feeders} → AcceptedReach card up → AllAccepted up → reachDepth up ≤ 128 → HeadNear card up → (m : ℕ) → m ≤ foot → InstantNear card up m
-  unfolding oxygenAt oxygenAlong exactDemandAt exactOxygenAt exactDemandAlong exactTurnedAlong exactOxygenAlong
-  instant-is-near {card} {up} own above shallow n m l =
-      let Q = reachFlow card up in
-      let f = factorsAlong card Q m in
       let L = demandAtHead Bod card up in
       let Ln = demandAtHead Nitrogenous card up in
       let C = oxygenAtHead card up in
       let Cs = saturationOf card in
-      let S₂ = S N (exponent (card .k2) (card .volume) Q m) in
-      let T = lossAlong card Q m in
       let range = head-ranged own above shallow in
-      let shares = shares-in-range f (factors-range own m) in
-      let oxygen : OxygenInstant (share (f .kept)) S₂ deficitDistance bodDistance (ofℤ C) (ofℕ Cs) (exactSaturation card) (ofℤ (keptDeficit f Cs C)) (ofℕ 1_660_000_000) (ofℕ T) (exactLoss N card Q m) (lossDistance card Q) =
+      let shares = shares-in-range f (bod .shares) in
+      let oxygen : OxygenInstant (share (f .kept)) S₂ deficitDistance bodDistance (ofℤ C) (ofℕ Cs) (exactSaturation card) (ofℤ (keptDeficit f Cs C)) (ofℕ 1_660_000_000) (ofℕ T) Tx (lossDistance card Q) =
       record {
         kept-part = shares .kept-part;
         kept-of-one = shares .kept-of-one;
-        kept-near = distance→within (kept-accurate long own m l);
+        kept-near = distance→within (bod .deficit-near);
         sharper = sharper;
         kept-floored = kept-floored f Cs C;
         head-deficit = deficit-small (ofℕ Cs) (ofℕ (demandsAtHead card up)) (ofℤ C) (ofℕ (20000000 + levels up)) (number Cs) (ofℕ-mono (saturation-of-small card (own .saturation))) (number (demandsAtHead card up)) (range .demands-below) (range .oxygen-high) (ofℕ-mono (omega arith));
         saturation-near = rounded-saturation card;
-        loss-near = loss-is-near long own m l;
+        loss-near = loss;
       }
       in
       near-weaken
       (reach-adds bodDistance deficitDistance (ofℕ L) (lossDistance card Q) (broughtAllowance units card up) (ofℕ units) δ-nonneg δ-equation eight-times (≼-trans (ofℕ-mono (le-add-right L Ln)) (range .demands-range)) (loss-distance-small own) (carried-small covers own above shallow) (ofℕ-mono (covers .added)))
-      (near-at (turned-parts card Q L C (turnedAlong Nitrogenous card Q Ln m) T m)
-      (instant-near (exactDemandAtHead N Bod card up) (exactDemandAtHead N Nitrogenous card up) (exactOxygenAtHead N card up) (broughtAllowance units card up +ᶠ ofℕ headUnits) (bod-instant own m l) (nitrogenous-instant own (ofℕ-reflect Ln 1_000_000_000 (≼-trans (ofℕ-mono (le-add-left Ln L)) (range .demands-range))) m l) oxygen n))
+      (near-at (oxygen-parts f Cs L C (parts .turned / unitParts) T)
+      (instant-near (exactDemandAtHead N Bod card up) (exactDemandAtHead N Nitrogenous card up) (exactOxygenAtHead N card up) (broughtAllowance units card up +ᶠ ofℕ headUnits) (bod-where L bod) (nitrogenous-where Ln nitrogenous parts-near) oxygen n))
+
+  -- the factors of every instant are near, for any demand
+  instant-factors : (d : Demand) {card : Card} {up : Feeders} → AcceptedReach card up → (m : ℕ) → m ≤ foot → let Q = reachFlow card up in
+      FactorsNear (factorsOf (rateOf d card) (card .k2) (card .volume) Q m) (S N (exponent (rateOf d card) (card .volume) Q m)) (F N (rateOf d card) (card .k2) (card .volume) Q m) (S N (exponent (card .k2) (card .volume) Q m))
+  instant-factors d own m l =
+      let accurate = accuracy long l (rates-pass own d) in
+      record { shares = range (reach-step-sound own d) m; bod-near = accurate .bod-near; deficit-near = accurate .deficit-near }
+
+  pub instant-is-near : {card : Card} {up : Feeders} → AcceptedReach card up → AllAccepted up → reachDepth up ≤ 128 → HeadNear card up → (m : ℕ) → m ≤ foot → InstantNear card up m
+  unfolding oxygenAt oxygenAlong demandAt demandAlong turnedAlong partsAlong factorsAlong exactDemandAt exactOxygenAt exactDemandAlong exactTurnedAlong exactOxygenAlong
+  instant-is-near {card} {up} own above shallow n m l =
+      along-is-near own above shallow n (instant-factors Bod own m l) (instant-factors Nitrogenous own m l)
+      (record { near = demand-accuracy (unitParts * demandAtHead Nitrogenous card up) (nitrogenous-few own above shallow) long l (rates-pass own Nitrogenous) .near }) (lossAlong card (reachFlow card up) m) (loss-is-near long own m l)
 
   -- the foot of a feeder, times its flow, with the other feet
   demand-joins : (d : Demand) (card : Card) (up rest : Feeders) → ofℕ (demandSum d (more card up rest)) ≈ ofℕ (reachFlow card up) *ᶠ ofℕ (demandAt d card up foot) +ᶠ ofℕ (demandSum d rest)

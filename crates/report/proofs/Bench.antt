@@ -1,5 +1,5 @@
 -- The bench values of the river file paper that are to be proved, gathered as rows of one theorem: those of files, rates, flows and heads, the two lines of
--- the printing program's example, the second of them below a dam, also at 700 mm, both with takes, and both with nitrogenous BOD.
+-- the printing program's example, the second of them below a dam, also at 700 mm, both with takes, and both with nitrogenous BOD; and means.
 use mathlib.Core.Path.{_≡_, refl, sym, _∙_, ap}
 use mathlib.Core.Bool.{true, false}
 use mathlib.Core.List.{List, [], _∷_}
@@ -18,7 +18,7 @@ use Rattle.river.specs.declared.source.Demand.{Demand}
 use Rattle.river.specs.declared.source.Demand.the-variants.{Bod, Nitrogenous}
 use Rattle.river.specs.Card.{LawfulDam, amountOr}
 use Rattle.river.specs.Source.{nitrogenousSource, nitrogenousRate, sourceOf, rateOf, sourceMass}
-use Rattle.river.specs.Flow.{Feeders, none, more, joinedIf, feedersAmong, above, fed, flowOf, massOf, deepest, sludgeOf, reachFlow, reachDepth, DamRule}
+use Rattle.river.specs.Flow.{Feeders, none, more, joinedIf, feedersAmong, cardOf, above, fed, flowOf, massOf, deepest, sludgeOf, reachFlow, reachDepth, DamRule}
 use Rattle.river.specs.Saturation.{saturation, saturationThousandths, saturationOf, SaturationInRange}
 use Rattle.river.specs.Head.{floor, upstreamDemand, upstreamOxygen, aerated, belowDam, mixedDemand, headDemand, headOxygen}
 use Rattle.river.proofs.flow.Take.{mass-within}
@@ -26,6 +26,13 @@ use Rattle.river.proofs.Bench.{reach, second, two, drawn, hilly, Rows as FlowRo
 use Rattle.report.specs.Program.{figuresOf, figuresAt, demandSum, oxygenSum, demandAtHead, oxygenAtHead, demandAt, oxygenAt, foot}
 use Rattle.report.specs.Record.{nitrifies, isNitrified, hasNitrification, plainBytes, encodePlain, encodeRecord, recordSize, Figures}
 use Rattle.report.specs.Report.{recordOf}
+use Rattle.decay.specs.Fraction.{_≼_, ofℕ, ofℤ, distance}
+use Rattle.report.specs.Distance.{allowanceAt}
+use Rattle.report.specs.ExactMean.{exactMeanOxygen}
+use Rattle.report.specs.Mean.{meanAt}
+use Rattle.report.proofs.MeanRows.{Rows as MeanRows, rows as mean-rows, Constant, constant}
+use Rattle.report.proofs.MeanRefutation.{allValues, own-mean, own-mean-near, rounded-mean-strays}
+use Rattle.report.proofs.Refutations.{two as equal}
 use Rattle.report.proofs.Forest.{AcceptedReach}
 use Rattle.report.proofs.Ties.{reach-demand-stays, reach-oxygen-stays, still-figures}
 use Rattle.report.proofs.record.Encoding.{plain-first}
@@ -241,6 +248,12 @@ plain-bytes {f} e = plain-first true f ∙ ap encodePlain e
 -- one theorem, a row each
 pub record Rows : Type 0 where
   pub flows-and-heads : FlowRows
+  -- means: weighted by volume, of the example, whose oxygen does not change, and of the reach whose rates are equal
+  pub weighted : MeanRows
+  pub constant-means : Constant
+  pub own-mean : meanAt equal 1 ≡ pos 12009589
+  pub near-the-exact : distance (ofℤ (meanAt equal 1)) (exactMeanOxygen 40 (cardOf equal 1) (above equal 1)) ≼ ofℕ 1
+  pub mean-of-values-strays : distance (ofℤ (floor allValues 1_025)) (exactMeanOxygen 40 (cardOf equal 1) (above equal 1)) ≼ allowanceAt equal 1 → ⊥
   pub line-1 : figuresAt (two Absent) 1 ≡ line 1 3000 2000000 8000000 0
   pub line-2 : figuresAt (two Absent) 2 ≡ line 2 4000 9000000 6500000 0
   pub below-dam : belowDam (second weir Without Without) (fed (above (two weir) 2)) (flowOf (above (two weir) 2)) (upstream (above (two weir) 2)) ≡ pos 8340602
@@ -269,6 +282,11 @@ unfolding feedersAmong joinedIf flowOf deepest headDemand headOxygen upstreamDem
 bench =
     record {
       flows-and-heads = flow-bench;
+      weighted = mean-rows;
+      constant-means = constant;
+      own-mean = own-mean;
+      near-the-exact = own-mean-near;
+      mean-of-values-strays = rounded-mean-strays;
       line-1 = first-line Idle idle;
       line-2 = second-line Idle idle refl;
       below-dam = below-weir Without refl;

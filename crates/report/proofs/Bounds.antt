@@ -1,4 +1,4 @@
--- How far the demands and oxygen can lie from 0 in an accepted river, at the head of a reach and at every instant.
+-- How far the demands and oxygen can lie from 0 in an accepted river, at the head of a reach and at every instant, and mean oxygen likewise.
 -- Carried down the river, times flow: the two demands together are at most 1,000 × M, the demands less oxygen at most that and 5,000,003 units
 -- more for each level (3 of rounding at its head, and what its bed may take), and oxygen at most 20,000,000 and a unit more for each level. The
 -- levels above a reach are the reaches of this river on the longest way down to it.
@@ -8,10 +8,13 @@ use mathlib.Core.List.{[], _∷_}
 use Prim.Native.Nat.{ℕ, _+_, _*_, _≤_, max}
 use native.Mathlib.Nat.{le-max-left, le-max-right, le-refl, le-trans, mul-div-le, mul-le-mul-left, mul-le-mul-right}
 use native.Mathlib.Omega.{arith}
-use lib.IntN.{ℤ, pos, negsuc, _*ℤ_}
+use lib.IntN.{ℤ, pos, negsuc, _-ℤ_, _*ℤ_}
 use lib.Signed.{_≤ℤ_}
 use Rattle.decay.specs.Fraction.{Fraction, _≈_, _≼_, ofℕ, ofℤ, _+ᶠ_, -ᶠ_, _-ᶠ_, _*ᶠ_}
+use Rattle.decay.specs.Fixed.{product}
+use Rattle.decay.specs.Factors.{AreShares}
 use Rattle.decay.specs.Promise.{share}
+use Rattle.decay.specs.declared.factors.Factors.{Factors}
 use Rattle.decay.proofs.Algebra.{Nonneg, quote, slack, number, _⊞_, _⊠_, multiple, certify, ring-by, _⋅_, _&_, ofℕ-≈, ≈-refl, ≈-sym, ≈-trans, ≼-trans, ≼-of-≈, ≼-by, ≼-refl, +ᶠ-cong, *ᶠ-cong, ofℤ-+, ofℤ-*, Positive, positive-whole, certify-over, none as no-equations, ofℕ-reflect, ofℤ-reflect, ofℕ-mono, ofℕ-+, ofℕ-*}
 use Rattle.river.specs.declared.card.Card.{Card}
 use Rattle.river.specs.Flow.{Feeders, more, fed, flowOf, mixedFlow, reachFlow, ownMass, massOf, mixedMass, reachMass, deepest}
@@ -23,12 +26,13 @@ use Rattle.river.specs.Source.{sourceOf, sourceMass}
 use Rattle.river.specs.Head.{upstreamDemand, upstreamOxygen, belowDam, headDemand, headOxygen}
 use Rattle.river.proofs.flow.Take.{flow-remains, mass-within, mass-scaled}
 use Rattle.river.proofs.head.Bounds.{saturation-of-small, upstream-kept}
-use Rattle.report.specs.Bed.{lossLimit}
-use Rattle.report.specs.Program.{demandSum, oxygenSum, demandAtHead, oxygenAtHead, demandAt, oxygenAt, turnedAlong, lossAlong, oxygenAlong, factorsAlong, foot}
+use Rattle.report.specs.Bed.{bedOf, lossWith, lossLimit}
+use Rattle.report.specs.Program.{oxygenWith, demandSum, oxygenSum, demandAtHead, oxygenAtHead, demandAt, oxygenAt, turnedAlong, lossAlong, oxygenAlong, factorsAlong, foot}
+use Rattle.report.specs.Mean.{middle, factorsMean, turnedMean, meanAlong, meanOxygen}
 use Rattle.report.proofs.Facts.Floor.{Rounded}
 use Rattle.report.proofs.Forest.{AcceptedReach, AllAccepted, no-more, one-more}
-use Rattle.report.proofs.Ties.{factors-range, loss-small, parts-within}
-use Rattle.report.proofs.Facts.Instant.{Floored, Shares, shares-in-range, keptDeficit, kept-floored, turned-parts}
+use Rattle.report.proofs.Ties.{factors-range, mean-factors-range, loss-small, mean-loss-range, parts-within, mean-turned-within}
+use Rattle.report.proofs.Facts.Instant.{Floored, shares-in-range, keptDeficit, kept-floored, oxygen-parts}
 use Rattle.report.proofs.Facts.Head.{ofℕ-+₄, source-flow, Dammed, oxygen-mean, damPart, below-dam, oxygen-mixed}
 
 -- ---- the estimates in fractions
@@ -126,9 +130,10 @@ abbrev HeadBounded : Card → Feeders → Type 0
 HeadBounded card up =
     Bounded (ofℕ (reachFlow card up) *ᶠ ofℕ (demandsAtHead card up)) (ofℕ (reachFlow card up) *ᶠ ofℤ (oxygenAtHead card up)) (ofℕ (reachFlow card up)) (ofℕ (1000 * reachMass card up)) (ofℕ (headFall up * reachFlow card up)) (ofℕ (20000000 + levels up))
 
-abbrev InstantBounded : Card → Feeders → ℕ → Type 0
-InstantBounded card up m =
-    Bounded (ofℕ (reachFlow card up) *ᶠ ofℕ (demandsAt card up m)) (ofℕ (reachFlow card up) *ᶠ ofℤ (oxygenAt card up m)) (ofℕ (reachFlow card up)) (ofℕ (1000 * reachMass card up)) (ofℕ (fall (1 + levels up) * reachFlow card up)) (ofℕ (20000000 + (1 + levels up)))
+-- the water along a reach with these demands and this oxygen
+abbrev AlongBounded : Card → Feeders → (demands : ℕ) (oxygen : ℤ) → Type 0
+AlongBounded card up demands oxygen =
+    Bounded (ofℕ (reachFlow card up) *ᶠ ofℕ demands) (ofℕ (reachFlow card up) *ᶠ ofℤ oxygen) (ofℕ (reachFlow card up)) (ofℕ (1000 * reachMass card up)) (ofℕ (fall (1 + levels up) * reachFlow card up)) (ofℕ (20000000 + (1 + levels up)))
 
 -- a wider bound
 bounded-by : {bod oxygen Q mass deep k mass′ deep′ k′ : Fraction} → mass ≼ mass′ → deep ≼ deep′ → k ≼ k′ → Nonneg Q → Bounded bod oxygen Q mass deep k → Bounded bod oxygen Q mass′ deep′ k′
@@ -213,30 +218,26 @@ bounded-at {bod} {oxygen} {oxygen′} {Q} {mass} {deep} {k} e b =
       oxygen-above = ≼-trans (≼-of-≈ (≈-sym e)) (b .oxygen-above);
     }
 
-instant-in-bounds : {card : Card} {up : Feeders} → AcceptedReach card up → HeadBounded card up → (m : ℕ) → m ≤ foot → InstantBounded card up m
-unfolding oxygenAt oxygenAlong
-instant-in-bounds {card} {up} own b m l =
+-- where these factors hold, of the demands B are left, H of nitrogenous BOD has turned, and a bed takes T
+along-in-bounds : {card : Card} {up : Feeders} → AcceptedReach card up → HeadBounded card up → (f : Factors) (B H T : ℕ) → AreShares f → B + (product (f .turned) (demandAtHead Bod card up) + H) ≤ demandsAtHead card up → T ≤ lossLimit
+    → AlongBounded card up B (oxygenWith f (saturationOf card) (demandAtHead Bod card up) (oxygenAtHead card up) -ℤ pos H -ℤ pos T)
+along-in-bounds {card} {up} own b f B H T in-range parts few =
     let Q = reachFlow card up in
-    let f = factorsAlong card Q m in
     let L = demandAtHead Bod card up in
     let C = oxygenAtHead card up in
     let Cs = saturationOf card in
-    let G = turnedAlong Bod card Q L m in
-    let H = turnedAlong Nitrogenous card Q (demandAtHead Nitrogenous card up) m in
+    let G = product (f .turned) L in
     let R = keptDeficit f Cs C in
-    let T = lossAlong card Q m in
+    let shares = shares-in-range f in-range in
     let k = 20000000 + levels up in
     let deep = headFall up * Q in
     bounded-by (≼-refl (ofℕ (1000 * reachMass card up))) (≼-by (≈-trans (+ᶠ-cong (≈-refl (ofℕ deep)) (≈-sym (ofℕ-* Q lossLimit))) (≈-sym (ofℕ-+ deep (Q * lossLimit)))) (ofℕ-mono (one-more-level (levels up) Q)) (≈-refl (ofℕ (fall (1 + levels up) * Q)))) (≼-by (≈-sym (ofℕ-+ k 1)) (ofℕ-mono (one-more-unit (levels up))) (≈-refl (ofℕ (20000000 + (1 + levels up))))) (number Q)
-    (bounded-at (*ᶠ-cong (≈-refl (ofℕ Q)) (≈-sym (≈-trans (turned-parts card Q L C H T m) (two-turned (ofℕ Cs) (ofℕ G) (ofℕ H) (ofℕ (G + H)) (ofℤ R) (ofℕ T) (ofℕ-+ G H)))))
-    (instant-bounded (ofℕ Q) (ofℕ (demandsAtHead card up)) (ofℤ C) (ofℕ Cs) (share (f .kept)) (ofℕ (demandsAt card up m)) (ofℕ (G + H)) (ofℤ R) (ofℕ T) (ofℕ lossLimit) (ofℕ (1000 * reachMass card up)) (ofℕ deep) (ofℕ k)
-    (number Q) (number (demandsAtHead card up)) (number deep) (number Cs) (saturation-below card (levels up) (own .saturation)) (shares .kept-part) (shares .kept-of-one) (number (G + H)) (number T) (ofℕ-mono (loss-small own m l))
-    (≼-by (≈-sym (ofℕ-+ (demandsAt card up m) (G + H))) (ofℕ-mono (omega (arith, parts-within own Bod m, parts-within own Nitrogenous m))) (≈-refl (ofℕ (demandsAtHead card up))))
+    (bounded-at (*ᶠ-cong (≈-refl (ofℕ Q)) (≈-sym (≈-trans (oxygen-parts f Cs L C H T) (two-turned (ofℕ Cs) (ofℕ G) (ofℕ H) (ofℕ (G + H)) (ofℤ R) (ofℕ T) (ofℕ-+ G H)))))
+    (instant-bounded (ofℕ Q) (ofℕ (demandsAtHead card up)) (ofℤ C) (ofℕ Cs) (share (f .kept)) (ofℕ B) (ofℕ (G + H)) (ofℤ R) (ofℕ T) (ofℕ lossLimit) (ofℕ (1000 * reachMass card up)) (ofℕ deep) (ofℕ k)
+    (number Q) (number (demandsAtHead card up)) (number deep) (number Cs) (saturation-below card (levels up) (own .saturation)) (shares .kept-part) (shares .kept-of-one) (number (G + H)) (number T) (ofℕ-mono few)
+    (≼-by (≈-sym (ofℕ-+ B (G + H))) (ofℕ-mono parts) (≈-refl (ofℕ (demandsAtHead card up))))
     (kept-floored f Cs C) b))
   where
-    shares : Shares (share (factorsAlong card (reachFlow card up) m .left)) (share (factorsAlong card (reachFlow card up) m .turned)) (share (factorsAlong card (reachFlow card up) m .kept))
-    shares = shares-in-range (factorsAlong card (reachFlow card up) m) (factors-range own m)
-
     two-turned : (cs g h gh r t : Fraction) → gh ≈ g +ᶠ h → cs -ᶠ g -ᶠ r -ᶠ h -ᶠ t ≈ cs -ᶠ gh -ᶠ r -ᶠ t
     two-turned cs g h gh r t e = ring-by (cs ∷ g ∷ h ∷ gh ∷ r ∷ t ∷ []) (ofℕ 1 ⋅ e & no-equations) (search quote depth 40 fits 9999) tt
 
@@ -245,6 +246,20 @@ instant-in-bounds {card} {up} own b m l =
 
     one-more-level : (n Q : ℕ) → (3 + fall n) * Q + Q * lossLimit ≤ fall (1 + n) * Q
     one-more-level n Q = omega arith
+
+-- at every instant
+instant-in-bounds : {card : Card} {up : Feeders} → AcceptedReach card up → HeadBounded card up → (m : ℕ) → m ≤ foot → AlongBounded card up (demandsAt card up m) (oxygenAt card up m)
+unfolding oxygenAt oxygenAlong turnedAlong
+instant-in-bounds {card} {up} own b m l =
+    let Q = reachFlow card up in
+    along-in-bounds own b (factorsAlong card Q m) (demandsAt card up m) (turnedAlong Nitrogenous card Q (demandAtHead Nitrogenous card up) m) (lossAlong card Q m) (factors-range own m) (omega (arith, parts-within own Bod m, parts-within own Nitrogenous m)) (loss-small own m l)
+
+-- and on average, whatever is left of the demands
+mean-in-bounds : {card : Card} {up : Feeders} → AcceptedReach card up → HeadBounded card up → AlongBounded card up 0 (meanOxygen card up)
+unfolding meanOxygen meanAlong
+mean-in-bounds {card} {up} own b =
+    let Q = reachFlow card up in
+    along-in-bounds own b (factorsMean card Q) 0 (turnedMean card Q (demandAtHead Nitrogenous card up)) (lossWith (factorsMean card Q) (bedOf card Q) middle) (mean-factors-range own) (omega (arith, mean-turned-within own)) (mean-loss-range own .loss)
 
 -- two waters together
 bounded-join : {b o Q m d k b₁ o₁ Q₁ m₁ d₁ k₁ b₂ o₂ Q₂ m₂ d₂ k₂ : Fraction} → b ≈ b₁ +ᶠ b₂ → o ≈ o₁ +ᶠ o₂ → Q ≈ Q₁ +ᶠ Q₂ → m₁ +ᶠ m₂ ≼ m → d₁ +ᶠ d₂ ≼ d → k₁ ≼ k → k₂ ≼ k → Nonneg Q₁ → Nonneg Q₂
@@ -257,7 +272,7 @@ bounded-join {b} {o} {Q} {m} {d} {k} {b₁} {o₁} {Q₁} {m₁} {d₁} {k₁} {
     }
 
 -- every foot of a forest is in bounds
-feet-join : (card : Card) (up rest : Feeders) → InstantBounded card up foot → FeetBounded rest → FeetBounded (more card up rest)
+feet-join : (card : Card) (up rest : Feeders) → AlongBounded card up (demandsAt card up foot) (oxygenAt card up foot) → FeetBounded rest → FeetBounded (more card up rest)
 unfolding flowOf massOf deepest demandSum oxygenSum demandAt oxygenAt demandAtHead oxygenAtHead
 feet-join card up rest x y =
     let Q = reachFlow card up in
@@ -315,10 +330,10 @@ module _ {card : Card} {up : Feeders} (own : AcceptedReach card up) (above : All
   head-ranged =
       bounded-ranged (ofℕ (reachFlow card up)) (ofℕ (demandsAtHead card up)) (ofℤ (oxygenAtHead card up)) (ofℕ (1000 * reachMass card up)) (ofℕ (headFall up * reachFlow card up)) (ofℕ (20000000 + levels up)) (positive-whole (flow-remains (own .flows))) mass-small (fall-small (omega arith)) (head-in-bounds own above (feet-in-bounds above))
 
-  -- at every instant
-  pub instant-ranged : (m : ℕ) → m ≤ foot → Ranged (ofℕ (demandsAt card up m)) (ofℤ (oxygenAt card up m)) (ofℕ (20000000 + (1 + levels up)))
-  instant-ranged m l =
-      bounded-ranged (ofℕ (reachFlow card up)) (ofℕ (demandsAt card up m)) (ofℤ (oxygenAt card up m)) (ofℕ (1000 * reachMass card up)) (ofℕ (fall (1 + levels up) * reachFlow card up)) (ofℕ (20000000 + (1 + levels up))) (positive-whole (flow-remains (own .flows))) mass-small (fall-small (omega arith)) (instant-in-bounds own (head-in-bounds own above (feet-in-bounds above)) m l)
+  -- along the reach
+  along-ranged : (demands : ℕ) (oxygen : ℤ) → (HeadBounded card up → AlongBounded card up demands oxygen) → Ranged (ofℕ demands) (ofℤ oxygen) (ofℕ (20000000 + (1 + levels up)))
+  along-ranged demands oxygen bounds =
+      bounded-ranged (ofℕ (reachFlow card up)) (ofℕ demands) (ofℤ oxygen) (ofℕ (1000 * reachMass card up)) (ofℕ (fall (1 + levels up) * reachFlow card up)) (ofℕ (20000000 + (1 + levels up))) (positive-whole (flow-remains (own .flows))) mass-small (fall-small (omega arith)) (bounds (head-in-bounds own above (feet-in-bounds above)))
 
 -- the same of whole numbers
 pub record Range (demands : ℕ) (oxygen : ℤ) : Type 0 where
@@ -341,4 +356,9 @@ module _ {card : Card} {up : Feeders} (own : AcceptedReach card up) (above : All
   head-range = whole-range (demandsAtHead card up) (oxygenAtHead card up) (levels up) (omega arith) (head-ranged own above shallow)
 
   pub instant-range : (m : ℕ) → m ≤ foot → Range (demandsAt card up m) (oxygenAt card up m)
-  instant-range m l = whole-range (demandsAt card up m) (oxygenAt card up m) (1 + levels up) shallow (instant-ranged own above shallow m l)
+  instant-range m l =
+      whole-range (demandsAt card up m) (oxygenAt card up m) (1 + levels up) shallow (along-ranged own above shallow (demandsAt card up m) (oxygenAt card up m) (λ head. instant-in-bounds own head m l))
+
+  -- mean oxygen likewise
+  pub mean-oxygen-range : Range 0 (meanOxygen card up)
+  mean-oxygen-range = whole-range 0 (meanOxygen card up) (1 + levels up) shallow (along-ranged own above shallow 0 (meanOxygen card up) (mean-in-bounds own))

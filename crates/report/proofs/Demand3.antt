@@ -30,7 +30,7 @@ all-three : {b bx n nx o ox e : Fraction} → Near b bx n nx o ox e → distance
 all-three {b} {bx} {n} {nx} {o} {ox} {e} k =
     certify (distance b bx ∷ distance n nx ∷ distance o ox ∷ k .bod-error ∷ k .nitrogenous-error ∷ k .oxygen-error ∷ e ∷ []) (slack (within→distance (k .bod-near)) ⊞ slack (within→distance (k .nitrogenous-near)) ⊞ slack (within→distance (k .oxygen-near)) ⊞ slack (k .together)) (search quote depth 40 fits 9999) tt
 
-oxygen-within : {b bx n nx o ox e : Fraction} → Near b bx n nx o ox e → Within o ox e
+pub oxygen-within : {b bx n nx o ox e : Fraction} → Near b bx n nx o ox e → Within o ox e
 oxygen-within {b} {bx} {n} {nx} {o} {ox} {e} k =
     within-weaken (k .oxygen-near)
     (certify (k .bod-error ∷ k .nitrogenous-error ∷ k .oxygen-error ∷ e ∷ []) (bound-nonneg (small (k .bod-near)) ⊞ bound-nonneg (small (k .nitrogenous-near)) ⊞ slack (k .together)) (search quote depth 40 fits 9999) tt)
@@ -52,7 +52,7 @@ within-more {N} {card} {up} {f} {a} {b} h w =
     }
 
 -- the units that a river allows cover what a reach adds
-units-cover : (cards : List Card) → Covers (stepUnits cards)
+pub units-cover : (cards : List Card) → Covers (stepUnits cards)
 unfolding stepUnits
 units-cover cards = go (hasNitrification cards) (hasBed cards)
   where

@@ -1,6 +1,7 @@
 -- The entry's contract follows from its result and the buffer that it leaves: 0 is no refusal's result, and the figures read
 -- back from the bytes are those of the definitions, for which demand 3 holds. Assumes nothing.
 pub mod Numbers
+pub mod Signed
 use mathlib.Core.Path.{_≡_, refl, sym, ap, _∙_, subst}
 use mathlib.Core.List.{List, _++_}
 use Prim.Native.Nat.{ℕ, zero, suc, _-_, _≤_, _<_}
@@ -9,6 +10,7 @@ use native.Mathlib.Omega.{arith}
 use borrow.Author.Tests.{lt-ltb, le-ltb, le-leb, lt-leb, leb-true}
 use lib.Dec.{leb→le}
 use lib.IntN.{ℤ, pos, negsuc}
+use lib.Signed.{_≤ℤ_}
 use lib.ListN.{length, drop}
 use Rattle.river.specs.declared.card.Card.{Card}
 use Rattle.river.specs.declared.refusal.Refusal.{Refusal}
@@ -38,14 +40,17 @@ use Rattle.report.proofs.record.Rows.{Begins, stands}
 use Rattle.report.proofs.Entry.Numbers.{Numbered, read-refusal, report-numbered}
 
 -- two's complement holds the oxygen of an accepted river
-complement-back : {b : ℕ} (z : ℤ) → Range b z → fromComplement (complement z) ≡ z
+pub complement-in-range : (z : ℤ) → negsuc 1_640_000_383 ≤ℤ z → z ≤ℤ pos 20_000_128 → fromComplement (complement z) ≡ z
 unfolding complement fromComplement
-complement-back (pos n) r =
-    let h : n ≤ 20_000_128 = leb→le n 20_000_128 (r .oxygen-high .le) in
+complement-in-range (pos n) low high =
+    let h : n ≤ 20_000_128 = leb→le n 20_000_128 (high .le) in
     rw (lt-ltb n storedZero (omega arith))
-complement-back (negsuc n) r =
-    let h : n ≤ 1_640_000_383 = leb→le n 1_640_000_383 (r .oxygen-low .le) in
+complement-in-range (negsuc n) low high =
+    let h : n ≤ 1_640_000_383 = leb→le n 1_640_000_383 (low .le) in
     rw (le-ltb (storedLimit - n) storedZero (omega arith)) (ap negsuc (omega arith))
+
+complement-back : {b : ℕ} (z : ℤ) → Range b z → fromComplement (complement z) ≡ z
+complement-back z r = complement-in-range z (r .oxygen-low) (r .oxygen-high)
 
 writable : {cards : List Card} → IsRiver cards → (i : ℕ) → i < length cards → Writable (hasNitrification cards) (figuresAt cards (suc i))
 unfolding figuresOf oxygenAt
@@ -157,7 +162,7 @@ module _ {file : List ℕ} {r : Acceptance} (h : Accepts file r) where
   file-refused room e =
       after-refused (acceptFile file) _ (sym (h .answer) ∙ ap (λ (o : Outcome). outcomeOf o (cardList (r .cards))) e)
 
-  file-accepted : r .outcome ≡ Outcome.Accepted → acceptFile file ≡ accepted (cardList (r .cards))
+  pub file-accepted : r .outcome ≡ Outcome.Accepted → acceptFile file ≡ accepted (cardList (r .cards))
   file-accepted e = sym (h .answer) ∙ ap (λ (o : Outcome). outcomeOf o (cardList (r .cards))) e
 
   pub file-short :

@@ -3,4 +3,5 @@ pub mod Floor
 pub mod Head
 pub mod Instant
 pub mod Exact
+pub mod Formula
 pub mod Bed

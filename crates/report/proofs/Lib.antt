@@ -2,6 +2,7 @@
 pub mod Forest
 pub mod Facts
 pub mod NitrificationRows
+pub mod MeanRows
 pub mod Lowest
 pub mod Ties
 pub mod Bounds
@@ -10,11 +11,14 @@ pub mod Accuracy
 pub mod UnitRows
 pub mod Demand3
 pub mod River
+pub mod MeanOxygen
 pub mod Orders
 pub mod NoNitrification
 pub mod Entry
+pub mod Means
 pub mod Reported
 pub mod Rewrite
 pub mod Size
 pub mod Bench
 pub mod Refutations
+pub mod MeanRefutation

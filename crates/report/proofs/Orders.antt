@@ -1,4 +1,4 @@
--- The order of refusals in reporting: a rule of reading or of the flow check, then the length of the buffer.
+-- The order of refusals in reporting and of means: a rule of reading or of the flow check, then the length of the buffer, then the volume.
 -- Computed from the definitions, and named by the laws of the entry, so that these rows are checked first.
 use mathlib.Core.Path.{_≡_, refl}
 use mathlib.Core.List.{[], _∷_}
@@ -11,6 +11,7 @@ use Rattle.river.specs.Read.{readHeader, readReach, readReaches, readRest, read
 use Rattle.river.specs.Write.{encode}
 use Rattle.river.specs.Flow.{flowOf, massOf, feedersAmong, joinedIf, flowCheck, checksFrom, reachChecks}
 use Rattle.river.specs.Accept.{acceptFile}
+use Rattle.report.specs.Mean.{meanAnswer, meanRoomAnswer}
 use Rattle.report.specs.Report.{reportAnswer, roomAnswer}
 
 pub record Reporting : Type 0 where
@@ -18,8 +19,11 @@ pub record Reporting : Type 0 where
   pub file-and-room : reportAnswer [] 0 ≡ refused (refuse 1 0)
   -- a reach without water
   pub flow-and-room : reportAnswer (encode (riverOf AsGiven (blank ∷ []))) 0 ≡ refused (refuse 7 1)
+  -- the same for means
+  pub file-and-means : meanAnswer [] 0 ≡ refused (refuse 1 0)
+  pub flow-and-means : meanAnswer (encode (riverOf AsGiven (blank ∷ []))) 0 ≡ refused (refuse 7 1)
 
--- THEOREM: who breaks a rule of reading or of the flow check gets its number, not 12
+-- THEOREM: who breaks a rule of reading or of the flow check gets its number, not 12 or 16
 pub reporting-order : Reporting
-unfolding reportAnswer acceptFile readFile readRest readHeader readReaches readReach readOptionals readOptional cardAt encode countOk inRange outletOk need after choose flowCheck checksFrom reachChecks flowOf massOf feedersAmong joinedIf
-reporting-order = record { file-and-room = refl; flow-and-room = refl }
+unfolding meanAnswer meanRoomAnswer reportAnswer acceptFile readFile readRest readHeader readReaches readReach readOptionals readOptional cardAt encode countOk inRange outletOk need after choose flowCheck checksFrom reachChecks flowOf massOf feedersAmong joinedIf
+reporting-order = record { file-and-room = refl; flow-and-room = refl; file-and-means = refl; flow-and-means = refl }

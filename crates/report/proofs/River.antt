@@ -55,24 +55,25 @@ no-rate : {k volume : ℕ} → (k ≡ 0) ⊎ (volume ≡ 0) → k * volume ≡ 0
 no-rate {k} {volume} (inl e) = rw (e, zero-mul)
 no-rate {k} {volume} (inr e) = rw (e, mul-zero)
 
-no-decay : (card : Card) → NoChange card → (d : Demand) → rateOf d card * card .volume ≡ 0
+pub no-decay : (card : Card) → NoChange card → (d : Demand) → rateOf d card * card .volume ≡ 0
 no-decay card (inl (h, n, k, s)) Bod = no-rate (inl h)
 no-decay card (inl (h, n, k, s)) Nitrogenous = no-rate (inl n)
 no-decay card (inr h) d = no-rate (inr h)
 
-no-aeration : (card : Card) → NoChange card → card .k2 * card .volume ≡ 0
+pub no-aeration : (card : Card) → NoChange card → card .k2 * card .volume ≡ 0
 no-aeration card (inl (h, n, k, s)) = no-rate (inl k)
 no-aeration card (inr h) = no-rate (inr h)
 
-no-demand : (card : Card) → NoChange card → sludgeOf card * card .volume ≡ 0
+pub no-demand : (card : Card) → NoChange card → sludgeOf card * card .volume ≡ 0
 no-demand card (inl (h, n, k, s)) = no-rate (inl s)
 no-demand card (inr h) = no-rate (inr h)
 
 module _ {cards : List Card} (river : IsRiver cards) (i : ℕ) (l : i < length cards) where
-  own : AcceptedReach (cardOf cards (suc i)) (above cards (suc i))
+  -- it and all above it are accepted
+  pub own : AcceptedReach (cardOf cards (suc i)) (above cards (suc i))
   own = reach-accepted cards (river .lawful) (river .flows) i l
 
-  water : AllAccepted (above cards (suc i))
+  pub water : AllAccepted (above cards (suc i))
   water = above-accepted cards (river .lawful) (river .flows) i (suc i) (le-of-lt l)
 
   -- the demands together from 0 to 1,000,000,000 and oxygen from -1,640,000,384 to 20,000,128, and no more than 1,640,000,384 below them

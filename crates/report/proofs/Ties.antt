@@ -1,4 +1,5 @@
--- The ties along a reach: a demand lies from 0 to its head value, and where nothing decays or is aerated the figures stay to the unit.
+-- The ties along a reach: a demand lies from 0 to its head value, and where nothing decays or is aerated the figures stay to the unit, and so does
+-- mean oxygen.
 use mathlib.Core.Path.{_≡_, refl, sym, _∙_, ap}
 use Prim.Native.Nat.{ℕ, _+_, _*_, _/_, _≤_}
 use native.Mathlib.Nat.{mul-div-cancel-left, zero-mul, add-zero}
@@ -6,11 +7,13 @@ use native.Mathlib.Omega.{arith}
 use lib.Dec.{lit<}
 use lib.IntN.{ℤ, pos, negℤ, _+ℤ_, _-ℤ_, +ℤ-assoc, +ℤ-idl, +ℤ-invr, negℤ-negℤ, negℤ-+ℤ}
 use Rattle.decay.specs.Fixed.{one, product}
-use Rattle.decay.specs.Step.{stepOf}
+use Rattle.decay.specs.Step.{stepOf, meanStepOf}
 use Rattle.decay.specs.Factors.{SoundStep, AreShares, demandFrom, headFactors, factorsAt}
 use Rattle.decay.proofs.fixed.Digits.{one-pos, shares-below}
 use Rattle.decay.proofs.step.Shares.{step-sound, step-loses-nothing}
 use Rattle.decay.proofs.factors.Instants.{range, demand-range, demand-kept, bod-tie, deficit-tie}
+use Rattle.decay.proofs.step.MeanShares.{mean-step-sound, mean-fills, mean-loses-nothing}
+use Rattle.decay.proofs.mean.Averages.{mean-range, mean-demand-range, mean-demand-kept, mean-bod-tie, mean-deficit-tie}
 use Rattle.decay.specs.declared.factors.Factors.{Factors}
 use Rattle.river.specs.declared.card.Card.{Card}
 use Rattle.river.specs.Flow.{Feeders, reachFlow, reachDepth, sludgeOf}
@@ -18,12 +21,13 @@ use Rattle.river.specs.declared.source.Demand.{Demand}
 use Rattle.river.specs.declared.source.Demand.the-variants.{Bod, Nitrogenous}
 use Rattle.river.specs.Source.{rateOf}
 use Rattle.river.specs.Saturation.{saturationOf}
-use Rattle.report.specs.Bed.{bedOf, lossLimit}
+use Rattle.report.specs.Bed.{bedOf, lossLimit, LossInRange}
+use Rattle.report.specs.Mean.{middle, factorsMean, turnedMean, meanAlong, meanOxygen}
 use Rattle.report.specs.Program.{unitParts, oxygenWith, factorsAlong, partsAlong, demandAlong, turnedAlong, lossAlong, oxygenAlong, demandAt, oxygenAt, demandAtHead, oxygenAtHead, figuresOf, foot}
 use Rattle.report.proofs.NitrificationRows
 use Rattle.report.proofs.Lowest.{lowest-constant}
 use Rattle.report.proofs.Forest.{AcceptedReach, rates-pass, bed-passes}
-use Rattle.report.proofs.bed.Loss.{less-nothing, head-loss, tied-loss, loss-in-range, bed-in-range}
+use Rattle.report.proofs.bed.Loss.{less-nothing, head-loss, tied-loss, loss-in-range, mean-loss-in-range, bed-in-range}
 use Rattle.report.proofs.profile.Oxygen.{no-parts}
 use Rattle.report.proofs.Facts.Floor.{floor-multiple}
 
@@ -36,27 +40,43 @@ pub oxygen-stays : (f : Factors) (Cs L : ℕ) (C : ℤ) → f .turned ≡ 0 → 
 unfolding oxygenWith product
 oxygen-stays f Cs L C h k = rw (h, k, zero-mul, floor-multiple (pos Cs -ℤ C) one one-pos, add-zero) (back-again (pos Cs) C)
 
+-- and likewise where nothing nitrified and no loss to a bed are taken from it
+nothing-taken : (f : Factors) (Cs L : ℕ) (C : ℤ) {nitrified loss : ℕ} → f .turned ≡ 0 → f .kept ≡ one → nitrified ≡ 0 → loss ≡ 0 → oxygenWith f Cs L C -ℤ pos nitrified -ℤ pos loss ≡ C
+nothing-taken f Cs L C h k n z = less-nothing z ∙ less-nothing n ∙ oxygen-stays f Cs L C h k
+
 -- instant 0 is the head
 pub oxygen-at-head : (card : Card) (up : Feeders) → oxygenAt card up 0 ≡ oxygenAtHead card up
 unfolding oxygenAt oxygenAlong turnedAlong partsAlong lossAlong factorsAlong factorsAt headFactors demandFrom
 oxygen-at-head card up =
-    less-nothing (head-loss _ (bedOf card (reachFlow card up)) refl)
-    ∙ less-nothing no-parts
-    ∙ oxygen-stays _ (saturationOf card) (demandAtHead Bod card up) (oxygenAtHead card up) refl refl
+    nothing-taken _ (saturationOf card) (demandAtHead Bod card up) (oxygenAtHead card up) refl refl no-parts (head-loss _ (bedOf card (reachFlow card up)) refl)
 
--- the step of each demand of an accepted reach is sound, and its factors are shares of one
+-- the step of each demand of an accepted reach is sound, and so are the means over it; the factors are shares of one
 pub reach-step-sound : {card : Card} {up : Feeders} → AcceptedReach card up → (d : Demand) → SoundStep (stepOf (rateOf d card) (card .k2) (card .volume) (reachFlow card up))
 reach-step-sound {card} {up} a d = step-sound (rateOf d card) (card .k2) (card .volume) (reachFlow card up) (rates-pass a d)
+
+pub reach-mean-sound : {card : Card} {up : Feeders} → AcceptedReach card up → (d : Demand) → SoundStep (meanStepOf (rateOf d card) (card .k2) (card .volume) (reachFlow card up))
+reach-mean-sound {card} {up} a d = mean-step-sound (rateOf d card) (card .k2) (card .volume) (reachFlow card up) (rates-pass a d)
 
 pub factors-range : {card : Card} {up : Feeders} → AcceptedReach card up → (m : ℕ) → AreShares (factorsAlong card (reachFlow card up) m)
 unfolding factorsAlong
 factors-range a m = range (reach-step-sound a Bod) m
 
--- a bed takes at most its limit at every instant
+-- and so are their means
+pub mean-factors-range : {card : Card} {up : Feeders} → AcceptedReach card up → AreShares (factorsMean card (reachFlow card up))
+unfolding factorsMean
+mean-factors-range a = mean-range (reach-mean-sound a Bod) (reach-step-sound a Bod)
+
+-- a bed takes at most its limit at every instant, and on average
 pub loss-small : {card : Card} {up : Feeders} → AcceptedReach card up → (m : ℕ) → m ≤ foot → lossAlong card (reachFlow card up) m ≤ lossLimit
 unfolding lossAlong factorsAlong
 loss-small {card} {up} a m l =
     loss-in-range (reach-step-sound a Bod) (bed-in-range card (reachFlow card up) (rates-pass a Bod) (bed-passes a)) m l .loss
+
+pub mean-loss-range : {card : Card} {up : Feeders} → AcceptedReach card up → LossInRange (factorsMean card (reachFlow card up)) (bedOf card (reachFlow card up)) middle
+unfolding factorsMean
+mean-loss-range {card} {up} a =
+    let Q = reachFlow card up in
+    mean-loss-in-range (reach-mean-sound a Bod) (reach-step-sound a Bod) (mean-fills (card .k1) (card .k2) (card .volume) Q (rates-pass a Bod)) (bed-in-range card Q (rates-pass a Bod) (bed-passes a))
 
 -- the units of two numbers of parts are at most those of their sum
 units-below : (x y L : ℕ) → x + y ≤ unitParts * L → x / unitParts + y / unitParts ≤ L
@@ -74,6 +94,13 @@ module _ {card : Card} {up : Feeders} (a : AcceptedReach card up) where
   -- so that it lies from 0 to that, at the foot too
   pub demand-at-most-head : (d : Demand) (m : ℕ) → demandAt d card up m ≤ demandAtHead d card up
   demand-at-most-head d m = omega (arith, parts-within d m)
+
+  -- on average no more of both turns than there is at the head
+  pub mean-turned-within : product (factorsMean card (reachFlow card up) .turned) (demandAtHead Bod card up) + turnedMean card (reachFlow card up) (demandAtHead Nitrogenous card up) ≤ demandAtHead Bod card up + demandAtHead Nitrogenous card up
+  unfolding turnedMean
+  mean-turned-within =
+      let Ln = demandAtHead Nitrogenous card up in
+      omega (arith, shares-below _ _ (demandAtHead Bod card up) (mean-factors-range a .bod), units-below _ _ Ln (mean-demand-range (reach-mean-sound a Nitrogenous) (reach-step-sound a Nitrogenous) (unitParts * Ln)))
 
   -- its rate 0 or volume 0 keeps it, and none of it turns to deficit
   pub reach-demand-stays : (d : Demand) → rateOf d card * card .volume ≡ 0 → (m : ℕ) → demandAt d card up m ≡ demandAtHead d card up
@@ -106,9 +133,21 @@ module _ {card : Card} {up : Feeders} (a : AcceptedReach card up) where
     unfolding oxygenAt oxygenAlong lossAlong
     reach-oxygen-stays m =
         let kept = deficit-stays k m in
-        less-nothing (tied-loss card (reachFlow card up) _ m kept s)
-        ∙ less-nothing (nothing-nitrified (h Nitrogenous) m)
-        ∙ oxygen-stays _ (saturationOf card) (demandAtHead Bod card up) (oxygenAtHead card up) (nothing-turned (h Bod) m) kept
+        nothing-taken _ (saturationOf card) (demandAtHead Bod card up) (oxygenAtHead card up) (nothing-turned (h Bod) m) kept (nothing-nitrified (h Nitrogenous) m) (tied-loss card (reachFlow card up) _ m kept s)
+
+    -- and on average too
+    pub reach-mean-stays : meanOxygen card up ≡ oxygenAtHead card up
+    unfolding meanOxygen meanAlong factorsMean turnedMean
+    reach-mean-stays =
+        let Q = reachFlow card up in
+        let n = rateOf Nitrogenous card in
+        let mean = mean-loses-nothing n (card .k2) (card .volume) Q (rates-pass a Nitrogenous) (h Nitrogenous) in
+        let step = step-loses-nothing n (card .k2) (card .volume) Q (rates-pass a Nitrogenous) (h Nitrogenous) in
+        let kept = mean-deficit-tie (card .k1) (card .k2) (card .volume) Q (rates-pass a Bod) k in
+        let nitrified : turnedMean card Q (demandAtHead Nitrogenous card up) ≡ 0 =
+        rw (mean-demand-kept (meanStepOf n (card .k2) (card .volume) Q) (stepOf n (card .k2) (card .volume) Q) (mean .0) (mean .1) (step .0) (step .1) (unitParts * demandAtHead Nitrogenous card up)) no-parts
+        in
+        nothing-taken _ (saturationOf card) (demandAtHead Bod card up) (oxygenAtHead card up) (mean-bod-tie (card .k1) (card .k2) (card .volume) Q (rates-pass a Bod) (h Bod) .1) kept nitrified (tied-loss card Q _ middle kept s)
 
     -- and then the figures are those of the head, and the head is critical
     pub still-figures :

@@ -1,6 +1,7 @@
 pub mod Bed
 pub mod Program
 pub mod Recurrence
+pub mod ExactMean
 pub mod Distance
 pub mod Ties
 pub mod Locality
@@ -9,3 +10,5 @@ pub mod Record
 pub mod Report
 pub mod Rewrite
 pub mod Lines
+pub mod Mean
+pub mod MeanLines

@@ -17,12 +17,13 @@ use Rattle.river.specs.declared.source.Demand.{Demand}
 use Rattle.river.specs.Card.{Lawful}
 use Rattle.river.specs.Source.{rateOf}
 use Rattle.river.specs.Saturation.{SaturationInRange}
-use Rattle.river.specs.Flow.{Flows, cardOf, flowAt, massAt}
+use Rattle.river.specs.declared.source.Demand.the-variants.{Bod, Nitrogenous}
+use Rattle.river.specs.Flow.{Flows, cardOf, above, flowAt, massAt}
 use Rattle.river.specs.FlowTable.{Tabled}
 use Rattle.river.specs.HeadTable.{demandLimit, footOf, broughtTo, FootWithin, Carried}
-use Rattle.river.specs.Stored.{storedOf}
+use Rattle.river.specs.Stored.{oxygenOf, storedOf}
 use Rattle.report.specs.Bed.{BedPasses, lossLimit}
-use Rattle.report.specs.Program.{figuresAt}
+use Rattle.report.specs.Program.{demandAtHead, oxygenAtHead, figuresAt}
 use Rattle.report.specs.Record.{hasNitrification, Figures, figuresIn, recordSize}
 use Rattle.report.specs.Report.{recordOf}
 use Rattle.report.specs.declared.record.Line.{Line}
@@ -74,6 +75,18 @@ pub record LineAt (card : Card) (flow depth : ℕ) (sums : Brought) : Type 0 whe
   pub flow-is : flow ≡ getD (flows .flow) i 0
   pub depth-is : depth ≡ getD (flows .depth) i 0
   pub sums-are : sums ≡ broughtTo (flows .outlet) (feet .bod) (feet .nitrogenous) (feet .oxygen) i
+
+-- the head of reach i + 1: each demand and oxygen, in the ranges that a line asks, and its demands are at most the undecayed BOD
+pub record HeadOfReach (cards : List Card) (i : ℕ) (head : Head) : Type 0 where
+  pub bod : head .bod ≡ demandAtHead Bod (cardOf cards (suc i)) (above cards (suc i))
+  pub nitrogenous : head .nitrogenous ≡ demandAtHead Nitrogenous (cardOf cards (suc i)) (above cards (suc i))
+  pub oxygen : oxygenOf (head .oxygen) ≡ oxygenAtHead (cardOf cards (suc i)) (above cards (suc i))
+  pub fits : HeadFits head
+  pub mass : flowAt cards (suc i) * (head .bod + head .nitrogenous) ≤ 1000 * massAt cards (suc i)
+
+-- for every such river the head is that of this reach
+abbrev pub HeadBy : Card → (flow depth : ℕ) → Brought → Head → Type 0
+HeadBy card flow depth sums head = (here : LineAt card flow depth sums) → HeadOfReach (here .cards) (here .i) head
 
 -- for every such river the line is that of this reach
 abbrev pub LineBy : Card → (flow depth : ℕ) → Brought → Line → Type 0

@@ -1,11 +1,14 @@
-// Reports of BOD and dissolved oxygen along the reaches of a river.
+// Reports of BOD and dissolved oxygen along the reaches of a river, and mean oxygen.
 pub mod bed;
 pub mod lines;
+pub mod mean;
 pub mod profile;
 pub mod record;
 
+use mean::RiverMean;
 use river::accept;
 use river::file::read_file;
+use river::head::STORED_ZERO;
 use river::refusal;
 use river::refusal::Outcome;
 use river::rewrite;
@@ -13,6 +16,8 @@ ghost use mathlib.Core.Path.{_≡_};
 ghost use Prim.Native.Nat.{_/_, _%_};
 ghost use Rattle.report.specs.Report.{Reports, TellsSize};
 ghost use Rattle.report.specs.Rewrite.{Rewrites};
+ghost use Rattle.report.specs.Mean.{Means};
+ghost use Rattle.river.specs.Stored.{oxygenOf};
 
 // The number of the refusal in a result.
 pub fn refusal_number(result: u32) -> u32
@@ -70,5 +75,37 @@ pub extern "C" fn xylandreo_rewrite(file: &[u8], out: &mut [u8]) -> u32
     match rewrite::rewrite(file, out) {
         Outcome::Refused(r) => refusal::code(r),
         Outcome::Accepted => 0,
+    }
+}
+
+// Stored units as a signed number.
+fn signed(stored: u32) -> i32
+    ensures { λ r. ⌜ r ≡ oxygenOf stored ⌝ }
+{
+    (stored as i64 - STORED_ZERO as i64) as i32
+}
+
+// Puts the mean oxygen of each reach of a river file in a lent buffer, and the mean of the river weighted by volume in two lent numbers, as whole units
+// and a remainder: 0, or the number and 256 times the reach of a refusal, which touches neither the buffer nor the numbers.
+#[no_mangle]
+pub extern "C" fn xylandreo_mean(
+    file: &[u8],
+    means: &mut [u8],
+    units: &mut i32,
+    remainder: &mut u64,
+) -> u32
+    ensures { λ r. ⌜ Means (now (file .entry)) (now (means .entry)) (now (means .exit)) (now (units .entry)) (now (units .exit)) (now (remainder .entry)) (now (remainder .exit)) r ⌝ }
+{
+    let answer = mean::mean(file, means);
+    match answer {
+        RiverMean::Refused(r) => refusal::code(r),
+        RiverMean::Weighed {
+            units: stored,
+            remainder: rest,
+        } => {
+            *units = signed(stored);
+            *remainder = rest;
+            0
+        }
     }
 }

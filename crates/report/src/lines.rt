@@ -26,7 +26,7 @@ ghost use Rattle.river.specs.Source.{rateOf};
 ghost use Rattle.river.specs.Stored.{oxygenOf};
 ghost use Rattle.report.specs.Program.{figuresBelow};
 ghost use Rattle.report.specs.Record.{figuresIn};
-ghost use Rattle.report.specs.Lines.{Ready, LineReady, HeadFits, LineAt, LineBy, PlacedAt, ReportedBy};
+ghost use Rattle.report.specs.Lines.{Ready, LineReady, HeadFits, LineAt, HeadBy, LineBy, PlacedAt, ReportedBy};
 ghost use Rattle.report.specs.Report.{reportOf, reportSize};
 
 // The step of the nitrogenous demand of a reach, beside that of its BOD. Its share filled is that of BOD, so that a walk holds one number for both.
@@ -58,6 +58,7 @@ pub fn line_of(card: Card, flow: u32, depth: u8, head: Head) -> Line
 {
     let step = step::step_of(card.k1, card.k2, card.volume, flow);
     let other = nitrogenous_step(card, flow, step);
+    let bed = bed::bed_of(card, flow);
     let saturation = head::saturation_of(card);
     let start = Start {
         bod: head.bod as u64,
@@ -65,7 +66,6 @@ pub fn line_of(card: Card, flow: u32, depth: u8, head: Head) -> Line
         oxygen: head.oxygen as u64,
         saturation: saturation as u64,
     };
-    let bed = bed::bed_of(card, flow);
     let profile = profile::profile_of(step, other, start, bed);
     Line {
         depth,
@@ -81,13 +81,21 @@ pub fn line_of(card: Card, flow: u32, depth: u8, head: Head) -> Line
     }
 }
 
+// The head of a reach, from its card, its flow and depth, and what its feeders bring.
+pub fn head_at(card: Card, flow: u64, depth: u8, sums: Brought) -> Head
+    requires { ⌜ LineAt card flow depth sums ⌝ }
+    ensures { λ r. ⌜ HeadBy card flow depth sums r ⌝ }
+{
+    let qu = head::upstream_flow(card, flow);
+    head::head_of(card, 1 < depth, qu, sums)
+}
+
 // The figures of a reach, from its card, its flow and depth, and what its feeders bring.
 pub fn line_at(card: Card, flow: u64, depth: u8, sums: Brought) -> Line
     requires { ⌜ LineAt card flow depth sums ⌝ }
     ensures { λ r. ⌜ LineBy card flow depth sums r ⌝ }
 {
-    let qu = head::upstream_flow(card, flow);
-    let head = head::head_of(card, 1 < depth, qu, sums);
+    let head = head_at(card, flow, depth, sums);
     line_of(card, flow as u32, depth, head)
 }
 

@@ -18,7 +18,7 @@ ghost use Rattle.report.specs.Profile.{StartInRange, Begun, noStep, star
 ghost use Rattle.river.specs.Stored.{oxygenOf, Stores};
 
 // Nitrogenous BOD is stepped in parts of a unit, so that no product is needed for its units.
-const UNIT_PARTS: u64 = 16_384;
+pub const UNIT_PARTS: u64 = 16_384;
 
 // What a reach starts with: head BOD, head nitrogenous BOD, stored head oxygen and saturation. Oxygen is stored as its units plus 2^31.
 pub struct Start {
@@ -277,10 +277,10 @@ pub fn walk_alone(step: Step, start: Start, bed: Bed) -> Walk
     requires { ⌜ SoundStep step × StartInRange start × BedInRange step bed ⌝ }
     ensures { λ r. ⌜ WalkedTo step noStep start bed foot r ⌝ }
 {
-    if takes(bed) {
-        walk_over(step, start, bed)
-    } else {
+    if !takes(bed) {
         walk_down(step, start)
+    } else {
+        walk_over(step, start, bed)
     }
 }
 
@@ -291,10 +291,11 @@ pub fn profile_alone(step: Step, start: Start, bed: Bed) -> Profile
 {
     let walk = walk_alone(step, start, bed);
     let f = walk.factors;
+    let foot_oxygen = oxygen_over(f, start, bed, factors::FOOT);
     Profile {
         foot_bod: fixed::product(f.left, start.bod),
         foot_nitrogenous: start.nitrogenous,
-        foot_oxygen: oxygen_over(f, start, bed, factors::FOOT),
+        foot_oxygen,
         critical_instant: walk.instant,
         critical_oxygen: walk.lowest,
     }

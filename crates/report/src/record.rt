@@ -106,7 +106,7 @@ pub fn complement(oxygen: u32) -> u32
 }
 
 // Puts stored oxygen in two's complement.
-fn put_complement(report: &mut [u8], at: usize, oxygen: u32) -> usize
+pub fn put_complement(report: &mut [u8], at: usize, oxygen: u32) -> usize
     requires { ⌜ at + 4 ≤ length (now report) ⌝ }
     ensures { λ r. ⌜ Put (now (report .entry)) at (fourBytes (complement (oxygenOf oxygen))) (now (report .exit)) r ⌝ }
 {

@@ -1,5 +1,5 @@
 -- Texts of the river file paper, computed from the definitions: both lines of the printing program's example, also with takes, a pressure and ammonia, and its
--- refusal; a line with nitrification and without; and a few numbers.
+-- refusal; a line with nitrification and without; the lines of a mean and of a river, and the refusal of a river without volume; and a few numbers.
 use mathlib.Core.Path.{_≡_, refl}
 use mathlib.Core.Bool.{true, false}
 use lib.IntN.{pos, negsuc}
@@ -12,6 +12,7 @@ use Rattle.report.proofs.Bench.{bench, laden}
 use Rattle.report.proofs.record.Bytes.{small}
 use Rattle.report.specs.Record.{nitrifies, isNitrified, hasNitrification}
 use Rattle.text.specs.Text.{ascii, digitsBy, decimal, number, signed, afterWord, line, numbersOf, reachLine, linesOf, refusalLine, textOf}
+use Rattle.text.specs.MeanText.{meanLine, riverLine, meanTextOf}
 
 pub record Rows : Type 0 where
   pub example :
@@ -27,6 +28,9 @@ pub record Rows : Type 0 where
   pub without : reachLine false 7 small ≡ ascii "7 1 2 3 256 4 257 -1 -2\n"
   pub nitrified : reachLine true 7 small ≡ ascii "7 1 2 3 256 4 257 -1 -2 65541 6\n"
   pub refusal : textOf (refused (refuse 5 2)) ≡ ascii "refused 5 reach 2\n"
+  pub mean : meanLine 128 (negsuc 11) ≡ ascii "128 -12\n"
+  pub river-mean : riverLine (record { units = negsuc 8; remainder = 3 }) ≡ ascii "river -9 3\n"
+  pub no-volume : meanTextOf (refused (refuse 16 0)) ≡ ascii "refused 16 reach 0\n"
   pub zero : signed (pos 0) ≡ ascii "0"
   pub ten : signed (pos 10) ≡ ascii "10"
   pub below-zero : signed (negsuc 0) ≡ ascii "-1"
@@ -34,7 +38,7 @@ pub record Rows : Type 0 where
 
 -- THEOREM: the worked example, a refusal and some numbers as they are printed, a row each
 pub text-bench : Rows
-unfolding nitrifies isNitrified hasNitrification textOf linesOf refusalLine line afterWord numbersOf signed number decimal digitsBy
+unfolding nitrifies isNitrified hasNitrification textOf linesOf meanLine riverLine meanTextOf refusalLine line afterWord numbersOf signed number decimal digitsBy
 text-bench =
     record {
       example = rw (bench .line-1, bench .line-2);
@@ -45,6 +49,9 @@ text-bench =
       without = refl;
       nitrified = refl;
       refusal = refl;
+      mean = refl;
+      river-mean = refl;
+      no-volume = refl;
       zero = refl;
       ten = refl;
       below-zero = refl;

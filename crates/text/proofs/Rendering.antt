@@ -26,7 +26,7 @@ use Rattle.report.specs.Record.{hasNitrification, Figures, plainBytes, recordBy
 use Rattle.report.specs.Report.{reportAnswer, Reports, TellsSize}
 use Rattle.report.proofs.Size.{nitrification-in-force}
 use Rattle.report.proofs.record.Encoding.{record-bounds}
-use Rattle.text.specs.Text.{reachLine, linesOf, refusalLine, textOf, Renders}
+use Rattle.text.specs.Text.{reachLine, linesOf, refusalLine, textOf, Rendered}
 use Rattle.text.specs.Held.{recorded, PutWithin}
 
 -- equal figures have equal lines
@@ -84,13 +84,13 @@ module _ {file : List ℕ} (bytes : AreBytes file) where
 
 -- a text that is put at the start of a buffer
 pub renders :
-    {file before after text : List ℕ} {most r : ℕ} →
+    {before after text due : List ℕ} {most r : ℕ} →
     PutWithin most before 0 text after r →
-    text ≡ textOf (acceptFile file) →
+    text ≡ due →
     most ≤ length before →
     length after ≡ length before →
-    Renders file before after r × Counts r after
-renders {file} {before} {after} {text} {most} {r} p e fits same =
+    Rendered due before after r × Counts r after
+renders {before} {after} {text} {due} {most} {r} p e fits same =
     let size : r ≡ length text = omega (arith, p .put .place) in
     let short : r ≤ length before = omega (arith, p .within) in (
       record {

@@ -1,12 +1,14 @@
 -- How the program holds what it prints on the way to a text: numbers stored as oxygen is, the figures in the records of a report,
--- and words put into a buffer. `Renders` names none of this.
+-- the means in their bytes, and words put into a buffer. `Renders` and `RendersMeans` name none of this.
 use mathlib.Core.Bool.{Bool, cond}
 use mathlib.Core.List.{List, map}
 use Prim.Native.Nat.{ℕ, pred, _+_, _≤_}
+use lib.IntN.{ℤ}
 use lib.ListN.{getD}
 use Rattle.river.specs.Bytes.{Put}
 use Rattle.river.specs.Stored.{oxygenOf}
 use Rattle.report.specs.Record.{Figures, recordBytes, recordAt, readRecord}
+use Rattle.report.specs.Mean.{meanRead}
 use Rattle.text.specs.Text.{signed}
 
 -- the word of stored number i, and all words of some stored numbers
@@ -27,6 +29,18 @@ longestLine = 242
 -- the figures of reach i in a report, by whether its river has nitrification
 abbrev pub recorded : (nitrified : Bool) → List ℕ → ℕ → Figures
 recorded nitrified report i = readRecord nitrified (recordAt (recordBytes nitrified) report (pred i))
+
+-- the bytes of the line of a reach and its mean at most, and of the line of the river: `river`, a sign, 20 digits twice, and what stands
+-- after each word
+abbrev pub longestMeanLine : ℕ
+longestMeanLine = 44
+
+abbrev pub longestRiverLine : ℕ
+longestRiverLine = 49
+
+-- the mean of reach i among the bytes of means
+abbrev pub meanHeld : (means : List ℕ) → ℕ → ℤ
+meanHeld means i = meanRead means (pred i)
 
 -- a word of at most so many bytes is put at a place of a buffer, and the rest of it is kept; the next place is behind the word
 pub record PutWithin (most : ℕ) (before : List ℕ) (at : ℕ) (word left : List ℕ) (next : ℕ) : Type 0 where

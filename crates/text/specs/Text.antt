@@ -83,8 +83,12 @@ unfoldable pub textOf : Answer (List Card) → List ℕ
 textOf (accepted cards) = linesOf (hasNitrification cards) (figuresAt cards) (length cards)
 textOf (refused r) = refusalLine (r .number) (r .reach)
 
--- a call on a river file, with the buffer before and after: it returns the length of the text, which stands at the buffer's start,
+-- a call that puts a text, with the buffer before and after: it returns the length of the text, which stands at the buffer's start,
 -- and the bytes past it keep their contents
-pub record Renders (file before after : List ℕ) (result : ℕ) : Type 0 where
-  pub size : result ≡ length (textOf (acceptFile file))
-  pub buffer : after ≡ textOf (acceptFile file) ++ drop result before
+pub record Rendered (text before after : List ℕ) (result : ℕ) : Type 0 where
+  pub size : result ≡ length text
+  pub buffer : after ≡ text ++ drop result before
+
+-- a call on a river file
+abbrev pub Renders : (file before after : List ℕ) (result : ℕ) → Type 0
+Renders file before after result = Rendered (textOf (acceptFile file)) before after result

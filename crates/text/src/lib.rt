@@ -1,13 +1,20 @@
-// The text of a river's report: a line for each reach, or the refusal.
+// The text of a river's report, a line for each reach, and of its means, with a line for the river too; or the refusal.
 mod line;
+pub mod means;
 mod put;
 
 use line::NUMBERS;
 use line::number_count;
 use line::numbers_of;
+use means::MEAN_NUMBERS;
+use means::RIVER_LINE;
+use means::put_means;
+use means::stored;
+use put::LONGEST_NUMBER;
 use put::put_line;
 use put::put_number;
 use put::put_word;
+use report::mean::MEAN_SIZE;
 use report::record::Line;
 use report::record::RN_SIZE;
 use report::record::RP_SIZE;
@@ -20,6 +27,7 @@ ghost use lib.ListN.{length};
 ghost use Rattle.io.specs.Counts.{Counts};
 ghost use Rattle.report.specs.Record.{recordBytes, figuresIn};
 ghost use Rattle.text.specs.Text.{reachLine, linesOf, refusalLine, Renders};
+ghost use Rattle.text.specs.MeanText.{RendersMeans};
 ghost use Rattle.text.specs.Held.{longestLine, recorded, PutWithin};
 
 // One byte past the longest lawful file, so that a longer one is seen to be too long.
@@ -31,8 +39,14 @@ const COUNT_AT: usize = 2;
 // The longest report: the records of 128 reaches, each of both kinds.
 const REPORT: usize = REACHES * (RP_SIZE + RN_SIZE);
 
-// Room for the longest text: 128 lines of eleven numbers, of 22 bytes at most with a sign and what stands after the number.
-pub const TEXT: usize = REACHES * NUMBERS * 22;
+// Room for the longest text: 128 lines of eleven numbers.
+pub const TEXT: usize = REACHES * NUMBERS * LONGEST_NUMBER;
+
+// The means of 128 reaches.
+const MEANS: usize = REACHES * MEAN_SIZE;
+
+// Room for the longest text of means: 128 lines of two numbers, and the line of the river.
+pub const MEANS_TEXT: usize = REACHES * MEAN_NUMBERS * LONGEST_NUMBER + RIVER_LINE;
 
 // Puts the line of a reach with these figures, by whether its river has nitrification.
 fn put_reach(out: &mut [u8], at: usize, nitrified: bool, reach: u32, line: Line) -> usize
@@ -88,4 +102,40 @@ pub fn render(file: &[u8], out: &mut [u8; TEXT]) -> usize
             report::refusal_reach(result),
         )
     }
+}
+
+// Puts the text of the means for a river file, by a call that is lent a buffer for them and two numbers for the mean of the river.
+fn put_answer(
+    file: &[u8],
+    out: &mut [u8; MEANS_TEXT],
+    means: &mut [u8; MEANS],
+    units: &mut i32,
+    remainder: &mut u64,
+) -> usize
+    ensures { λ r. ⌜ RendersMeans (now (file .entry)) (now (out .entry)) (now (out .exit)) r ⌝ }
+    ensures { λ r. ⌜ Counts r (now (out .exit)) ⌝ }
+{
+    let result = report::xylandreo_mean(file, means, units, remainder);
+    if result == 0 {
+        let count = two_at(file, COUNT_AT) as usize;
+        let mean = stored(*units) as u64;
+        put_means(out, means, count, mean, *remainder)
+    } else {
+        put_refusal(
+            out,
+            report::refusal_number(result),
+            report::refusal_reach(result),
+        )
+    }
+}
+
+// Puts the text of the means for a river file at the start of a buffer, and returns its length.
+pub fn render_means(file: &[u8], out: &mut [u8; MEANS_TEXT]) -> usize
+    ensures { λ r. ⌜ RendersMeans (now (file .entry)) (now (out .entry)) (now (out .exit)) r ⌝ }
+    ensures { λ r. ⌜ Counts r (now (out .exit)) ⌝ }
+{
+    let mut means = [0u8; MEANS];
+    let mut units: i32 = 0;
+    let mut remainder: u64 = 0;
+    put_answer(file, out, &mut means, &mut units, &mut remainder)
 }

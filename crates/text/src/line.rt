@@ -17,7 +17,7 @@ pub const NUMBERS: usize = 11;
 const PLAIN_NUMBERS: usize = 9;
 
 // A number from zero on.
-fn plain(n: u32) -> u64
+pub fn plain(n: u32) -> u64
     ensures { λ r. ⌜ oxygenOf r ≡ pos n ⌝ }
 {
     STORED_ZERO_WIDE + n as u64

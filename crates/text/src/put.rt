@@ -7,6 +7,9 @@ ghost use Rattle.river.specs.Stored.{oxygenOf};
 ghost use Rattle.text.specs.Text.{number, signed, afterWord, line};
 ghost use Rattle.text.specs.Held.{wordAt, wordsOf, PutWithin};
 
+// The bytes of a number in a line at most: 20 digits, a sign and what stands after the number.
+pub const LONGEST_NUMBER: usize = 22;
+
 // Puts a word.
 pub fn put_word(out: &mut [u8], at: usize, word: &[u8]) -> usize
     requires { ⌜ at + length (now word) ≤ length (now out) ⌝ }
@@ -33,7 +36,7 @@ pub fn put_number(out: &mut [u8], at: usize, n: u64) -> usize
 }
 
 // Puts a stored number in decimal, with a minus sign below zero.
-fn put_signed(out: &mut [u8], at: usize, stored: u64) -> usize
+pub fn put_signed(out: &mut [u8], at: usize, stored: u64) -> usize
     requires { ⌜ at + 21 ≤ length (now out) ⌝ }
     ensures { λ r. ⌜ PutWithin 21 (now (out .entry)) at (signed (oxygenOf stored)) (now (out .exit)) r ⌝ }
 {

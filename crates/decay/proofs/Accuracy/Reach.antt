@@ -8,7 +8,9 @@ use Rattle.decay.specs.Fraction.{Fraction, ofℕ, ofℤ, over, _+ᶠ_, -
 use Rattle.decay.specs.Exact.{power, factorial, exponent, S, F}
 use Rattle.decay.specs.Fixed.{small}
 use Rattle.decay.specs.Step.{RatesPass, exponentOf, seriesOf, stepOf}
+use Rattle.decay.specs.Factors.{SoundStep}
 use Rattle.decay.specs.Promise.{share}
+use Rattle.decay.specs.declared.step.Step.{Step}
 use Rattle.decay.proofs.Algebra.{≈-sym, ≈-trans, ring-by, _⋅_, _&_, none, quote, ≼-of-≈, ≼-trans, Nonneg, slack, number, _⊞_, _⊠_, multiple, certify, certify-times, positive-whole, ÷-cancel-pos, ofℕ-≈, Within}
 use Rattle.decay.proofs.step.Shares.{exponent-small, step-sound}
 use Rattle.decay.proofs.Accuracy.Units.{eps, eps-nonneg, share-nonneg, share-mono, share-one, Below, exponent-below}
@@ -26,7 +28,7 @@ small-exponent : (k v Q : ℕ) → k * v ≤ 345600 * Q → ofℕ 256 *ᶠ expon
 small-exponent k v Q h =
     certify (exponent k v Q 1 ∷ (ofℕ 1 ÷ ofℕ 256) ∷ []) (number 256 ⊠ slack (exponent-step k v Q h) ⊞ multiple (ofℕ 1) (÷-cancel-pos (ofℕ 1) (positive-whole {n = 256} (lit< tt)))) (search quote depth 40 fits 9999) tt
 
-exact-terms : (y z : Fraction) → ExactTerms y z (e y) (d y z)
+pub exact-terms : (y z : Fraction) → ExactTerms y z (e y) (d y z)
 exact-terms y z =
     record {
       e-first = ring-by (y ∷ e y 0 ∷ e y 1 ∷ []) (ofℕ 1 ⋅ e-suc y 0 & y ⋅ e-zero y & none) (search quote depth 40 fits 9999) tt;
@@ -38,11 +40,11 @@ exact-terms y z =
 
 -- ---- the tails of the series are small against a unit
 
-tail-S : ofℕ 64 *ᶠ (ofℕ 1 ÷ ofℕ (2 ^ 56)) ≼ eps
+pub tail-S : ofℕ 64 *ᶠ (ofℕ 1 ÷ ofℕ (2 ^ 56)) ≼ eps
 unfolding _÷_ _*ᶠ_ over ofℤ eps
 tail-S = record { across = leZ-yes tt }
 
-tail-F : ofℕ 64 *ᶠ (ofℕ 1 ÷ ofℕ (2 ^ 53)) ≼ eps
+pub tail-F : ofℕ 64 *ᶠ (ofℕ 1 ÷ ofℕ (2 ^ 53)) ≼ eps
 unfolding _÷_ _*ᶠ_ over ofℤ eps
 tail-F = record { across = leZ-yes tt }
 
@@ -60,18 +62,18 @@ fifth-d : ofℕ 64 *ᶠ (step *ᶠ e step 4) ≼ ofℕ 43 *ᶠ eps
 unfolding e power factorial _÷_ over _*ᶠ_ ofℤ eps
 fifth-d = record { across = leZ-yes tt }
 
-small-e : {y : Fraction} → Nonneg y → y ≼ step → ofℕ 64 *ᶠ e y 5 ≼ ofℕ 9 *ᶠ eps
+pub small-e : {y : Fraction} → Nonneg y → y ≼ step → ofℕ 64 *ᶠ e y 5 ≼ ofℕ 9 *ᶠ eps
 small-e {y} h k =
     certify (e y 5 ∷ e step 5 ∷ eps ∷ []) (number 64 ⊠ slack (e-mono h k 5) ⊞ slack fifth-e) (search quote depth 40 fits 9999) tt
 
-small-d : {y z : Fraction} → Nonneg y → Nonneg z → y ≼ step → z ≼ step → ofℕ 64 *ᶠ d y z 5 ≼ ofℕ 43 *ᶠ eps
+pub small-d : {y z : Fraction} → Nonneg y → Nonneg z → y ≼ step → z ≼ step → ofℕ 64 *ᶠ d y z 5 ≼ ofℕ 43 *ᶠ eps
 small-d {y} {z} h k p q =
     certify (d y z 5 ∷ y ∷ step ∷ e step 4 ∷ eps ∷ [])
     (number 64 ⊠ slack (d-small h k p q 4) ⊞ number 64 ⊠ slack p ⊠ e-nonneg (≼-trans h p) 4 ⊞ slack fifth-d)
     (search quote depth 40 fits 9999)
     tt
 
-within-lost :
+pub within-lost :
     (s s6 X e5 L τ : Fraction) →
     Within s s6 τ →
     s6 ≈ ofℕ 1 -ᶠ X -ᶠ e5 →
@@ -94,7 +96,7 @@ within-lost s s6 X e5 L τ w six tail fifth-nonneg fifth sum =
           tt;
     }
 
-within-used :
+pub within-used :
     (f D d5 U τ : Fraction) →
     Within f (D +ᶠ d5) τ →
     ofℕ 64 *ᶠ τ ≼ eps →
@@ -124,8 +126,28 @@ six-terms y =
 small-share-one : {n : ℕ} → n ≤ small → share n ≼ ofℕ 1
 small-share-one {n} h = ≼-trans (share-mono (le-trans h (lit≤ tt))) (≼-of-≈ share-one)
 
+-- a sound step that is near in its three shares is near
+pub sound-near :
+    (s : Step) {s1 f s2 : Fraction} →
+    SoundStep s →
+    Within s1 (ofℕ 1 -ᶠ share (s .lost)) (ofℕ 3 *ᶠ eps) →
+    Within f (share (s .used)) (ofℕ 5 *ᶠ eps) →
+    Within s2 (ofℕ 1 -ᶠ share (s .filled)) (ofℕ 3 *ᶠ eps) →
+    StepNear (share (s .lost)) (share (s .used)) (share (s .filled)) s1 f s2
+sound-near s sound lost used filled =
+    record {
+      used-nonneg = share-nonneg (s .used);
+      used-lost = share-mono (sound .used-lost);
+      lost-one = small-share-one (sound .lost-small);
+      filled-nonneg = share-nonneg (s .filled);
+      filled-one = small-share-one (sound .filled-small);
+      lost-near = lost;
+      used-near = used;
+      filled-near = filled;
+    }
+
 module _ {N k1 k2 v Q : ℕ} (long : 40 ≤ N) (p : RatesPass k1 k2 v Q) where
-  exponents :
+  pub exponents :
       (k l : ℕ) →
       k * v ≤ 345600 * Q →
       l * v ≤ 345600 * Q →
@@ -165,15 +187,4 @@ module _ {N k1 k2 v Q : ℕ} (long : 40 ≤ N) (p : RatesPass k1 k2 v Q) where
   pub step-near :
       StepNear (share ((stepOf k1 k2 v Q) .lost)) (share ((stepOf k1 k2 v Q) .used)) (share ((stepOf k1 k2 v Q) .filled)) (S N (exponent k1 v Q 1)) (F N k1 k2 v Q 1) (S N (exponent k2 v Q 1))
   unfolding stepOf
-  step-near =
-      let sound = step-sound k1 k2 v Q p in
-      record {
-        used-nonneg = share-nonneg _;
-        used-lost = share-mono (sound .used-lost);
-        lost-one = small-share-one (sound .lost-small);
-        filled-nonneg = share-nonneg _;
-        filled-one = small-share-one (sound .filled-small);
-        lost-near = rate-near k1 (p .k1-short);
-        used-near = rates-near;
-        filled-near = rate-near k2 (p .k2-short);
-      }
+  step-near = sound-near (stepOf k1 k2 v Q) (step-sound k1 k2 v Q p) (rate-near k1 (p .k1-short)) rates-near (rate-near k2 (p .k2-short))

@@ -2,9 +2,9 @@
 use mathlib.Core.List.{[], _∷_}
 use Prim.Native.Nat.{ℕ, suc, _≤_}
 use native.Mathlib.Omega.{arith}
-use Rattle.decay.specs.Fraction.{Fraction, ofℕ, _+ᶠ_, -ᶠ_, _-ᶠ_, _*ᶠ_, _≈_, _≼_}
-use Rattle.decay.proofs.Algebra.{≈-sym, quote, Nonneg, slack, number, _⊞_, _⊠_, multiple, certify, certify-times, ofℕ-mono}
-use Rattle.decay.proofs.Accuracy.Units.{eps, eps-nonneg, Floor, Below}
+use Rattle.decay.specs.Fraction.{Fraction, ofℕ, _+ᶠ_, -ᶠ_, _-ᶠ_, _*ᶠ_, _÷_, _≈_, _≼_}
+use Rattle.decay.proofs.Algebra.{≈-sym, quote, Nonneg, slack, number, _⊞_, _⊠_, multiple, certify, certify-times, positive-whole, ÷-cancel-pos, ofℕ-mono, ofℕ-suc}
+use Rattle.decay.proofs.Accuracy.Units.{eps, eps-nonneg, Floor, Part, Below}
 
 -- t lies below e by at most c 64ths of a unit, and e is at most 1/s
 pub record Under (c s : ℕ) (e t : Fraction) : Type 0 where
@@ -100,3 +100,41 @@ rough-both {e} {t} {w} {v} h k =
       small =
           certify-times 1 (e ∷ w ∷ []) (slack (h .small) ⊞ slack (k .small)) (search quote depth 40 fits 9999) tt;
     }
+
+-- ---- parts of terms
+
+-- a term by j + 1, exactly and rounded down, is as near as the term
+module _ (j : ℕ) {e t q : Fraction} (part : Part j t q) where
+  whole : e ÷ ofℕ (suc j) *ᶠ ofℕ (suc j) ≈ e
+  whole = ÷-cancel-pos e (positive-whole {n = suc j} (omega arith))
+
+  part-low : t ≼ e → q ≼ e ÷ ofℕ (suc j)
+  part-low h =
+      certify-times j (ofℕ (suc j) ∷ e ∷ t ∷ q ∷ (e ÷ ofℕ (suc j)) ∷ []) (slack h ⊞ slack (part .low) ⊞ multiple (ofℕ 1) (≈-sym whole)) (search quote depth 40 fits 9999) tt
+
+  pub part-below : Below e t → Below (e ÷ ofℕ (suc j)) q
+  part-below h =
+      record {
+        low = part-low (h .low);
+        high =
+            certify-times j (ofℕ (suc j) ∷ ofℕ j ∷ e ∷ t ∷ q ∷ (e ÷ ofℕ (suc j)) ∷ eps ∷ [])
+            (slack (h .high) ⊞ slack (part .high) ⊞ multiple (ofℕ 1) whole ⊞ multiple eps (≈-sym (ofℕ-suc j)))
+            (search quote depth 40 fits 9999)
+            tt;
+      }
+
+  pub part-under : {c s : ℕ} → 64 ≤ c → Under c s e t → Under c s (e ÷ ofℕ (suc j)) q
+  part-under {c} {s} l h =
+      record {
+        low = part-low (h .low);
+        high =
+            certify-times j (ofℕ (suc j) ∷ ofℕ j ∷ ofℕ c ∷ e ∷ t ∷ q ∷ (e ÷ ofℕ (suc j)) ∷ eps ∷ [])
+            (slack (h .high) ⊞ number 64 ⊠ slack (part .high) ⊞ number j ⊠ slack (ofℕ-mono l) ⊠ eps-nonneg ⊞ multiple (ofℕ 64) whole ⊞ multiple (ofℕ c *ᶠ eps) (≈-sym (ofℕ-suc j)))
+            (search quote depth 40 fits 9999)
+            tt;
+        small =
+            certify-times j (ofℕ (suc j) ∷ ofℕ j ∷ ofℕ s ∷ e ∷ (e ÷ ofℕ (suc j)) ∷ [])
+            (slack (h .small) ⊞ number j ⊞ multiple (ofℕ s) whole ⊞ multiple (ofℕ 1) (≈-sym (ofℕ-suc j)))
+            (search quote depth 40 fits 9999)
+            tt;
+      }

@@ -1,17 +1,20 @@
--- The shares of a step lie within a few units of the exact ones: the terms one by one, then their sums.
+-- The shares of a step lie within a few units of the exact ones, and so do their means over the step: the terms one by one, then their sums.
 -- The exact terms come in by their recurrences alone, e_j = y × e_(j-1) / j and d_j = (y × e_(j-1) + z × d_(j-1)) / j.
+use mathlib.Core.Path.{_≡_}
 use mathlib.Core.List.{[], _∷_}
 use Prim.Native.Nat.{ℕ, zero, suc, _+_, _≤_, zero-le}
 use native.Mathlib.Numerals.{add-two}
 use native.Mathlib.Omega.{arith}
-use Rattle.decay.specs.Fraction.{Fraction, ofℕ, _+ᶠ_, -ᶠ_, _-ᶠ_, _*ᶠ_, _≈_, _≼_}
+use lib.Dec.{lit≤}
+use Rattle.decay.specs.Fraction.{Fraction, ofℕ, _+ᶠ_, -ᶠ_, _-ᶠ_, _*ᶠ_, _÷_, _≈_, _≼_}
 use Rattle.decay.specs.Fixed.{small}
-use Rattle.decay.specs.Step.{nextTerms, termsAt, termAt, seriesOf}
+use Rattle.decay.specs.Step.{nextTerms, termsAt, termAt, seriesOf, mostTerms, meanSumOf}
 use Rattle.decay.specs.Promise.{share}
 use Rattle.decay.proofs.Algebra.{≈-refl, ≈-sym, ≈-trans, +ᶠ-cong, *ᶠ-cong, ring, ring-by, _⋅_, _&_, none, quote, ≼-by, slack, number, _⊞_, _⊠_, multiple, certify}
 use Rattle.decay.proofs.step.Shares.{first-lost, first-term, term-alone, series-sum}
-use Rattle.decay.proofs.Accuracy.Units.{eps, share-nonneg, share-sum, share-equal, Floor, term-floor, Below}
-use Rattle.decay.proofs.Accuracy.Series.{Under, Rough, TermNear, next-near, rough-first, rough-near, rough-both}
+use Rattle.decay.proofs.step.MeanShares.{mean-sum}
+use Rattle.decay.proofs.Accuracy.Units.{eps, share-nonneg, share-sum, share-equal, Floor, term-floor, part-share, Below}
+use Rattle.decay.proofs.Accuracy.Series.{Under, Rough, TermNear, next-near, rough-first, rough-near, rough-both, part-below, part-under}
 
 rough-cong : {e e' t t' : Fraction} → e ≈ e' → t ≈ t' → Rough e t → Rough e' t'
 rough-cong {e} {e'} {t} {t'} p q h =
@@ -78,19 +81,10 @@ four-terms c s e1 e2 e3 e4 t1 t2 t3 t4 L h1 h2 h3 h4 sum =
           tt;
     }
 
--- a sum of three as shares
-share-three : (a b c : ℕ) → share (a + b + c) ≈ share a +ᶠ share b +ᶠ share c
-share-three a b c = ≈-trans (share-sum (a + b) c) (+ᶠ-cong (share-sum a b) (≈-refl (share c)))
-
--- the sum of a series, as shares
-share-series :
-    (Y Z : ℕ) →
-    Y ≤ small →
-    Z ≤ small →
-    share ((seriesOf Y Z) .sum) +ᶠ share (termAt Y Z 1) +ᶠ share (termAt Y Z 3) ≈ share Y +ᶠ share (termAt Y Z 2)
-share-series Y Z hY hZ =
-    ≈-trans (≈-sym (share-three ((seriesOf Y Z) .sum) (termAt Y Z 1) (termAt Y Z 3)))
-    (≈-trans (share-equal (series-sum Y Z hY hZ)) (share-sum Y (termAt Y Z 2)))
+-- a sum without differences, as shares
+share-sums : (a b c d f : ℕ) → a + b + c ≡ d + f → share a +ᶠ share b +ᶠ share c ≈ share d +ᶠ share f
+share-sums a b c d f h =
+    ≈-trans (≈-sym (≈-trans (share-sum (a + b) c) (+ᶠ-cong (share-sum a b) (≈-refl (share c))))) (≈-trans (share-equal h) (share-sum d f))
 
 module _ (Y Z : ℕ) (y z : Fraction) (e d : ℕ → Fraction) (x : Exponents Y Z y z) (k : ExactTerms y z e d) where
   abbrev t : ℕ → Fraction
@@ -146,9 +140,26 @@ module _ (Y Z : ℕ) (y z : Fraction) (e d : ℕ → Fraction) (x : Exponents Y 
   pub lost-near : Y ≤ small → Sum (e 1 -ᶠ e 2 +ᶠ e 3 -ᶠ e 4) (share ((seriesOf Y 0) .sum)) 129 130
   lost-near hY =
       four-terms 65 512 (e 1) (e 2) (e 3) (e 4) (share Y) _ _ _ (share ((seriesOf Y 0) .sum)) (below-first (k .e-first)) (near-alone 0) (near-alone 1) (near-alone 2)
-      (share-series Y 0 hY zero-le)
+      (share-sums _ _ _ _ _ (series-sum Y 0 hY zero-le))
 
   pub used-near : Y ≤ small → Z ≤ small → Sum (d 1 -ᶠ d 2 +ᶠ d 3 -ᶠ d 4) (share ((seriesOf Y Z) .sum)) 194 260
   used-near hY hZ =
       four-terms 130 256 (d 1) (d 2) (d 3) (d 4) (share Y) _ _ _ (share ((seriesOf Y Z) .sum)) (below-first (k .d-first)) (rough-all 1) (rough-all 2) (rough-all 3)
-      (share-series Y Z hY hZ)
+      (share-sums _ _ _ _ _ (series-sum Y Z hY hZ))
+
+  -- the means over the step: each term by one more than its number
+  pub mean-lost-near : Y ≤ small → Sum (e 1 ÷ ofℕ 2 -ᶠ e 2 ÷ ofℕ 3 +ᶠ e 3 ÷ ofℕ 4 -ᶠ e 4 ÷ ofℕ 5) (share (meanSumOf Y 0 mostTerms)) 129 130
+  mean-lost-near hY =
+      four-terms 65 512 (e 1 ÷ ofℕ 2) (e 2 ÷ ofℕ 3) (e 3 ÷ ofℕ 4) (e 4 ÷ ofℕ 5) _ _ _ _ (share (meanSumOf Y 0 mostTerms)) (part-below 1 (part-share 1 Y) (below-first (k .e-first)))
+      (part-under 2 (part-share 2 (termAt Y 0 1)) (lit≤ tt) (near-alone 0))
+      (part-under 3 (part-share 3 (termAt Y 0 2)) (lit≤ tt) (near-alone 1))
+      (part-under 4 (part-share 4 (termAt Y 0 3)) (lit≤ tt) (near-alone 2))
+      (share-sums _ _ _ _ _ (mean-sum Y 0 hY zero-le))
+
+  pub mean-used-near : Y ≤ small → Z ≤ small → Sum (d 1 ÷ ofℕ 2 -ᶠ d 2 ÷ ofℕ 3 +ᶠ d 3 ÷ ofℕ 4 -ᶠ d 4 ÷ ofℕ 5) (share (meanSumOf Y Z mostTerms)) 194 260
+  mean-used-near hY hZ =
+      four-terms 130 256 (d 1 ÷ ofℕ 2) (d 2 ÷ ofℕ 3) (d 3 ÷ ofℕ 4) (d 4 ÷ ofℕ 5) _ _ _ _ (share (meanSumOf Y Z mostTerms)) (part-below 1 (part-share 1 Y) (below-first (k .d-first)))
+      (part-under 2 (part-share 2 (termAt Y Z 1)) (lit≤ tt) (rough-all 1))
+      (part-under 3 (part-share 3 (termAt Y Z 2)) (lit≤ tt) (rough-all 2))
+      (part-under 4 (part-share 4 (termAt Y Z 3)) (lit≤ tt) (rough-all 3))
+      (share-sums _ _ _ _ _ (mean-sum Y Z hY hZ))

@@ -60,6 +60,9 @@ pub share-sum : (a b : ℕ) → share (a + b) ≈ share a +ᶠ share b
 share-sum a b =
     ring (ofℕ a ∷ ofℕ b ∷ eps ∷ []) (search (quote, replaced (share-is a), replaced (share-is b), replaced (share-is (a + b))) depth 40 fits 9999) tt
 
+pub share-zero : share 0 ≈ ofℕ 0
+share-zero = ring (eps ∷ []) (search (quote, replaced (share-is 0)) depth 40 fits 9999) tt
+
 pub share-one : share one ≈ ofℕ 1
 share-one = ≈-trans (share-is one) one-eps
 
@@ -105,6 +108,26 @@ pub product-floor : (a b : ℕ) → Floor 1 (share a *ᶠ share b) (share (produ
 unfolding product
 product-floor a b =
     floor-share a b 1 (a * b / one) (omega (arith, floor-low (a * b) one)) (omega (arith, floor-high (a * b) one (lit< tt)))
+
+-- q is t / (j + 1), rounded down, as shares
+pub record Part (j : ℕ) (t q : Fraction) : Type 0 where
+  pub low : ofℕ (suc j) *ᶠ q ≼ t
+  pub high : t ≼ ofℕ (suc j) *ᶠ q +ᶠ ofℕ j *ᶠ eps
+
+pub part-share : (j n : ℕ) → Part j (share n) (share (n / suc j))
+part-share j n =
+    record {
+      low =
+          certify (ofℕ (suc j) ∷ ofℕ n ∷ ofℕ (n / suc j) ∷ eps ∷ []) (eps-nonneg ⊠ slack (ofℕ-mono (floor-low n (suc j)))) (search (quote, replaced (share-is n), replaced (share-is (n / suc j))) depth 40 fits 9999) tt;
+      high =
+          certify (ofℕ (suc j) ∷ ofℕ j ∷ ofℕ n ∷ ofℕ (n / suc j) ∷ eps ∷ []) (eps-nonneg ⊠ slack (ofℕ-mono above)) (search (quote, replaced (share-is n), replaced (share-is (n / suc j))) depth 40 fits 9999) tt;
+    }
+  where
+    positive : 0 < suc j
+    positive = omega arith
+
+    above : n ≤ suc j * (n / suc j) + j
+    above = omega (arith, div-add-mod' n (suc j), mod-lt n positive)
 
 -- q lies below y by at most a unit
 pub record Below (y q : Fraction) : Type 0 where

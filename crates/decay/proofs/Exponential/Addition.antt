@@ -6,7 +6,7 @@ use Prim.Native.Nat.{ℕ, zero, suc, _+_, _^_, _≤_}
 use native.Mathlib.Omega.{arith}
 use Rattle.decay.specs.Fraction.{Fraction, ofℕ, _+ᶠ_, -ᶠ_, _-ᶠ_, _*ᶠ_, _÷_, _≈_, _≼_}
 use Rattle.decay.specs.Exact.{term, sum, S, F}
-use Rattle.decay.proofs.Algebra.{≈-sym, quote, ring, ring-by, none, _&_, _⋅_, ≼-refl, ≼-of-≈, ≼-trans, slack, number, _⊞_, _⊠_, multiple, certify, Small, Within, small, within, sized, small-weaken, small-by, _⊞ˢ_, _⊠ˢ_, within-sym}
+use Rattle.decay.proofs.Algebra.{≈-sym, quote, ring, ring-by, none, _&_, _⋅_, ≼-refl, ≼-of-≈, ≼-trans, slack, number, _⊞_, _⊠_, multiple, certify, Small, Within, within, sized, small-weaken, small-by, _⊞ˢ_, _⊠ˢ_, within-sym}
 use Rattle.decay.proofs.Exponential.Sequence.{shift, conv, sum-cong, sum-front, triangle}
 use Rattle.decay.proofs.Exponential.Terms.{e, e-nonneg, conv-e, conv-term, term-small}
 use Rattle.decay.proofs.Exponential.Tail.{UpTo, here, further, upTo, Dominated, sum-moves, e-tail, past-40, still-small-past-40}
@@ -18,10 +18,10 @@ pub small-both : {a b c d : Fraction} → a ≈ c → b ≈ d → Small c d → 
 small-both p q s = small-by p (small-weaken s (≼-of-≈ (≈-sym q)))
 
 -- n rows of the square, less the triangle
-unfoldable rest : (N : ℕ) (f g : ℕ → Fraction) → ℕ → Fraction
+unfoldable pub rest : (N : ℕ) (f g : ℕ → Fraction) → ℕ → Fraction
 rest N f g n = sum f n *ᶠ sum g N -ᶠ sum (conv f g) n
 
-rest-suc : (N : ℕ) (f g : ℕ → Fraction) (n : ℕ) → rest N f g (suc n) ≈ f 0 *ᶠ (sum g N -ᶠ sum g (suc n)) +ᶠ rest N (shift f) g n
+pub rest-suc : (N : ℕ) (f g : ℕ → Fraction) (n : ℕ) → rest N f g (suc n) ≈ f 0 *ᶠ (sum g N -ᶠ sum g (suc n)) +ᶠ rest N (shift f) g n
 unfolding rest
 rest-suc N f g n =
     ring-by (f 0 ∷ sum f (suc n) ∷ sum (shift f) n ∷ sum g N ∷ sum g (suc n) ∷ sum (conv f g) (suc n) ∷ sum (conv (shift f) g) n ∷ []) (sum g N ⋅ sum-front f n & ofℕ 1 ⋅ triangle f g n & none) (search quote depth 40 fits 9999) tt
@@ -76,28 +76,32 @@ square-in-triangle f g p q N (suc k) (suc n) h =
 
 -- ---- the law
 
+-- what is left of the square, its rows at most those of a series and its columns a series
+pub rest-moves : {a b : Fraction} (N n : ℕ) (f : ℕ → Fraction) → Dominated f (e a) → n ≤ N → ofℕ 0 ≼ a → ofℕ 0 ≼ b → ofℕ 2 *ᶠ (a +ᶠ b) ≼ ofℕ (suc n)
+    → Small (rest N f (term b) n) (ofℕ 2 *ᶠ e (a +ᶠ b) n)
+unfolding rest
+rest-moves {a} {b} N n f d l p q c = small-weaken (rest-small N f (e a) (term b) (e b) d (term-small q) n l) bound
+  where
+    whole : (i : ℕ) → sum (conv (e a) (e b)) i ≈ sum (e (a +ᶠ b)) i
+    whole i = sum-cong (conv (e a) (e b)) (e (a +ᶠ b)) (conv-e a b) i
+
+    larger : UpTo n (N + n)
+    larger = upTo (omega arith)
+
+    bound : rest N (e a) (e b) n ≼ ofℕ 2 *ᶠ e (a +ᶠ b) n
+    bound =
+        certify (sum (e a) n ∷ sum (e b) N ∷ sum (conv (e a) (e b)) n ∷ sum (conv (e a) (e b)) (N + n) ∷ sum (e (a +ᶠ b)) n ∷ sum (e (a +ᶠ b)) (N + n) ∷ e (a +ᶠ b) n ∷ [])
+        (slack (square-in-triangle (e a) (e b) (e-nonneg p) (e-nonneg q) N n (N + n) (omega arith)) ⊞ slack (e-tail (p ⊞ q) c larger) ⊞ multiple (ofℕ 1) (whole (N + n)) ⊞ multiple (ofℕ 1) (≈-sym (whole n)))
+        (search quote depth 40 fits 9999) tt
+
 pub product-moves : {a b : Fraction} (N : ℕ) → ofℕ 0 ≼ a → ofℕ 0 ≼ b → ofℕ 2 *ᶠ (a +ᶠ b) ≼ ofℕ (suc N) → Small (S N a *ᶠ S N b -ᶠ S N (a +ᶠ b)) (ofℕ 2 *ᶠ e (a +ᶠ b) N)
 unfolding S rest
-product-moves {a} {b} N p q small =
-    let w = small-by same (rest-small N (term a) (e a) (term b) (e b) (term-small p) (term-small q) N (omega arith)) in
-    record { high = ≼-trans (w .high) bound; low = ≼-trans (w .low) bound }
+product-moves {a} {b} N p q c = small-by same (rest-moves N N (term a) (term-small p) (omega arith) p q c)
   where
-    twice : UpTo N (N + N)
-    twice = upTo (omega arith)
-
     -- the triangle is the series of the sum
     same : sum (term a) N *ᶠ sum (term b) N -ᶠ sum (term (a +ᶠ b)) N ≈ rest N (term a) (term b) N
     same =
         ring-by (sum (term a) N ∷ sum (term b) N ∷ sum (term (a +ᶠ b)) N ∷ sum (conv (term a) (term b)) N ∷ []) (ofℕ 1 ⋅ sum-cong (conv (term a) (term b)) (term (a +ᶠ b)) (conv-term a b) N & none) (search quote depth 40 fits 9999) tt
-
-    whole : (n : ℕ) → sum (conv (e a) (e b)) n ≈ sum (e (a +ᶠ b)) n
-    whole n = sum-cong (conv (e a) (e b)) (e (a +ᶠ b)) (conv-e a b) n
-
-    bound : rest N (e a) (e b) N ≼ ofℕ 2 *ᶠ e (a +ᶠ b) N
-    bound =
-        certify (sum (e a) N ∷ sum (e b) N ∷ sum (conv (e a) (e b)) N ∷ sum (conv (e a) (e b)) (N + N) ∷ sum (e (a +ᶠ b)) N ∷ sum (e (a +ᶠ b)) (N + N) ∷ e (a +ᶠ b) N ∷ [])
-        (slack (square-in-triangle (e a) (e b) (e-nonneg p) (e-nonneg q) N N (N + N) (omega arith)) ⊞ slack (e-tail (p ⊞ q) small twice) ⊞ multiple (ofℕ 1) (whole (N + N)) ⊞ multiple (ofℕ 1) (≈-sym (whole N)))
-        (search quote depth 40 fits 9999) tt
 
 pub addition : {N : ℕ} {a b : Fraction} → 40 ≤ N → ofℕ 0 ≼ a → ofℕ 0 ≼ b → a +ᶠ b ≼ ofℕ 4 → Within (S N (a +ᶠ b)) (S N a *ᶠ S N b) (ofℕ 1 ÷ ofℕ (2 ^ 78))
 addition {N} {a} {b} n p q four =

@@ -47,6 +47,13 @@ pub ratio-times : (k1 k2 : ℕ) → ¬ (k1 ≡ k2) → ratio k1 k2 *ᶠ (ofℕ k
 unfolding ratio
 ratio-times k1 k2 h = ÷-cancel (ofℕ k1) (λ p. h (difference-zero-rates k1 k2 p))
 
+-- what the test of the rates says
+pub tested-same : {k1 k2 : ℕ} → eqb k1 k2 ≡ true → k1 ≡ k2
+tested-same {k1} {k2} p = eqb→eq k1 k2 (subst T (sym p) tt)
+
+pub tested-different : {k1 k2 : ℕ} → eqb k1 k2 ≡ false → ¬ (k1 ≡ k2)
+tested-different {k1} p q = subst T p (subst (λ (k : ℕ). T (eqb k1 k)) q (eqb-refl k1))
+
 -- F for equal and for different rates
 pub data Rates (N k1 k2 v Q : ℕ) : Type 0 where
   same-rates : k1 ≡ k2 → ((m : ℕ) → F N k1 k2 v Q m ≈ exponent k1 v Q m *ᶠ S N (exponent k1 v Q m)) → Rates N k1 k2 v Q
@@ -57,13 +64,13 @@ unfolding F ratio
 rates N k1 k2 v Q = go (eqb k1 k2) refl
   where
     go : (t : Bool) → eqb k1 k2 ≡ t → Rates N k1 k2 v Q
-    go true p = same-rates (eqb→eq k1 k2 (subst T (sym p) tt)) (λ m. rw p (≈-refl _))
-    go false p = different (λ q. subst T p (subst (λ (k : ℕ). T (eqb k1 k)) q (eqb-refl k1))) (λ m. rw p (≈-refl _))
+    go true p = same-rates (tested-same p) (λ m. rw p (≈-refl _))
+    go false p = different (tested-different p) (λ m. rw p (≈-refl _))
 
 -- ---- S
 
 -- 2^-78
-abbrev tiny : Fraction
+abbrev pub tiny : Fraction
 tiny = ofℕ 1 ÷ ofℕ (2 ^ 78)
 
 S-moves : {N : ℕ} → 40 ≤ N → (k v Q m : ℕ) → k * v ≤ 345_600 * Q → suc m ≤ 1024
@@ -81,15 +88,15 @@ S-moves {N} n k v Q m h l =
 -- ---- F
 
 -- the remainder for different rates, and for equal ones
-tiny-nonneg : ofℕ 0 ≼ tiny
+pub tiny-nonneg : ofℕ 0 ≼ tiny
 unfolding _÷_ _*ᶠ_ over ofℤ
 tiny-nonneg = record { across = leZ-yes tt }
 
-room : ofℕ 40_000 *ᶠ tiny ≼ ofℕ 1 ÷ ofℕ (2 ^ 60)
+pub room : ofℕ 40_000 *ᶠ tiny ≼ ofℕ 1 ÷ ofℕ (2 ^ 60)
 unfolding _÷_ _*ᶠ_ over ofℤ
 room = record { across = leZ-yes tt }
 
-wide : (k : ℕ) → k ≤ 20_000 → ofℕ k *ᶠ (tiny +ᶠ tiny) ≼ ofℕ 1 ÷ ofℕ (2 ^ 60)
+pub wide : (k : ℕ) → k ≤ 20_000 → ofℕ k *ᶠ (tiny +ᶠ tiny) ≼ ofℕ 1 ÷ ofℕ (2 ^ 60)
 wide k h =
     certify (ofℕ k ∷ tiny ∷ (ofℕ 1 ÷ ofℕ (2 ^ 60)) ∷ []) (number 2 ⊠ slack (ofℕ-mono h) ⊠ tiny-nonneg ⊞ slack room) (search quote depth 40 fits 9999) tt
 

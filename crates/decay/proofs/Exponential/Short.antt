@@ -1,17 +1,18 @@
 -- One step: S and F at exponents up to 1/256 against the first terms of their series.
 -- Shown: what is left of S after six terms is at most 2^-56, and what is left of F after d 5 is at most 2^-53.
 use mathlib.Core.List.{[], _∷_}
-use Prim.Native.Nat.{ℕ, zero, suc, _*_, _^_, _≤_, suc-le-suc}
-use lib.Signed.{leZ-yes}
+use Prim.Native.Nat.{ℕ, zero, suc, _*_, _^_, _≤_}
+use native.Mathlib.Nat.{le-of-suc-le-suc}
 use native.Mathlib.Omega.{arith}
+use lib.Signed.{leZ-yes}
 use Rattle.decay.specs.Fraction.{Fraction, ofℕ, ofℤ, over, _+ᶠ_, -ᶠ_, _-ᶠ_, _*ᶠ_, _÷_, _≈_, _≼_}
-use Rattle.decay.specs.Exact.{power, factorial, sum, exponent, S, F}
-use Rattle.decay.proofs.Algebra.{≈-refl, ≈-sym, quote, ring, ring-by, none, _&_, _⋅_, ≼-trans, slack, number, _⊞_, _⊠_, multiple, certify, certify-times, Small, Within, within, sized, small-minus, small-weaken, _⊠ˢ_, within-weaken, within-by, ofℕ-suc}
-use Rattle.decay.proofs.Exponential.Terms.{e, e-zero, e-suc, e-nonneg, e-mono, sign}
-use Rattle.decay.proofs.Exponential.Tail.{upTo, Dominated, sum-moves, e-tail, sixth-term, S-tail}
+use Rattle.decay.specs.Exact.{power, factorial, term, sum, exponent, S, F}
+use Rattle.decay.proofs.Algebra.{≈-refl, ≈-sym, quote, ring, ring-by, none, _&_, _⋅_, ≼-trans, slack, number, _⊞_, _⊠_, multiple, certify, certify-times, Small, ÷-nonneg, Within, within, sized, small-minus, small-weaken, _⊠ˢ_, within-by, ofℕ-suc}
+use Rattle.decay.proofs.Exponential.Terms.{e, e-zero, e-suc, e-nonneg, e-mono, term-small, sign}
+use Rattle.decay.proofs.Exponential.Tail.{upTo, Dominated, sum-moves, e-tail, sixth-term}
 use Rattle.decay.proofs.Exponential.Addition.{small-both}
 use Rattle.decay.proofs.Exponential.Exponent.{exponent-nonneg, exponent-step}
-use Rattle.decay.proofs.Exponential.Used.{d, d-zero, d-suc, d-nonneg, turned, Summed, F-summed}
+use Rattle.decay.proofs.Exponential.Used.{d, d-zero, d-suc, d-nonneg, turned, turned-zero, F-summed}
 
 -- ---- sizes of the terms of F
 
@@ -22,7 +23,7 @@ sign-size zero = sized (number 1)
 sign-size (suc j) = small-minus (sign-size j)
 
 -- 0, x, x c, x c^2 / 2, ..
-unfoldable majorant : Fraction → Fraction → ℕ → Fraction
+unfoldable pub majorant : Fraction → Fraction → ℕ → Fraction
 majorant x c zero = ofℕ 0
 majorant x c (suc j) = x *ᶠ e c j
 
@@ -45,19 +46,12 @@ module _ {x y c : Fraction} (x-sign : ofℕ 0 ≼ x) (y-sign : ofℕ 0 ≼ y) (x
       (x-sign ⊠ slack (e-mono x-sign x-small (suc j)) ⊞ c-sign ⊠ slack (d-small j) ⊞ slack y-small ⊠ d-nonneg x-sign y-sign (suc j) ⊞ multiple (ofℕ 1) (d-suc x y (suc j)) ⊞ multiple x (≈-sym (e-suc c j)) ⊞ multiple (x *ᶠ e c (suc j)) (≈-sym (ofℕ-suc (suc j)))) (search quote depth 40 fits 9999) tt
 
   -- the signed terms of F, and their sums
-  turned-small : Dominated (turned x y) (majorant x c)
+  pub turned-small : Dominated (turned x y) (majorant x c)
   unfolding turned majorant
-  turned-small zero =
-      small-both (ring-by (sign 0 ∷ d x y 0 ∷ []) (sign 0 ⋅ d-zero x y & none) (search quote depth 40 fits 9999) tt) (≈-refl (ofℕ 0)) (sized (number 0))
+  turned-small zero = small-both (turned-zero x y) (≈-refl (ofℕ 0)) (sized (number 0))
   turned-small (suc j) =
       small-both (ring (sign (suc j) ∷ d x y (suc j) ∷ []) (search quote depth 40 fits 9999) tt) (ring (x ∷ e c j ∷ []) (search quote depth 40 fits 9999) tt)
       (small-minus (sign-size (suc j)) ⊠ˢ small-weaken (sized (d-nonneg x-sign y-sign (suc j))) (d-small j))
-
-  pub turned-moves : {n M : ℕ} → ofℕ 2 *ᶠ c ≼ ofℕ (suc n) → n ≤ M → Small (sum (turned x y) (suc M) -ᶠ sum (turned x y) (suc n)) (x *ᶠ (ofℕ 2 *ᶠ e c n))
-  turned-moves {n} {M} small h =
-      small-weaken (sum-moves (turned x y) (majorant x c) turned-small (upTo (suc-le-suc h)))
-      (certify (x ∷ sum (majorant x c) (suc M) ∷ sum (majorant x c) (suc n) ∷ sum (e c) M ∷ sum (e c) n ∷ e c n ∷ [])
-      (x-sign ⊠ slack (e-tail c-sign small (upTo h)) ⊞ multiple (ofℕ 1) (sum-majorant x c M) ⊞ multiple (ofℕ 1) (≈-sym (sum-majorant x c n))) (search quote depth 40 fits 9999) tt)
 
 -- ---- one step
 
@@ -85,37 +79,44 @@ fifth-term : step *ᶠ (ofℕ 2 *ᶠ e step 5) ≼ ofℕ 1 ÷ ofℕ (2 ^ 53)
 unfolding e power factorial _÷_ over _*ᶠ_ ofℤ
 fifth-term = record { across = leZ-yes tt }
 
+step-sign : ofℕ 0 ≼ step
+step-sign = ÷-nonneg (number 1) (number 256)
+
+-- what is left after six terms, of S
+pub e-past-six : {y : Fraction} {M : ℕ} → ofℕ 0 ≼ y → y ≼ ofℕ 1 ÷ ofℕ 256 → 6 ≤ M → sum (e y) M -ᶠ sum (e y) 6 ≼ ofℕ 1 ÷ ofℕ (2 ^ 56)
+e-past-six {y} {M} h k l =
+    let short : ofℕ 2 *ᶠ y ≼ ofℕ 7 = certify (y ∷ step ∷ []) (number 2 ⊠ slack k ⊞ slack sixth-smaller) (search quote depth 40 fits 9999) tt in
+    ≼-trans (e-tail h short (upTo l))
+    (certify (e y 6 ∷ e step 6 ∷ (ofℕ 1 ÷ ofℕ (2 ^ 56)) ∷ []) (number 2 ⊠ slack (e-mono h k 6) ⊞ slack sixth-term) (search quote depth 40 fits 9999) tt)
+
+-- and of F
+pub majorant-past-six : {x : Fraction} → ofℕ 0 ≼ x → x ≼ ofℕ 1 ÷ ofℕ 256 → {M : ℕ} → 6 ≤ M → sum (majorant x step) M -ᶠ sum (majorant x step) 6 ≼ ofℕ 1 ÷ ofℕ (2 ^ 53)
+majorant-past-six h k {M = zero} l = absurd (impossible l)
+  where
+    impossible : 6 ≤ 0 → ⊥
+    impossible l = omega arith
+majorant-past-six {x} h k {M = suc M} l =
+    certify (x ∷ step ∷ sum (majorant x step) (suc M) ∷ sum (majorant x step) 6 ∷ sum (e step) M ∷ sum (e step) 5 ∷ e step 5 ∷ (ofℕ 1 ÷ ofℕ (2 ^ 53)) ∷ [])
+    (h ⊠ slack (e-tail step-sign step-small (upTo (le-of-suc-le-suc l))) ⊞ multiple (ofℕ 1) (sum-majorant x step M) ⊞ multiple (ofℕ 1) (≈-sym (sum-majorant x step 5)) ⊞ slack k ⊠ (number 2 ⊠ e-nonneg step-sign 5) ⊞ slack fifth-term)
+    (search quote depth 40 fits 9999) tt
+
 -- six terms of S
 pub S-short : {y : Fraction} {N : ℕ} → 40 ≤ N → ofℕ 0 ≼ y → y ≼ ofℕ 1 ÷ ofℕ 256 → Within (S N y) (S 6 y) (ofℕ 1 ÷ ofℕ (2 ^ 56))
-S-short {y} {N} n h k =
-    within-weaken (S-tail h (certify (y ∷ step ∷ []) (number 2 ⊠ slack k ⊞ slack sixth-smaller) (search quote depth 40 fits 9999) tt) (omega arith))
-    (certify (e y 6 ∷ e step 6 ∷ (ofℕ 1 ÷ ofℕ (2 ^ 56)) ∷ []) (number 2 ⊠ slack (e-mono h k 6) ⊞ slack sixth-term) (search quote depth 40 fits 9999) tt)
+unfolding S
+S-short {y} {N} n h k = within (small-weaken (sum-moves (term y) (e y) (term-small h) (upTo many)) (e-past-six h k many))
+  where
+    many : 6 ≤ N
+    many = omega arith
 
 -- six terms of F, of which the first is 0
 pub F-short : {N : ℕ} → 40 ≤ N → (k1 k2 v Q : ℕ) → k1 * v ≤ 345_600 * Q → k2 * v ≤ 345_600 * Q
     → Within (F N k1 k2 v Q 1) (F-six (exponent k1 v Q 1) (exponent k2 v Q 1)) (ofℕ 1 ÷ ofℕ (2 ^ 53))
-F-short {N} n k1 k2 v Q h1 h2 = go (F-summed N k1 k2 v Q 1)
-  where
-    x-sign : ofℕ 0 ≼ exponent k1 v Q 1
-    x-sign = exponent-nonneg k1 v Q 1
-
-    small-x : exponent k1 v Q 1 ≼ step
-    small-x = exponent-step k1 v Q h1
-
-    bound : exponent k1 v Q 1 *ᶠ (ofℕ 2 *ᶠ e step 5) ≼ ofℕ 1 ÷ ofℕ (2 ^ 53)
-    bound =
-        certify (exponent k1 v Q 1 ∷ step ∷ e step 5 ∷ (ofℕ 1 ÷ ofℕ (2 ^ 53)) ∷ [])
-        (slack small-x ⊠ (number 2 ⊠ e-nonneg (≼-trans x-sign small-x) 5) ⊞ slack fifth-term) (search quote depth 40 fits 9999) tt
-
-    tail : (M : ℕ) → 6 ≤ M → Within (sum (turned (exponent k1 v Q 1) (exponent k2 v Q 1)) M) (sum (turned (exponent k1 v Q 1) (exponent k2 v Q 1)) 6) (ofℕ 1 ÷ ofℕ (2 ^ 53))
-    tail zero l = absurd (impossible l)
-      where
-        impossible : 6 ≤ 0 → ⊥
-        impossible l = omega arith
-    tail (suc M) l =
-        within (small-weaken (turned-moves x-sign (exponent-nonneg k2 v Q 1) small-x (exponent-step k2 v Q h2) {n = 5} step-small (omega arith)) bound)
-
-    go : Summed N k1 k2 v Q 1 → Within (F N k1 k2 v Q 1) (F-six (exponent k1 v Q 1) (exponent k2 v Q 1)) (ofℕ 1 ÷ ofℕ (2 ^ 53))
-    go s =
-        let many : 6 ≤ s .terms = omega (arith, s .enough) in
-        within-by (s .is-sum) (≈-sym (turned-six (exponent k1 v Q 1) (exponent k2 v Q 1))) (tail (s .terms) many)
+F-short {N} n k1 k2 v Q h1 h2 =
+    let x = exponent k1 v Q 1 in
+    let y = exponent k2 v Q 1 in
+    let x-sign = exponent-nonneg k1 v Q 1 in
+    let x-step = exponent-step k1 v Q h1 in
+    let s = F-summed N k1 k2 v Q 1 in
+    let many : 6 ≤ s .terms = omega (arith, s .enough) in
+    within-by (s .is-sum) (≈-sym (turned-six x y))
+    (within (small-weaken (sum-moves (turned x y) (majorant x step) (turned-small x-sign (exponent-nonneg k2 v Q 1) x-step (exponent-step k2 v Q h2)) (upTo many)) (majorant-past-six x-sign x-step many)))

@@ -61,20 +61,35 @@ d-equal x (suc j) =
 unfoldable pub turned : Fraction → Fraction → ℕ → Fraction
 turned x y j = -ᶠ (sign j *ᶠ d x y j)
 
+-- what a term of S makes of F, for different and for equal rates
+pub term-different : (w x y : Fraction) → w *ᶠ (y -ᶠ x) ≈ x → (j : ℕ) → w *ᶠ (term x j -ᶠ term y j) ≈ turned x y j
+unfolding turned
+term-different w x y h j =
+    ring-by (w ∷ term x j ∷ term y j ∷ sign j ∷ e x j ∷ e y j ∷ d x y j ∷ []) (w ⋅ term-signed x j & w ⋅ term-signed y j & sign j ⋅ d-different w x y h j & none) (search quote depth 40 fits 9999) tt
+
+pub turned-zero : (x y : Fraction) → turned x y 0 ≈ ofℕ 0
+unfolding turned
+turned-zero x y = ring-by (sign 0 ∷ d x y 0 ∷ []) (sign 0 ⋅ d-zero x y & none) (search quote depth 40 fits 9999) tt
+
+pub term-equal : (x : Fraction) (j : ℕ) → x *ᶠ term x j ≈ turned x x (suc j)
+unfolding turned sign
+term-equal x j =
+    ring-by (x ∷ term x j ∷ sign j ∷ e x j ∷ d x x (suc j) ∷ []) (x ⋅ term-signed x j & sign j ⋅ d-equal x j & none) (search quote depth 40 fits 9999) tt
+
 turned-different : (w x y : Fraction) → w *ᶠ (y -ᶠ x) ≈ x → (N : ℕ) → w *ᶠ (S N x -ᶠ S N y) ≈ sum (turned x y) N
-unfolding S sum turned
+unfolding S sum
 turned-different w x y h zero = ring (w ∷ []) (search quote depth 40 fits 9999) tt
 turned-different w x y h (suc N) =
-    ring-by (w ∷ sum (term x) N ∷ sum (term y) N ∷ term x N ∷ term y N ∷ sign N ∷ e x N ∷ e y N ∷ d x y N ∷ sum (turned x y) N ∷ []) (ofℕ 1 ⋅ turned-different w x y h N & w ⋅ term-signed x N & w ⋅ term-signed y N & sign N ⋅ d-different w x y h N & none) (search quote depth 40 fits 9999) tt
+    ring-by (w ∷ sum (term x) N ∷ sum (term y) N ∷ term x N ∷ term y N ∷ turned x y N ∷ sum (turned x y) N ∷ []) (ofℕ 1 ⋅ turned-different w x y h N & ofℕ 1 ⋅ term-different w x y h N & none) (search quote depth 40 fits 9999) tt
 
 turned-equal : (x : Fraction) (N : ℕ) → x *ᶠ S N x ≈ sum (turned x x) (suc N)
-unfolding S sum turned sign
-turned-equal x zero = ring-by (x ∷ d x x 0 ∷ []) (ofℕ 1 ⋅ d-zero x x & none) (search quote depth 40 fits 9999) tt
+unfolding S sum
+turned-equal x zero = ring-by (x ∷ turned x x 0 ∷ []) (ofℕ 1 ⋅ turned-zero x x & none) (search quote depth 40 fits 9999) tt
 turned-equal x (suc N) =
-    ring-by (x ∷ sum (term x) N ∷ term x N ∷ sign N ∷ e x N ∷ d x x N ∷ d x x (suc N) ∷ sum (turned x x) N ∷ []) (ofℕ 1 ⋅ turned-equal x N & x ⋅ term-signed x N & sign N ⋅ d-equal x N & none) (search quote depth 40 fits 9999) tt
+    ring-by (x ∷ sum (term x) N ∷ term x N ∷ turned x x N ∷ turned x x (suc N) ∷ sum (turned x x) N ∷ []) (ofℕ 1 ⋅ turned-equal x N & ofℕ 1 ⋅ term-equal x N & none) (search quote depth 40 fits 9999) tt
 
 -- k1 / (k2 − k1) takes the difference of the exponents to the first
-ratio-exponent : (k1 k2 v Q m : ℕ) → ¬ (k1 ≡ k2) → ratio k1 k2 *ᶠ (exponent k2 v Q m -ᶠ exponent k1 v Q m) ≈ exponent k1 v Q m
+pub ratio-exponent : (k1 k2 v Q m : ℕ) → ¬ (k1 ≡ k2) → ratio k1 k2 *ᶠ (exponent k2 v Q m -ᶠ exponent k1 v Q m) ≈ exponent k1 v Q m
 ratio-exponent k1 k2 v Q m h =
     ring-by (ratio k1 k2 ∷ exponent k1 v Q m ∷ exponent k2 v Q m ∷ ofℕ k1 ∷ ofℕ k2 ∷ ofℕ v ∷ ofℕ m ∷ moment Q ∷ []) (ratio k1 k2 ⋅ exponent-rate k2 v Q m & ratio k1 k2 ⋅ exponent-rate k1 v Q m & ofℕ 1 ⋅ exponent-rate k1 v Q m & (ofℕ v *ᶠ ofℕ m *ᶠ moment Q) ⋅ ratio-times k1 k2 h & none) (search quote depth 40 fits 9999) tt
 

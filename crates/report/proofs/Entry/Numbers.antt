@@ -1,4 +1,4 @@
--- Every refusal of reading, of the flow check, of reporting and of rewriting has a number from 1 to 255, so that 0 is no refusal's result, and
+-- Every refusal of reading, of the flow check, of reporting, of the mean and of rewriting has a number from 1 to 255, so that 0 is no refusal's result, and
 -- number and reach are read back from the result.
 -- Assumes nothing.
 use mathlib.Core.Path.{_≡_, ap₂}
@@ -12,6 +12,7 @@ use Rattle.river.specs.Refusal.{Answer, accepted, refused, refuse, need, choose
 use Rattle.river.specs.Optional.{Kind, readOptional, readOptionals}
 use Rattle.river.specs.Read.{readHeader, readReach, readReaches, readRest, readFile}
 use Rattle.river.specs.Flow.{reachChecks, checksFrom, flowCheck}
+use Rattle.report.specs.Mean.{meanRoomAnswer, meanAnswer}
 use Rattle.report.specs.Report.{roomAnswer, reportAnswer, resultOf}
 use Rattle.river.specs.Accept.{acceptFile}
 use Rattle.river.specs.Rewrite.{rewriteAnswer}
@@ -73,6 +74,10 @@ checks cards i (suc m) = search (needs, lit<, checks cards (suc i) m) depth 12
 pub report-numbered : (file : List ℕ) (room : ℕ) → Numbered (reportAnswer file room)
 unfolding reportAnswer roomAnswer acceptFile readFile readHeader flowCheck
 report-numbered file room = search (needs, next, rest, checks, lit<) depth 12
+
+pub means-numbered : (file : List ℕ) (room : ℕ) → Numbered (meanAnswer file room)
+unfolding meanAnswer meanRoomAnswer acceptFile readFile readHeader flowCheck
+means-numbered file room = search (needs, next, rest, checks, lit<) depth 12
 
 pub rewrite-numbered : (file : List ℕ) (room : ℕ) → Numbered (rewriteAnswer file room)
 unfolding rewriteAnswer readFile readHeader

@@ -15,6 +15,7 @@ use Rattle.decay.proofs.fixed.Digits.{one-pos}
 use Rattle.decay.proofs.factors.Instants.{product-zero}
 use Rattle.decay.proofs.Accuracy.{accuracy}
 use Rattle.decay.proofs.Algebra.{quote, ring-by, certify, certify-over, number, _⋅_, _&_, none as no-equations, ≈-refl, ≈-sym, ≈-trans, +ᶠ-cong, *ᶠ-cong, ≼-of-≈, ≼-antisym, ofℕ-≈, ofℕ-sub, ofℕ-+, ofℕ-*, positive-whole, ÷-cancel-pos, ÷-reciprocal, ÷-nonneg, ÷-cong, floor-low, floor-high, Within, within-by, within-weaken, within→distance, distance→within}
+use Rattle.decay.specs.declared.factors.Factors.{Factors}
 use Rattle.river.specs.declared.card.Card.{Card}
 use Rattle.river.specs.Flow.{Feeders, sludgeOf, reachFlow}
 use Rattle.river.specs.declared.source.Demand.the-variants.{Bod}
@@ -29,6 +30,7 @@ use Rattle.report.proofs.Ties.{factors-range}
 use Rattle.report.proofs.Facts.Head.{share-of}
 use Rattle.report.proofs.Facts.Instant.{Floored, floored-by, product-floored}
 use Rattle.report.proofs.Facts.Exact.{over-product}
+use Rattle.report.proofs.Facts.Formula.{lossBy}
 use Rattle.report.proofs.Accuracy.Errors.{eventual-near, linear-near}
 
 quotient-floored : (n : ℕ) {d : ℕ} → 0 < d → Floored (ofℕ (n / d)) (ofℕ n ÷ ofℕ d)
@@ -84,42 +86,41 @@ eventual-loss s k kept S₂ p h n =
     (floored-by (*ᶠ-cong (share-gone kept h) (≈-refl (ofℕ c))) (product-floored (one - kept) c))))
     (≼-of-≈ (+ᶠ-cong (≈-refl (ofℕ 2)) (*ᶠ-cong (≈-refl deficitDistance) (≈-sym (ofℕ-+ c 1)))))
 
+-- where factors hold whose share of the deficit left is near S₂, the loss to a bed is near the exact one
+pub loss-by-near : {card : Card} {up : Feeders} → AcceptedReach card up → (f : Factors) (S₂ : Fraction) → f .kept ≤ one → distance (share (f .kept)) S₂ ≼ deficitDistance → (m : ℕ) → m ≤ foot
+    → Within (ofℕ (lossWith f (bedOf card (reachFlow card up)) m)) (lossBy card (reachFlow card up) m S₂) (lossDistance card (reachFlow card up))
+unfolding lossWith bedOf bedBy lossBy
+loss-by-near {card} {up} own f S₂ h near-deficit m l = by-case (eqb (card .k2) 0) refl
+  where
+    Q : ℕ
+    Q = reachFlow card up
+
+    s : ℕ
+    s = sludgeOf card
+
+    bed : Bool → Bed
+    bed t = bedBy t (card .k2) s (card .volume) Q
+
+    by-case : (t : Bool) → eqb (card .k2) 0 ≡ t → Within (ofℕ (product (one - f .kept) (bed t .eventual) + bed t .linear * m / foot)) (ofℕ 1_000_000 *ᶠ cond t (ofℕ (s * card .volume * m) ÷ ofℕ (86_400 * 1_024 * Q)) (ofℕ s *ᶠ (ofℕ 1 -ᶠ S₂) ÷ ofℕ (card .k2))) (ofℕ 2 +ᶠ deficitDistance *ᶠ ofℕ (bed t .eventual + 1))
+    by-case true e =
+        within-weaken
+        (within-by (ofℕ-≈ (rw (product-zero (one - f .kept) 0 refl, zero-add))) (≈-refl _) (linear-loss (s * card .volume) Q m (flow-remains (own .flows)) l))
+        (certify (deficitDistance ∷ []) (÷-nonneg (number 1) (number 2_147_483_648)) (search quote depth 40 fits 9999) tt)
+    by-case false e =
+        within-by (ofℕ-≈ (rw (zero-mul, zero-div foot, add-zero))) (≈-refl _)
+        (eventual-loss s (card .k2) (f .kept) S₂ (omega (arith, eqb-false (card .k2) 0 e)) h (distance→within near-deficit))
+
 module _ {N : ℕ} (long : 40 ≤ N) {card : Card} {up : Feeders} (own : AcceptedReach card up) where
-  pub kept-accurate : (m : ℕ) → m ≤ foot → distance (share ((factorsAlong card (reachFlow card up) m) .kept)) (S N (exponent (card .k2) (card .volume) (reachFlow card up) m)) ≼ deficitDistance
+  kept-accurate : (m : ℕ) → m ≤ foot → distance (share ((factorsAlong card (reachFlow card up) m) .kept)) (S N (exponent (card .k2) (card .volume) (reachFlow card up) m)) ≼ deficitDistance
   unfolding factorsAlong
   kept-accurate m l = accuracy long l (rates-pass own Bod) .deficit-near
 
   -- at every instant the loss to a bed is near the exact one
   pub loss-is-near : (m : ℕ) → m ≤ foot → Within (ofℕ (lossAlong card (reachFlow card up) m)) (exactLoss N card (reachFlow card up) m) (lossDistance card (reachFlow card up))
-  unfolding lossAlong lossWith bedOf bedBy exactLoss
-  loss-is-near m l = by-case (eqb (card .k2) 0) refl
-    where
-      Q : ℕ
-      Q = reachFlow card up
-
-      s : ℕ
-      s = sludgeOf card
-
-      kept : ℕ
-      kept = (factorsAlong card Q m) .kept
-
-      bed : Bool → Bed
-      bed t = bedBy t (card .k2) s (card .volume) Q
-
-      S₂ : Fraction
-      S₂ = S N (exponent (card .k2) (card .volume) Q m)
-
-      near-deficit : distance (share kept) S₂ ≼ deficitDistance
-      near-deficit = kept-accurate m l
-
-      by-case : (t : Bool) → eqb (card .k2) 0 ≡ t → Within (ofℕ (product (one - kept) (bed t .eventual) + bed t .linear * m / foot)) (ofℕ 1_000_000 *ᶠ cond t (ofℕ (s * card .volume * m) ÷ ofℕ (86_400 * 1_024 * Q)) (ofℕ s *ᶠ (ofℕ 1 -ᶠ S₂) ÷ ofℕ (card .k2))) (ofℕ 2 +ᶠ deficitDistance *ᶠ ofℕ (bed t .eventual + 1))
-      by-case true e =
-          within-weaken
-          (within-by (ofℕ-≈ (rw (product-zero (one - kept) 0 refl, zero-add))) (≈-refl _) (linear-loss (s * card .volume) Q m (flow-remains (own .flows)) l))
-          (certify (deficitDistance ∷ []) (÷-nonneg (number 1) (number 2_147_483_648)) (search quote depth 40 fits 9999) tt)
-      by-case false e =
-          within-by (ofℕ-≈ (rw (zero-mul, zero-div foot, add-zero))) (≈-refl _)
-          (eventual-loss s (card .k2) kept S₂ (omega (arith, eqb-false (card .k2) 0 e)) (factors-range own m .deficit) (distance→within near-deficit))
+  unfolding lossAlong exactLoss lossBy
+  loss-is-near m l =
+      let Q = reachFlow card up in
+      loss-by-near own (factorsAlong card Q m) (S N (exponent (card .k2) (card .volume) Q m)) (factors-range own m .deficit) (kept-accurate m l) m l
 
   -- THEOREM: at every instant the loss to a bed lies within its distance of the exact one
   pub loss-within : (m : ℕ) → m ≤ foot → distance (ofℕ (lossAlong card (reachFlow card up) m)) (exactLoss N card (reachFlow card up) m) ≼ lossDistance card (reachFlow card up)

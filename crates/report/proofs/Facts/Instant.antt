@@ -11,10 +11,7 @@ use Rattle.decay.specs.declared.factors.Factors.{Factors}
 use Rattle.decay.proofs.fixed.Digits.{one-pos}
 use Rattle.decay.proofs.Algebra.{Nonneg, quote, slack, _⊞_, multiple, ≈-refl, ≈-sym, ≈-trans, ≼-trans, ≼-of-≈, ofℤ-*, +ᶠ-cong, *ᶠ-cong, positive-whole, certify-over, ÷-cancel-pos, none as no-equations, ofℕ-mono, ofℕ-+}
 use Rattle.river.specs.Head.{floor}
-use Rattle.river.specs.declared.card.Card.{Card}
-use Rattle.river.specs.declared.source.Demand.the-variants.{Bod}
-use Rattle.river.specs.Saturation.{saturationOf}
-use Rattle.report.specs.Program.{oxygenWith, factorsAlong, turnedAlong}
+use Rattle.report.specs.Program.{oxygenWith}
 use Rattle.report.proofs.Facts.Head.{share-of}
 use Rattle.report.proofs.Facts.Floor.{floor-rounded, ofℤ-sub}
 
@@ -81,7 +78,7 @@ kept-floored f Cs C =
     floored-by (*ᶠ-cong (≈-refl (share (f .kept))) (ofℤ-sub (pos Cs) C)) (share-floored (f .kept) (pos Cs -ℤ C))
 
 -- oxygen is saturation less what has turned of each demand, what is kept of the deficit, and the loss to a bed
-oxygen-parts : (f : Factors) (Cs L : ℕ) (C : ℤ) (turned loss : ℕ) → ofℤ (oxygenWith f Cs L C -ℤ pos turned -ℤ pos loss) ≈ ofℕ Cs -ᶠ ofℕ (product (f .turned) L) -ᶠ ofℤ (keptDeficit f Cs C) -ᶠ ofℕ turned -ᶠ ofℕ loss
+pub oxygen-parts : (f : Factors) (Cs L : ℕ) (C : ℤ) (turned loss : ℕ) → ofℤ (oxygenWith f Cs L C -ℤ pos turned -ℤ pos loss) ≈ ofℕ Cs -ᶠ ofℕ (product (f .turned) L) -ᶠ ofℤ (keptDeficit f Cs C) -ᶠ ofℕ turned -ᶠ ofℕ loss
 unfolding oxygenWith keptDeficit
 oxygen-parts f Cs L C turned loss =
     let G = product (f .turned) L in
@@ -90,7 +87,3 @@ oxygen-parts f Cs L C turned loss =
   where
     less : {x : Fraction} (a b : ℤ) → ofℤ a ≈ x → ofℤ (a -ℤ b) ≈ x -ᶠ ofℤ b
     less a b e = ≈-trans (ofℤ-sub a b) (+ᶠ-cong e (≈-refl (-ᶠ (ofℤ b))))
-
-pub turned-parts : (card : Card) (Q L : ℕ) (C : ℤ) (turned loss m : ℕ) → ofℤ (oxygenWith (factorsAlong card Q m) (saturationOf card) L C -ℤ pos turned -ℤ pos loss) ≈ ofℕ (saturationOf card) -ᶠ ofℕ (turnedAlong Bod card Q L m) -ᶠ ofℤ (keptDeficit (factorsAlong card Q m) (saturationOf card) C) -ᶠ ofℕ turned -ᶠ ofℕ loss
-unfolding turnedAlong
-turned-parts card Q L C turned loss m = oxygen-parts (factorsAlong card Q m) (saturationOf card) L C turned loss

@@ -1,8 +1,8 @@
 -- What a sludge bed takes: nothing at the head, nothing without demand or volume, and never more than check 14 lets it take.
 -- Assumes nothing.
-use mathlib.Core.Path.{_≡_}
+use mathlib.Core.Path.{_≡_, ap₂}
 use mathlib.Core.Bool.{Bool, true, false}
-use Prim.Native.Nat.{ℕ, _*_, _-_, _/_, _≤_, _<_, zero-le}
+use Prim.Native.Nat.{ℕ, _+_, _*_, _-_, _/_, _≤_, _<_, zero-le}
 use native.Mathlib.Nat.{div-le-of-le-mul, div-le-self, div-mul-le-self, le-of-mul-le-mul-right, mul-le-mul-left, mul-le-mul-right, mul-zero, zero-mul, zero-div}
 use native.Mathlib.Omega.{arith}
 use lib.Dec.{eqb}
@@ -11,19 +11,26 @@ use Rattle.decay.specs.Exact.{foot}
 use Rattle.decay.specs.Fixed.{one, product}
 use Rattle.decay.specs.Step.{RatesPass, stepOf}
 use Rattle.decay.specs.Factors.{SoundStep, factorsAt}
+use Rattle.decay.specs.Mean.{meanFactors}
 use Rattle.decay.specs.declared.step.Step.{Step}
 use Rattle.decay.specs.declared.factors.Factors.{Factors}
 use Rattle.decay.proofs.step.Shares.{step-fills}
 use Rattle.decay.proofs.factors.Instants.{deficit-lost}
+use Rattle.decay.proofs.mean.Averages.{mean-deficit-lost}
 use Rattle.river.specs.declared.card.Card.{Card}
 use Rattle.river.specs.Flow.{sludgeOf}
 use Rattle.report.specs.Bed.{bedBy, bedOf, noBed, lossWith, BedPasses, lossLimit, LossInRange, BedInRange}
+use Rattle.report.specs.Mean.{middle}
 use Rattle.report.specs.declared.bed.Bed.{Bed}
 use Rattle.report.proofs.bed.Rows
 
 -- what takes nothing leaves oxygen as it is
 pub less-nothing : {z : ℤ} {loss : ℕ} → loss ≡ 0 → z -ℤ pos loss ≡ z
 less-nothing {z} e = rw e (+ℤ-idr z)
+
+-- a bed that takes nothing is no bed
+pub no-bed : (bed : Bed) → bed .eventual ≤ 0 → bed .linear ≤ 0 → bed ≡ noBed
+no-bed bed e l = ap₂ (λ (x y : ℕ). record { eventual = x; linear = y }) (omega arith) (omega arith)
 
 -- no bed takes nothing
 pub no-bed-loss : (f : Factors) (m : ℕ) → lossWith f noBed m ≡ 0
@@ -57,18 +64,26 @@ tied-loss card Q f m h z = go (eqb (card .k2) 0)
     go true = still-loss f _ m h (rw (z, zero-mul, zero-div (54 * Q), zero-mul))
     go false = still-loss f _ m h (zero-mul m)
 
--- THEOREM: at no instant does a bed in range take more than its limit
-pub loss-in-range : {step : Step} {bed : Bed} → SoundStep step → BedInRange step bed → (m : ℕ) → m ≤ foot → LossInRange (factorsAt step m) bed m
+-- where the head's deficit has lost no more than the foot may, a bed in range takes no more than its limit
+loss-where : {f : Factors} {step : Step} {bed : Bed} → one ≤ f .kept + foot * step .filled → BedInRange step bed → (m : ℕ) → m ≤ foot → LossInRange f bed m
 unfolding lossWith product
-loss-in-range {step} {bed} sound r m l =
-    let lost = one - (factorsAt step m) .kept in
-    let most : lost * bed .eventual ≤ foot * step .filled * bed .eventual = mul-le-mul-right (bed .eventual) (omega (arith, deficit-lost sound m, mul-le-mul-right (step .filled) l)) in
+loss-where {f} {step} {bed} h r m l =
+    let lost = one - f .kept in
+    let most : lost * bed .eventual ≤ foot * step .filled * bed .eventual = mul-le-mul-right (bed .eventual) (omega arith) in
     record {
       eventual = r .eventual;
       linear = omega (arith, r .loss);
       instant = l;
       loss = omega (arith, r .loss, most, div-mul-le-self (lost * bed .eventual) one, div-mul-le-self (bed .linear * m) foot, mul-le-mul-left (bed .linear) l);
     }
+
+-- THEOREM: at no instant does a bed in range take more than its limit
+pub loss-in-range : {step : Step} {bed : Bed} → SoundStep step → BedInRange step bed → (m : ℕ) → m ≤ foot → LossInRange (factorsAt step m) bed m
+loss-in-range {step} sound r m l = loss-where (omega (arith, deficit-lost sound m, mul-le-mul-right (step .filled) l)) r m l
+
+-- THEOREM: nor does it on average
+pub mean-loss-in-range : {mean step : Step} {bed : Bed} → SoundStep mean → SoundStep step → mean .filled ≤ step .filled → BedInRange step bed → LossInRange (meanFactors mean step) bed middle
+mean-loss-in-range sound-mean sound h r = loss-where (mean-deficit-lost sound-mean sound h) r middle (omega arith)
 
 -- the loss in the end is largest for the largest demand and the smallest k2
 pub eventual-small : (card : Card) (Q : ℕ) → sludgeOf card ≤ 65_535 → bedOf card Q .eventual ≤ 65_535_000_000

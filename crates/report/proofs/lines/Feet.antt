@@ -21,9 +21,10 @@ use Rattle.river.specs.declared.head.FootTable.{FootTable}
 use Rattle.river.specs.declared.head.Head.{Head}
 use Rattle.river.specs.declared.source.Demand.{Demand}
 use Rattle.river.specs.declared.source.Demand.the-variants.{Bod, Nitrogenous}
+use Rattle.river.specs.Bytes.{fourBytes}
 use Rattle.river.specs.Card.{blank}
 use Rattle.river.specs.Source.{sourceOf}
-use Rattle.river.specs.Flow.{Feeders, flowLimit, takeOf, cardOf, above, feedersAmong, fed, flowOf, reachFlow, flowAt, depthAt}
+use Rattle.river.specs.Flow.{Feeders, flowLimit, takeOf, cardOf, above, feedersAmong, fed, flowOf, reachFlow, flowAt, massAt, depthAt}
 use Rattle.river.specs.FlowTable.{feederSum}
 use Rattle.river.specs.Head.{headDemand, headOxygen}
 use Rattle.river.specs.HeadTable.{noFeet, footOf, withFoot, HeadInput, HeadOf, FootWithin, HeadTabled}
@@ -35,9 +36,12 @@ use Rattle.river.proofs.head.Heads.{fedBy, quBy, sumsBy, flow-bounded, fed-here
 use Rattle.report.specs.Bed.{lossLimit}
 use Rattle.report.specs.Program.{demandSum, oxygenSum, demandAtHead, oxygenAtHead, demandAt, oxygenAt, figuresBelow, figuresOf, figuresAt, foot}
 use Rattle.report.specs.Ties.{footFigure}
-use Rattle.report.specs.Record.{hasNitrification, encodeRecord, figuresIn, Figures}
+use Rattle.report.specs.Record.{hasNitrification, complement, encodeRecord, figuresIn, Figures}
 use Rattle.report.specs.declared.record.Line.{Line}
-use Rattle.report.specs.Lines.{LineReady, HeadFits, footBy, Ready, FeetOf, LineOf, LineAt, ReachReported}
+use Rattle.report.specs.Mean.{meanOxygen}
+use Rattle.report.specs.MeanLines.{PassageBelow, PassageOf, ReachAveraged}
+use Rattle.report.specs.declared.mean.Passage.{Passage}
+use Rattle.report.specs.Lines.{LineReady, HeadFits, footBy, Ready, FeetOf, LineOf, LineAt, HeadOfReach, ReachReported}
 use Rattle.report.proofs.Facts.Floor.{ofℤ-sub}
 use Rattle.report.proofs.Bounds.{mostBelow}
 use Rattle.report.proofs.Forest.{rates-pass, bed-passes, reach-accepted}
@@ -117,28 +121,30 @@ module _ {cards : List Card} {flows : FlowTable} {feet : FootTable} {i : ℕ} (r
       }
 
   -- the head that these make is that of the reach
-  pub record HeadIs (h : Head) : Type 0 where
-    pub bod : h .bod ≡ demandAtHead Bod (cardOf cards (suc i)) (above cards (suc i))
-    pub nitrogenous : h .nitrogenous ≡ demandAtHead Nitrogenous (cardOf cards (suc i)) (above cards (suc i))
-    pub oxygen : oxygenOf (h .oxygen) ≡ oxygenAtHead (cardOf cards (suc i)) (above cards (suc i))
+  module _ {h : Head} (of : HeadOf (cardOf cards (suc i)) (fed (above cards (suc i))) (flowOf (above cards (suc i))) (sumsBy flows feet i) h) where
+    head-bod : h .bod ≡ demandAtHead Bod (cardOf cards (suc i)) (above cards (suc i))
+    unfolding demandAtHead
+    head-bod = of .bod ∙ ap (headDemand (sourceOf Bod (cardOf cards (suc i))) (fed (above cards (suc i))) (flowOf (above cards (suc i)))) (demand-table Bod (feet .bod) (f .bod))
 
-  pub head-is : {h : Head} → HeadOf (cardOf cards (suc i)) (fed (above cards (suc i))) (flowOf (above cards (suc i))) (sumsBy flows feet i) h → HeadIs h
-  unfolding demandAtHead oxygenAtHead
-  head-is of =
-      record {
-        bod = of .bod ∙ ap (headDemand (sourceOf Bod (cardOf cards (suc i))) (fed (above cards (suc i))) (flowOf (above cards (suc i)))) (demand-table Bod (feet .bod) (f .bod));
-        nitrogenous = of .nitrogenous ∙ ap (headDemand (sourceOf Nitrogenous (cardOf cards (suc i))) (fed (above cards (suc i))) (flowOf (above cards (suc i)))) (demand-table Nitrogenous (feet .nitrogenous) (f .nitrogenous));
-        oxygen = of .oxygen ∙ ap (headOxygen (cardOf cards (suc i)) (fed (above cards (suc i))) (flowOf (above cards (suc i)))) (oxygen-of-feeders oxygen-adds oxygen-table (suc i));
-      }
+    head-nitrogenous : h .nitrogenous ≡ demandAtHead Nitrogenous (cardOf cards (suc i)) (above cards (suc i))
+    unfolding demandAtHead
+    head-nitrogenous = of .nitrogenous ∙ ap (headDemand (sourceOf Nitrogenous (cardOf cards (suc i))) (fed (above cards (suc i))) (flowOf (above cards (suc i)))) (demand-table Nitrogenous (feet .nitrogenous) (f .nitrogenous))
 
-  -- it is in the ranges that a profile asks
-  pub head-fits : {h : Head} → HeadIs h → HeadFits h
-  head-fits {h} is =
-      let r = head-in-range (is-river ready) i l in
-      record {
-        demands = rw (is .bod, is .nitrogenous) (r .demands-range);
-        low = stored-low (h .bod + h .nitrogenous) (h .oxygen) (subst (λ (z : ℤ). ofℕ (h .bod + h .nitrogenous) ≼ ofℤ z +ᶠ ofℕ mostBelow) (sym (is .oxygen)) (rw (is .bod, is .nitrogenous) (r .demands-below)));
-      }
+    head-oxygen : oxygenOf (h .oxygen) ≡ oxygenAtHead (cardOf cards (suc i)) (above cards (suc i))
+    unfolding oxygenAtHead
+    head-oxygen = of .oxygen ∙ ap (headOxygen (cardOf cards (suc i)) (fed (above cards (suc i))) (flowOf (above cards (suc i)))) (oxygen-of-feeders oxygen-adds oxygen-table (suc i))
+
+    -- it is in the ranges that a profile asks
+    head-fits : HeadFits h
+    head-fits =
+        let r = head-in-range (is-river ready) i l in
+        record {
+          demands = rw (head-bod, head-nitrogenous) (r .demands-range);
+          low = stored-low (h .bod + h .nitrogenous) (h .oxygen) (subst (λ (z : ℤ). ofℕ (h .bod + h .nitrogenous) ≼ ofℤ z +ᶠ ofℕ mostBelow) (sym head-oxygen) (rw (head-bod, head-nitrogenous) (r .demands-below)));
+        }
+
+    pub head-of-reach : flowAt cards (suc i) * (h .bod + h .nitrogenous) ≤ 1000 * massAt cards (suc i) → HeadOfReach cards i h
+    head-of-reach mass = record { bod = head-bod; nitrogenous = head-nitrogenous; oxygen = head-oxygen; fits = head-fits; mass = mass }
 
 -- what is handed on of a reach
 module _ {card : Card} {flow depth : ℕ} {sums : Brought} (p : LineAt card flow depth sums) where
@@ -165,30 +171,53 @@ module _ {card : Card} {flow depth : ℕ} {sums : Brought} (p : LineAt card flow
     pub head-asked : HeadInput card (ltb 1 depth) Qu sums
     head-asked = rw (p .depth-is) (head-input tabled (p .own) qu-is (p .sums-are))
 
-    module _ {h : Head} (of : HeadOf card (ltb 1 depth) Qu sums h) where
-      at-tables : HeadOf card (fedBy (p .flows) (p .i)) Qu sums h
-      at-tables = rw (p .depth-is) at of
+    -- that head
+    pub head-here : {h : Head} → HeadOf card (ltb 1 depth) Qu sums h → HeadOfReach (p .cards) (p .i) h
+    head-here {h} of =
+        let at-tables : HeadOf card (fedBy (p .flows) (p .i)) Qu sums h = rw (p .depth-is) at of in
+        head-of-reach (p .ready) (p .feet-are) (p .within) (rw (p .sums-are, qu-is, qu-here tabled (p .own), fed-here tabled, p .own) at at-tables)
+        (head-within tabled (p .own) qu-is (p .sums-are) at-tables)
 
-      here : HeadIs (p .ready) (p .feet-are) (p .within) h
-      here = head-is (p .ready) (p .feet-are) (p .within) (rw (p .sums-are, qu-is, qu-here tabled (p .own), fed-here tabled, p .own) at at-tables)
+  module _ {h : Head} (here : HeadOfReach (p .cards) (p .i) h) where
+    -- the line below it is that of the reach
+    pub line-of-reach : (line : Line) → figuresIn line ≡ figuresBelow card depth flow (h .bod) (h .nitrogenous) (oxygenOf (h .oxygen)) → LineOf (p .cards) (p .i) line
+    unfolding figuresOf
+    line-of-reach line e =
+        record {
+          figures = e ∙ rw (p .own, depth-here, flow-here, here .bod, here .nitrogenous, here .oxygen);
+          mass = rw (ap (λ (f : Figures). f .head-bod) e, ap (λ (f : Figures). f .head-nitrogenous) e) (here .mass);
+        }
 
-      -- what the line below it asks
-      pub line-fits : HeadFits h
-      line-fits = head-fits (p .ready) (p .feet-are) (p .within) here
-
-      -- that line is that of the reach
-      pub line-of-reach : (line : Line) → figuresIn line ≡ figuresBelow card depth flow (h .bod) (h .nitrogenous) (oxygenOf (h .oxygen)) → LineOf (p .cards) (p .i) line
-      unfolding figuresOf
-      line-of-reach line e =
-          record {
-            figures = e ∙ rw (p .own, depth-here, flow-here, here .bod, here .nitrogenous, here .oxygen);
-            mass = rw (ap (λ (f : Figures). f .head-bod) e, ap (λ (f : Figures). f .head-nitrogenous) e) (head-within tabled (p .own) qu-is (p .sums-are) at-tables);
-          }
+    -- and what is handed on below it is what the reach hands on
+    pub passage-of-reach : {passage : Passage} → PassageBelow card flow (h .bod) (h .nitrogenous) (oxygenOf (h .oxygen)) passage → passage .«foot_oxygen» < 4_294_967_296 → PassageOf (p .cards) (p .i) passage
+    unfolding figuresOf meanOxygen
+    passage-of-reach {passage} below fits =
+        let card′ = cardOf (p .cards) (suc (p .i)) in
+        let up = above (p .cards) (suc (p .i)) in
+        let Q = flowAt (p .cards) (suc (p .i)) in
+        let f = figuresAt (p .cards) (suc (p .i)) in
+        let b : PassageBelow card′ Q (demandAtHead Bod card′ up) (demandAtHead Nitrogenous card′ up) (oxygenAtHead card′ up) passage = rw (p .own, flow-here, here .bod, here .nitrogenous, here .oxygen) at below in
+        let oxygen : passage .«foot_oxygen» ≡ storedOf (f .foot-oxygen) = sym (stored-of (passage .«foot_oxygen»)) ∙ ap storedOf (b .foot-oxygen) in
+        let brings : footOf Q (passage .«foot_bod») (passage .«foot_nitrogenous») (passage .«foot_oxygen») ≡ footBy Q f = rw (b .foot-bod, b .foot-nitrogenous, oxygen) in
+        let t = reach-tied (is-river (p .ready)) (p .i) (p .within) .foot-demand in
+        let bod : passage .«foot_bod» ≤ h .bod = rw (b .foot-bod, here .bod) (t Bod) in
+        let nitrogenous : passage .«foot_nitrogenous» ≤ h .nitrogenous = rw (b .foot-nitrogenous, here .nitrogenous) (t Nitrogenous) in
+        record {
+          brings = brings;
+          within = rw (← brings) (foot-within (h .bod + h .nitrogenous) (passage .«foot_bod») (passage .«foot_nitrogenous») refl (omega (arith, bod, nitrogenous)) (here .mass) (omega arith));
+          mean = b .mean;
+        }
 
   pub line-ready : LineReady card flow
   line-ready =
       let own = reach-accepted (p .cards) (p .ready .lawful) (p .ready .sound) (p .i) (p .within) in
       rw (p .own, flow-here) record { rates = rates-pass own; saturation = own .saturation; bed = bed-passes own }
+
+  -- what is handed on, with the bytes of the mean
+  pub reach-averaged : {passage : Passage} → PassageOf (p .cards) (p .i) passage → (at : ℕ) (before after : List ℕ) {foot : Brought} → foot ≡ footOf flow (passage .«foot_bod») (passage .«foot_nitrogenous») (passage .«foot_oxygen») → after ≡ sets before at (fourBytes (complement (oxygenOf (passage .mean)))) → ReachAveraged (p .cards) (p .i) at before after (record { foot = foot; mean = passage .mean })
+  reach-averaged {passage} of at before after e r =
+      let told = e ∙ ap (λ (n : ℕ). footOf n (passage .«foot_bod») (passage .«foot_nitrogenous») (passage .«foot_oxygen»)) flow-here ∙ of .brings in
+      record { brings = told; within = rw told (of .within); mean = of .mean; bytes = rw (of .mean) at r }
 
   -- what a line says of its reach
   module _ {line : Line} (of : LineOf (p .cards) (p .i) line) where

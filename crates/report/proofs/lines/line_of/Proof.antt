@@ -12,14 +12,14 @@ step-of-requires c κs = c .pre .0 .rates Bod
 nitrogenous-step-requires : tie.Need-nitrogenous-step-requires
 nitrogenous-step-requires c κs = (c .before .pre .0 .rates Nitrogenous, c .step-of .ensures)
 
-saturation-of-requires : tie.Need-saturation-of-requires
-saturation-of-requires c κs = c .before .before .pre .0 .saturation
-
 bed-of-requires : tie.Need-bed-of-requires
 bed-of-requires c κs =
-    let s = c .before .before .before .before .before .before in
+    let s = c .before .before in
     let rates = s .pre .0 .rates Bod in
     (s .pre .0 .bed, rates .flow-above, rates .flow-below)
+
+saturation-of-requires : tie.Need-saturation-of-requires
+saturation-of-requires c κs = c .before .before .before .pre .0 .saturation
 
 -- the shares of the steps, and the ranges of the start and of the bed
 profile-of-requires : tie.Need-profile-of-requires
@@ -29,8 +29,8 @@ profile-of-requires c κs =
     let step = c .before .before .before .before .before .before .step-of .ensures in (
       start-sound step (p .rates Bod),
       start-sound (c .before .before .before .before .before .nitrogenous-step .ensures) (p .rates Nitrogenous),
-      start-range (s .args .card) (s .pre .1 .demands) (s .pre .1 .low) (omega arith) (p .saturation) (c .before .before .before .before .saturation-of .ensures),
-      start-bed (s .args .card) step (c .bed-of .ensures) (p .rates Bod) (p .bed),
+      start-range (s .args .card) (s .pre .1 .demands) (s .pre .1 .low) (omega arith) (p .saturation) (c .before .before .before .saturation-of .ensures),
+      start-bed (s .args .card) step (c .before .before .before .before .bed-of .ensures) (p .rates Bod) (p .bed),
     )
 
 cast-t15 : tie.Need-cast-t15
@@ -52,8 +52,8 @@ returns c =
     line-figures (s .args .card) (s .args .flow) (s .args .depth) (s .args .head .bod) (s .args .head .nitrogenous) (s .args .head .oxygen) _ _ _ _ _
     (c .before .before .before .before .before .before .before .before .before .before .before .before .step-of .ensures)
     (c .before .before .before .before .before .before .before .before .before .before .before .nitrogenous-step .ensures)
-    (c .before .before .before .before .before .before .before .before .before .before .saturation-of .ensures)
-    (c .before .before .before .before .before .before .bed-of .ensures)
+    (c .before .before .before .before .before .before .before .before .before .saturation-of .ensures)
+    (c .before .before .before .before .before .before .before .before .before .before .bed-of .ensures)
     (c .before .before .before .before .before .profile-of .ensures)
 
 pub line-of-spec : {M : Type 1} → statement M
@@ -62,12 +62,12 @@ line-of-spec =
     (tie.spec
     step-of-requires
     nitrogenous-step-requires
+    bed-of-requires
     saturation-of-requires
     (λ cast-t11. search needs)
     (λ cast-t12. search needs)
     (λ cast-t13. search needs)
     (λ cast-t14. search needs)
-    bed-of-requires
     profile-of-requires
     cast-t15
     cast-t16

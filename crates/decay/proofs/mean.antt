@@ -1,0 +1,2 @@
+-- Averages and means of the factors.
+pub mod Averages

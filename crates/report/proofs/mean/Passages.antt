@@ -1,0 +1,127 @@
+-- What a reach hands on: nitrogenous BOD by its sums, and the figures of the foot and the mean. Assumes nothing.
+use mathlib.Core.Path.{_≡_, refl, sym, ap, ap₂, _∙_}
+use Prim.Native.Nat.{ℕ, suc, _+_, _*_, _/_, _≤_, _<_}
+use native.Mathlib.Nat.{le-refl, zero-mul}
+use native.Mathlib.Omega.{arith}
+use Rattle.decay.specs.Exact.{foot}
+use Rattle.decay.specs.Fixed.{one, product}
+use Rattle.decay.specs.Step.{RatesPass, stepOf, meanStepOf}
+use Rattle.decay.specs.Factors.{SoundStep, AreShares, nextDemand, nextFactors, demandFrom, factorsAt}
+use Rattle.decay.specs.Mean.{meanDemand, meanDemandOf, meanFactors, DemandSummed, FactorsSummed, DemandSumsFit, FactorSumsFit}
+use Rattle.decay.specs.declared.step.Step.{Step}
+use Rattle.decay.specs.declared.factors.DemandFactors.{DemandFactors}
+use Rattle.decay.specs.declared.factors.Factors.{Factors}
+use Rattle.decay.specs.declared.mean.DemandSums.{DemandSums}
+use Rattle.decay.specs.declared.mean.FactorSums.{FactorSums}
+use Rattle.decay.proofs.step.Shares.{step-sound, step-loses-nothing}
+use Rattle.decay.proofs.step.MeanShares.{mean-step-sound, mean-loses-nothing, mean-fills}
+use Rattle.decay.proofs.fixed.Digits.{share-below}
+use Rattle.decay.proofs.factors.Instants.{demand-kept, demand-range}
+use Rattle.decay.proofs.mean.Averages.{demand-sums-fit, factor-sums-fit, mean-demand-kept, mean-range, mean-demand-range}
+use Rattle.river.specs.declared.card.Card.{Card}
+use Rattle.river.specs.declared.source.Demand.the-variants.{Bod, Nitrogenous}
+use Rattle.river.specs.Source.{rateOf}
+use Rattle.river.specs.Saturation.{saturationOf}
+use Rattle.river.specs.declared.head.Head.{Head}
+use Rattle.river.specs.Stored.{oxygenOf}
+use Rattle.report.specs.Bed.{bedOf, LossInRange}
+use Rattle.report.specs.Program.{unitParts, factorsAlong, partsAlong, demandAlong, turnedAlong, lossAlong, oxygenAlong}
+use Rattle.report.specs.Profile.{oxygenOver}
+use Rattle.report.specs.Mean.{middle, factorsMean, turnedMean, meanAlong}
+use Rattle.report.specs.MeanLines.{demandsAlong, PassageReady, HandsOn, PassageBelow}
+use Rattle.report.specs.Lines.{LineReady, HeadFits}
+use Rattle.report.specs.declared.bed.Bed.{Bed}
+use Rattle.report.specs.declared.profile.Start.{Start}
+use Rattle.report.specs.declared.mean.Passage.{Passage}
+use Rattle.report.specs.declared.mean.DemandAlong.{DemandAlong}
+use Rattle.report.proofs.bed.Loss.{loss-in-range, mean-loss-in-range}
+use Rattle.report.proofs.lines.Lines.{start-range, start-bed}
+
+-- steps that a reach makes are sound
+pub sound : {step : Step} {k k2 volume flow : ℕ} → step ≡ stepOf k k2 volume flow → RatesPass k k2 volume flow → SoundStep step
+sound e p = rw e (step-sound _ _ _ _ p)
+
+pub mean-sound : {mean : Step} {k k2 volume flow : ℕ} → mean ≡ meanStepOf k k2 volume flow → RatesPass k k2 volume flow → SoundStep mean
+mean-sound e p = rw e (mean-step-sound _ _ _ _ p)
+
+-- without nitrification all of a demand stays
+pub idle-along : (card : Card) (flow start : ℕ) → rateOf Nitrogenous card ≡ 0 → RatesPass (rateOf Nitrogenous card) (card .k2) (card .volume) flow → record { foot = record { left = start; turned = 0 }; mean = record { left = start; turned = 0 } } ≡ demandsAlong card flow start
+idle-along card flow start z p =
+    let k = rateOf Nitrogenous card in
+    let none : k * card .volume ≡ 0 = rw (z, zero-mul) in
+    let s = step-loses-nothing k (card .k2) (card .volume) flow p none in
+    let m = mean-loses-nothing k (card .k2) (card .volume) flow p none in
+    sym (ap₂ (λ (f d : DemandFactors). record { foot = f; mean = d }) (demand-kept _ (s .0) (s .1) start foot) (mean-demand-kept _ _ (m .0) (m .1) (s .0) (s .1) start))
+
+-- with it, its sums give foot and mean
+pub demands-made : (card : Card) (flow start : ℕ) {step mean : Step} (d : DemandSums) → step ≡ stepOf (rateOf Nitrogenous card) (card .k2) (card .volume) flow → mean ≡ meanStepOf (rateOf Nitrogenous card) (card .k2) (card .volume) flow → DemandSummed start step foot d → record { foot = d .reached; mean = nextDemand mean (record { left = d .left / foot; turned = d .turned / foot }) } ≡ demandsAlong card flow start
+unfolding meanDemand
+demands-made card flow start d e m s = rw (m, s .left, s .turned, s .reached, e)
+
+pub demand-sums-few : {start : ℕ} {step : Step} {d : DemandSums} → SoundStep step → start ≤ one → DemandSummed start step foot d → DemandSumsFit d
+demand-sums-few sound few s = demand-sums-fit sound few (le-refl foot) s
+
+-- the factors at the foot and the means, from the sums of a reach that is ready
+module _ {step mean : Step} {demand : DemandAlong} {start : Start} {bed : Bed} (r : PassageReady step mean demand start bed) {f : FactorSums} (s : FactorsSummed step foot f) where
+  pub sums-fit : FactorSumsFit f
+  sums-fit = factor-sums-fit (r .sound) (le-refl foot) s
+
+  pub foot-loss : LossInRange (f .reached) bed foot
+  foot-loss = rw (s .reached) (loss-in-range (r .sound) (r .bed-range) foot (le-refl foot))
+
+  pub foot-bod-few : product (f .reached .left) (start .bod) ≤ 1_000_000_000
+  foot-bod-few = omega (arith, share-below (f .reached .left) (start .bod) (omega (arith, sums-fit .reached .bod)), r .start-range .demands)
+
+  module _ {g : Factors} (e : g ≡ nextFactors mean (record { left = f .left / foot; turned = f .turned / foot; kept = f .kept / foot })) where
+    mean-is : g ≡ meanFactors mean step
+    unfolding meanFactors
+    mean-is = e ∙ rw (s .left, s .turned, s .kept)
+
+    pub mean-shares : AreShares g
+    mean-shares = rw mean-is (mean-range (r .mean-sound) (r .sound))
+
+    pub mean-loss : LossInRange g bed middle
+    mean-loss = rw mean-is (mean-loss-in-range (r .mean-sound) (r .sound) (r .fills) (r .bed-range))
+
+    -- what is made of them
+    pub handed-on :
+        {p : Passage} →
+        p .«foot_bod» ≡ product (f .reached .left) (start .bod) →
+        p .«foot_nitrogenous» ≡ demand .foot .left / unitParts →
+        oxygenOf (p .«foot_oxygen») ≡ oxygenOver start bed (f .reached) (demand .foot) foot →
+        oxygenOf (p .mean) ≡ oxygenOver start bed g (demand .mean) middle →
+        HandsOn step mean demand start bed p
+    handed-on a b c d =
+        record {
+          foot-bod = a ∙ ap (λ (x : Factors). product (x .left) (start .bod)) (s .reached);
+          foot-nitrogenous = b;
+          foot-oxygen = c ∙ ap (λ (x : Factors). oxygenOver start bed x (demand .foot) foot) (s .reached);
+          mean-oxygen = d ∙ ap (λ (x : Factors). oxygenOver start bed x (demand .mean) middle) mean-is;
+        }
+
+-- the steps of a reach, its nitrogenous BOD, saturation and bed
+module _ (card : Card) (flow : ℕ) (head : Head) {step mean : Step} {demand : DemandAlong} {saturated : ℕ} {bed : Bed} (e : step ≡ stepOf (card .k1) (card .k2) (card .volume) flow) (m : mean ≡ meanStepOf (card .k1) (card .k2) (card .volume) flow) (d : demand ≡ demandsAlong card flow (unitParts * head .nitrogenous)) (t : saturated ≡ saturationOf card) (b : bed ≡ bedOf card flow) where
+  abbrev start : Start
+  start = record { bod = head .bod; nitrogenous = head .nitrogenous; oxygen = head .oxygen; saturation = saturated }
+
+  -- are what it is to be handed
+  pub passage-ready : LineReady card flow → HeadFits head → head .oxygen < 4_294_967_296 → PassageReady step mean demand start bed
+  passage-ready p h fits =
+      let rates = p .rates Bod in
+      let other = p .rates Nitrogenous in
+      record {
+        sound = sound e rates;
+        mean-sound = mean-sound m rates;
+        fills = rw (e, m) (mean-fills (card .k1) (card .k2) (card .volume) flow rates);
+        start-range = start-range card (h .demands) (h .low) fits (p .saturation) t;
+        bed-range = start-bed card e b rates (p .bed);
+        foot-parts = rw d (demand-range (step-sound _ _ _ _ other) (unitParts * head .nitrogenous) foot);
+        mean-parts = rw d (mean-demand-range (mean-step-sound _ _ _ _ other) (step-sound _ _ _ _ other) (unitParts * head .nitrogenous));
+      }
+
+  -- and give its figures
+  pub passage-below : {p : Passage} → HandsOn step mean demand start bed p → PassageBelow card flow (head .bod) (head .nitrogenous) (oxygenOf (head .oxygen)) p
+  unfolding demandAlong turnedAlong lossAlong oxygenAlong factorsAlong partsAlong meanAlong factorsMean turnedMean
+  passage-below {p} made =
+      let h : HandsOn (stepOf (card .k1) (card .k2) (card .volume) flow) (meanStepOf (card .k1) (card .k2) (card .volume) flow) (demandsAlong card flow (unitParts * head .nitrogenous)) (record { bod = head .bod; nitrogenous = head .nitrogenous; oxygen = head .oxygen; saturation = saturationOf card }) (bedOf card flow) p = rw (e, m, d, t, b) at made in
+      record { foot-bod = h .foot-bod; foot-nitrogenous = h .foot-nitrogenous; foot-oxygen = h .foot-oxygen; mean = h .mean-oxygen }

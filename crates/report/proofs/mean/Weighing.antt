@@ -1,0 +1,115 @@
+-- The means weighed in two sums: together they stand for the sum of volume × mean, and their quotient by long division is the river's mean.
+-- The rows of means are named here so that they are checked first. Assumes nothing.
+use mathlib.Core.Path.{_≡_, refl, sym, ap, ap₂, _∙_}
+use mathlib.Core.List.{List}
+use Prim.Native.Nat.{ℕ, suc, _+_, _*_, _-_, _/_, _%_, _≤_, _<_}
+use native.Mathlib.Nat.{add-mul, suc-mul, add-sub-of-le, div-add-mod', div-le-of-le-mul, mul-comm, mod-eq-of-lt, mod-lt, lt-of-mul-lt-mul-right, mul-add-div-right, mul-add, mul-add-mod-self-right, mul-le-mul, mul-le-mul-left}
+use native.Mathlib.Omega.{arith}
+use native.Mathlib.Decide.{decLe}
+use lib.IntN.{ℤ, pos, negsuc, negℤ, subℕ, _+ℤ_, _*ℤ_, +ℤ-comm}
+use Rattle.river.specs.declared.card.Card.{Card}
+use Rattle.river.specs.Head.{floor}
+use Rattle.river.specs.Stored.{storedZero, storedLimit, oxygenOf, oxygenSumOf}
+use Rattle.river.proofs.head.Offset.{sub-pos, sub-neg, minus, sub-add, times-sub, floor-offset}
+use Rattle.report.proofs.MeanRows
+use Rattle.report.specs.Mean.{meanAt, volumeAt, weightedSum, restOf, dividedBy, Weighted, volumeSum}
+use Rattle.report.specs.MeanLines.{chunk, volumeLimit, weighedWith, wholeSum, Weighs}
+use Rattle.report.specs.declared.mean.Weights.{Weights}
+
+-- ---- long division by chunks of 16 bits
+
+chunks : (h l d : ℕ) → chunk * h + l ≡ h / d * chunk * d + (h % d * chunk + l)
+chunks h l d = parts (h / d) (h % d) (div-add-mod' h d)
+  where
+    parts : (q r : ℕ) → q * d + r ≡ h → chunk * h + l ≡ q * chunk * d + (r * chunk + l)
+    parts q r e = rw (← e) (omega arith)
+
+pub long-quotient : (h l d : ℕ) → 0 < d → h / d * chunk + (h % d * chunk + l) / d ≡ (chunk * h + l) / d
+long-quotient h l d p = sym (ap (λ (n : ℕ). n / d) (chunks h l d) ∙ mul-add-div-right p (h / d * chunk) (h % d * chunk + l))
+
+pub long-remainder : (h l d : ℕ) → (h % d * chunk + l) % d ≡ (chunk * h + l) % d
+long-remainder h l d = sym (ap (λ (n : ℕ). n % d) (chunks h l d) ∙ mul-add-mod-self-right (h / d * chunk) d (h % d * chunk + l))
+
+-- a quotient that fits four bytes
+pub quotient-fits : (n volume : ℕ) → n ≤ storedLimit * volume → n / volume ≤ storedLimit
+quotient-fits n volume h = div-le-of-le-mul volume (omega (arith, mul-comm storedLimit volume))
+
+-- ---- the quotient of stored means
+
+-- what is left of a sum of volume × stored oxygen is what is left of that of volume × oxygen
+below-zero : (n k d q r : ℕ) → q * d + r ≡ n → r < d → n < k * d → d - 1 - (k * d - suc n) % d ≡ r
+below-zero n k d q r e l h =
+    let fewer : suc q ≤ k = lt-of-mul-lt-mul-right d (let m : q * d < k * d = omega arith in m) in
+    let t : ℕ = k - suc q in
+    let whole : k ≡ t + suc q = omega arith in
+    let split : k * d - suc n ≡ t * d + (d - 1 - r) = omega (arith, ap (λ (m : ℕ). m * d) whole, add-mul t (suc q) d, suc-mul q d) in
+    ap (λ (m : ℕ). d - 1 - m % d) split ∙ ap (λ (m : ℕ). d - 1 - m) (mul-add-mod-self-right t d (d - 1 - r) ∙ mod-eq-of-lt (omega arith)) ∙ omega arith
+
+rest-offset : (n k d : ℕ) → 0 < d → restOf (subℕ n (k * d)) d ≡ n % d
+unfolding restOf
+rest-offset n k d p = by-order (decLe (k * d) n)
+  where
+    by-order : Dec (k * d ≤ n) → restOf (subℕ n (k * d)) d ≡ n % d
+    by-order (yes h) =
+        ap (λ (z : ℤ). restOf z d) (sub-pos n (k * d) h) ∙ sym (mul-add-mod-self-right k d (n - k * d)) ∙ ap (λ (m : ℕ). m % d) (add-sub-of-le h)
+    by-order (no h) =
+        ap (λ (z : ℤ). restOf z d) (sub-neg n (k * d) (omega arith)) ∙ below-zero n k d (n / d) (n % d) (div-add-mod' n d) (mod-lt n p) (omega arith)
+
+-- THEOREM: the quotient and the remainder of the sum of volume × stored mean are those of the sum of volume × mean, also below zero
+pub stored-quotient : (sum volume : ℕ) → 0 < volume → record { units = oxygenOf (sum / volume); remainder = sum % volume } ≡ dividedBy (oxygenSumOf volume sum) volume
+unfolding dividedBy oxygenOf
+stored-quotient sum volume p = rw (floor-offset sum storedZero volume p, rest-offset sum storedZero volume p)
+
+-- units × volume + remainder is the sum, and the remainder is below the volume
+pub divided-back : (sum : ℤ) (volume : ℕ) → 0 < volume → dividedBy sum volume .units *ℤ pos volume +ℤ pos (dividedBy sum volume .remainder) ≡ sum
+unfolding dividedBy floor restOf
+divided-back (pos n) volume p = ap pos (div-add-mod' n volume)
+divided-back (negsuc n) volume p = taken (suc (n / volume) * volume) (volume - 1 - n % volume) (omega (arith, suc-mul (n / volume) volume, div-add-mod' n volume, mod-lt n p))
+  where
+    taken : (a b : ℕ) → a ≡ b + suc n → negℤ (pos a) +ℤ pos b ≡ negsuc n
+    taken a b e = +ℤ-comm (negℤ (pos a)) (pos b) ∙ minus b a ∙ sub-neg b a (omega arith) ∙ ap negsuc (omega arith)
+
+pub rest-below : (sum : ℤ) (volume : ℕ) → 0 < volume → dividedBy sum volume .remainder < volume
+unfolding dividedBy restOf
+rest-below (pos n) volume p = mod-lt n p
+rest-below (negsuc n) volume p = omega arith
+
+-- ---- the sums
+
+-- a volume times 16 bits
+pub upper-part : (volume mean : ℕ) → volume ≤ volumeLimit → mean ≤ storedLimit → volume * (mean / chunk) ≤ 65_535 * volumeLimit
+upper-part volume mean h k =
+    let few : mean / chunk ≤ 65_535 = omega arith in
+    omega (arith, mul-le-mul h few)
+
+pub lower-part : (volume mean : ℕ) → volume ≤ volumeLimit → volume * (mean % chunk) ≤ 65_535 * volumeLimit
+lower-part volume mean h =
+    let few : mean % chunk ≤ 65_535 = omega arith in
+    omega (arith, mul-le-mul h few)
+
+-- one more mean
+pub one-weighed : (w : Weights) (volume mean : ℕ) → wholeSum (weighedWith w volume mean) ≡ wholeSum w + volume * mean
+one-weighed w volume mean = parts (mean / chunk) (mean % chunk) (div-add-mod' mean chunk)
+  where
+    parts : (h l : ℕ) → h * chunk + l ≡ mean → chunk * (w .high + volume * h) + (w .low + volume * l) ≡ chunk * w .high + w .low + volume * mean
+    parts h l e = rw (← e) (omega arith)
+
+pub weighs-none : (cards : List Card) → Weighs cards 0 (record { high = 0; low = 0 })
+unfolding volumeSum weightedSum
+weighs-none cards = record { sum = refl; fits = omega arith; high = omega arith; low = omega arith }
+
+pub weighs-next : {cards : List Card} {n : ℕ} {w : Weights} (mean : ℕ) → Weighs cards n w → volumeAt cards (suc n) ≤ volumeLimit → mean ≤ storedLimit → oxygenOf mean ≡ meanAt cards (suc n) → Weighs cards (suc n) (weighedWith w (volumeAt cards (suc n)) mean)
+unfolding volumeSum weightedSum oxygenOf
+weighs-next {cards} {n} {w} mean h few fits is =
+    let v = volumeAt cards (suc n) in
+    let above = volumeSum (λ i. volumeAt cards (suc i)) n in
+    let total = one-weighed w v mean in
+    record {
+      sum =
+          ap₂ subℕ total (mul-add storedZero above v)
+          ∙ sym (sub-add (wholeSum w) (storedZero * above) (v * mean) (storedZero * v))
+          ∙ ap₂ _+ℤ_ (h .sum) (ap (subℕ (v * mean)) (mul-comm storedZero v) ∙ sym (times-sub v mean storedZero) ∙ ap (λ (z : ℤ). pos v *ℤ z) is);
+      fits = omega (arith, total, h .fits, mul-le-mul-left v fits, mul-add storedLimit above v, mul-comm storedLimit v);
+      high = omega (arith, h .high, upper-part v mean few fits, suc-mul n (65_535 * volumeLimit));
+      low = omega (arith, h .low, lower-part v mean few, suc-mul n (65_535 * volumeLimit));
+    }

@@ -1,0 +1,49 @@
+-- `report::mean::divide` meets its contract: long division in two chunks. Assumes nothing.
+use mathlib.Core.Path.{_≡_}
+use Prim.Native.Nat.{ℕ, _*_, _+_, _/_, _%_, _≤_, _<_}
+use native.Mathlib.Nat.{mod-lt}
+use native.Mathlib.Omega.{arith}
+use borrow.Author.Needs.{needs}
+use Rattle.river.specs.Stored.{storedLimit}
+use Rattle.report.specs.MeanLines.{chunk, wholeSum, Divisible}
+use Rattle.report.specs.declared.mean.Weights.{Weights}
+use Rattle.report.proofs.mean.Weighing.{long-quotient, long-remainder, quotient-fits}
+use Rattle.report.proofs.mean.divide.Statement.{statement}
+use Rattle.report.proofs.mean.divide.Tie as tie
+
+module _ {w : Weights} {volume : ℕ} (d : Divisible w volume) where
+  below : w .high % volume < volume
+  below = mod-lt (w .high) (d .some)
+
+  -- the quotient
+  whole : w .high / volume * chunk + (w .high % volume * chunk + w .low) / volume ≡ wholeSum w / volume
+  whole = long-quotient (w .high) (w .low) volume (d .some)
+
+  few : wholeSum w / volume ≤ storedLimit
+  few = quotient-fits (wholeSum w) volume (d .fits)
+
+mul-rest : tie.Need-mul-rest
+mul-rest c = omega (arith, below (c .pre), c .pre .volume-range)
+
+add-rest : tie.Need-add-rest
+add-rest c = omega (arith, below (c .before .pre), c .before .pre .volume-range, c .before .pre .low)
+
+mul-t6 : tie.Need-mul-t6
+mul-t6 c = omega (arith, whole (c .before .pre), few (c .before .pre))
+
+add-t8 : tie.Need-add-t8
+add-t8 c = omega (arith, whole (c .before .pre), few (c .before .pre))
+
+cast-t9 : tie.Need-cast-t9
+cast-t9 c = omega (arith, whole (c .before .pre), few (c .before .pre))
+
+returns : tie.Need-returns
+returns c =
+    let w = c .before .args .w in
+    let volume = c .before .args .volume in
+    rw (whole (c .before .pre), long-remainder (w .high) (w .low) volume)
+
+pub divide-spec : {M : Type 1} → statement M
+divide-spec =
+    tie.close
+    (tie.spec (λ rem-rest. search needs) mul-rest add-rest (λ div-t5. search needs) mul-t6 (λ div-t7. search needs) add-t8 cast-t9 (λ rem-t10. search needs) returns)

@@ -1,0 +1,55 @@
+-- `report::mean::hand_on` meets its contract: the sums give the factors at the foot and the means, and their figures fit four bytes. Assumes
+-- nothing.
+use mathlib.Core.Path.{refl}
+use native.Mathlib.Omega.{arith}
+use borrow.Author.Needs.{needs}
+use Rattle.report.proofs.mean.Passages.{sums-fit, foot-loss, foot-bod-few, mean-shares, mean-loss, handed-on}
+use Rattle.report.proofs.mean.hand_on.Statement.{statement}
+use Rattle.report.proofs.mean.hand_on.Tie as tie
+
+mean-factors-requires : tie.Need-mean-factors-requires
+mean-factors-requires c κs = (c .before .before .pre .mean-sound, sums-fit (c .before .before .pre) (c .before .factor-sums .ensures))
+
+oxygen-over-both-requires : tie.Need-oxygen-over-both-requires
+oxygen-over-both-requires c κs =
+    let t = c .before .before .before in
+    let p = t .before .pre in
+    (sums-fit p (t .factor-sums .ensures) .reached, p .start-range, p .foot-parts, foot-loss p (t .factor-sums .ensures))
+
+oxygen-over-both-requires-2 : tie.Need-oxygen-over-both-requires-2
+oxygen-over-both-requires-2 c κs =
+    let t = c .before .before .before .before in
+    let p = t .before .pre in
+    let e = c .before .before .mean-factors .ensures in
+    (mean-shares p (t .factor-sums .ensures) e, p .start-range, p .mean-parts, mean-loss p (t .factor-sums .ensures) e)
+
+product-requires : tie.Need-product-requires
+product-requires c κs =
+    let t = c .before .before .before .before .before in
+    let p = t .before .pre in
+    (omega (arith, sums-fit p (t .factor-sums .ensures) .reached .bod), omega (arith, p .start-range .demands))
+
+cast-t13 : tie.Need-cast-t13
+cast-t13 c =
+    let t = c .before .before .before .before .before .before in
+    omega (arith, c .product .ensures, foot-bod-few (t .before .pre) (t .factor-sums .ensures))
+
+returns : tie.Need-returns
+returns c =
+    let t = c .before .before .before .before .before .before .before in
+    handed-on (t .before .pre) (t .factor-sums .ensures) (c .before .before .before .before .before .mean-factors .ensures) (c .before .product .ensures) refl (c .before .before .before .oxygen-over-both .ensures .is) (c .before .before .oxygen-over-both2 .ensures .is)
+
+pub hand-on-spec : {M : Type 1} → statement M
+hand-on-spec =
+    tie.close
+    (tie.spec
+    (λ factor-sums-requires. search needs)
+    mean-factors-requires
+    oxygen-over-both-requires
+    oxygen-over-both-requires-2
+    product-requires
+    cast-t13
+    (λ cast-t15. search needs)
+    (λ cast-t16. search needs)
+    (λ cast-t17. search needs)
+    returns)

@@ -1,0 +1,129 @@
+-- What the program holds on the way to the means: what a reach hands on, and the sum of volume × mean, which may need more than eight bytes, in
+-- two parts.
+use mathlib.Core.Path.{_≡_}
+use mathlib.Core.List.{List}
+use Prim.Native.Nat.{ℕ, suc, _+_, _*_, _/_, _%_, _≤_, _<_}
+use lib.IntN.{ℤ}
+use lib.ListN.{length}
+use lib.Seq.{sets}
+use Rattle.decay.specs.Exact.{foot}
+use Rattle.decay.specs.Fixed.{product}
+use Rattle.decay.specs.Mean.{meanDemandOf, meanFactors}
+use Rattle.decay.specs.Factors.{SoundStep, demandFrom, factorsAt}
+use Rattle.decay.specs.Step.{stepOf}
+use Rattle.river.specs.declared.card.Card.{Card}
+use Rattle.river.specs.declared.head.Brought.{Brought}
+use Rattle.river.specs.declared.source.Demand.the-variants.{Bod, Nitrogenous}
+use Rattle.river.specs.Source.{rateOf}
+use Rattle.river.specs.Flow.{flowAt}
+use Rattle.river.specs.HeadTable.{footOf, FootWithin}
+use Rattle.river.specs.Stored.{storedLimit, oxygenOf, oxygenSumOf}
+use Rattle.decay.specs.declared.step.Step.{Step}
+use Rattle.report.specs.Bed.{BedInRange}
+use Rattle.report.specs.Profile.{StartInRange, startParts, oxygenOver}
+use Rattle.report.specs.declared.bed.Bed.{Bed}
+use Rattle.report.specs.declared.profile.Start.{Start}
+use Rattle.report.specs.Program.{unitParts, demandAlong, oxygenAlong, figuresAt}
+use Rattle.report.specs.Lines.{footBy, LineAt}
+use Rattle.report.specs.Mean.{middle, meanAlong, meanAt, volumeAt, volumeSum, weightedSum, meanRow}
+use Rattle.report.specs.declared.mean.DemandAlong.{DemandAlong}
+use Rattle.report.specs.declared.mean.Passage.{Passage}
+use Rattle.report.specs.declared.mean.Passed.{Passed}
+use Rattle.report.specs.declared.mean.Weights.{Weights}
+use Rattle.report.specs.declared.mean.Quotient.{Quotient}
+
+-- nitrogenous BOD along a reach with flow Q that starts with so many parts: what it is at the foot, and on average
+abbrev pub demandsAlong : Card → (Q start : ℕ) → DemandAlong
+demandsAlong card Q start =
+    record {
+      foot = demandFrom start (stepOf (rateOf Nitrogenous card) (card .k2) (card .volume) Q) foot;
+      mean = meanDemandOf start (rateOf Nitrogenous card) (card .k2) (card .volume) Q;
+    }
+
+-- what a reach is to be handed: sound steps, of which the mean one fills no more, a start and a bed in range, and parts that are at most those at the head
+pub record PassageReady (step mean : Step) (demand : DemandAlong) (start : Start) (bed : Bed) : Type 0 where
+  pub sound : SoundStep step
+  pub mean-sound : SoundStep mean
+  pub fills : mean .filled ≤ step .filled
+  pub start-range : StartInRange start
+  pub bed-range : BedInRange step bed
+  pub foot-parts : demand .foot .left + demand .foot .turned ≤ startParts start
+  pub mean-parts : demand .mean .left + demand .mean .turned ≤ startParts start
+
+-- what it hands on then: the demands and oxygen at the foot, and oxygen where the means of the factors hold
+pub record HandsOn (step mean : Step) (demand : DemandAlong) (start : Start) (bed : Bed) (p : Passage) : Type 0 where
+  pub foot-bod : p .«foot_bod» ≡ product (factorsAt step foot .left) (start .bod)
+  pub foot-nitrogenous : p .«foot_nitrogenous» ≡ demand .foot .left / unitParts
+  pub foot-oxygen : oxygenOf (p .«foot_oxygen») ≡ oxygenOver start bed (factorsAt step foot) (demand .foot) foot
+  pub mean-oxygen : oxygenOf (p .mean) ≡ oxygenOver start bed (meanFactors mean step) (demand .mean) middle
+
+-- what a reach with flow Q hands on, with head BOD L, head nitrogenous BOD Ln and head oxygen C: the figures of its foot, and its mean
+pub record PassageBelow (card : Card) (Q L Ln : ℕ) (C : ℤ) (p : Passage) : Type 0 where
+  pub foot-bod : p .«foot_bod» ≡ demandAlong Bod card Q L foot
+  pub foot-nitrogenous : p .«foot_nitrogenous» ≡ demandAlong Nitrogenous card Q Ln foot
+  pub foot-oxygen : oxygenOf (p .«foot_oxygen») ≡ oxygenAlong card Q L Ln C foot
+  pub mean : oxygenOf (p .mean) ≡ meanAlong card Q L Ln C
+
+-- what reach i + 1 hands on: its foot brings what its figures say, in bounds, and its mean
+pub record PassageOf (cards : List Card) (i : ℕ) (p : Passage) : Type 0 where
+  pub brings : footOf (flowAt cards (suc i)) (p .«foot_bod») (p .«foot_nitrogenous») (p .«foot_oxygen») ≡ footBy (flowAt cards (suc i)) (figuresAt cards (suc i))
+  pub within : FootWithin cards i (footBy (flowAt cards (suc i)) (figuresAt cards (suc i)))
+  pub mean : oxygenOf (p .mean) ≡ meanAt cards (suc i)
+
+-- for every river that the card, flow, depth and what is brought may be of
+abbrev pub PassageBy : Card → (flow depth : ℕ) → Brought → Passage → Type 0
+PassageBy card flow depth sums p = (here : LineAt card flow depth sums) → PassageOf (here .cards) (here .i) p
+
+-- what the foot of reach i + 1 brings and its mean, and the buffer with the bytes of the mean at a place
+pub record ReachAveraged (cards : List Card) (i at : ℕ) (before after : List ℕ) (p : Passed) : Type 0 where
+  pub brings : p .foot ≡ footBy (flowAt cards (suc i)) (figuresAt cards (suc i))
+  pub within : FootWithin cards i (p .foot)
+  pub mean : oxygenOf (p .mean) ≡ meanAt cards (suc i)
+  pub bytes : after ≡ sets before at (meanRow cards i)
+
+abbrev pub AveragedBy : Card → (flow depth : ℕ) → Brought → (at : ℕ) (before after : List ℕ) → Passed → Type 0
+AveragedBy card flow depth sums at before after p = (here : LineAt card flow depth sums) → ReachAveraged (here .cards) (here .i) at before after p
+
+-- the upper and lower 16 bits of a stored mean are weighed apart
+abbrev pub chunk : ℕ
+chunk = 65_536
+
+-- the sums with one more mean
+abbrev pub weighedWith : Weights → (volume mean : ℕ) → Weights
+weighedWith w volume mean = record { high = w .high + volume * (mean / chunk); low = w .low + volume * (mean % chunk) }
+
+-- the number that the two sums make
+abbrev pub wholeSum : Weights → ℕ
+wholeSum w = chunk * w .high + w .low
+
+-- the largest volume of a reach
+abbrev pub volumeLimit : ℕ
+volumeLimit = 1_000_000_000
+
+-- the most that each sum of n means can be
+abbrev pub sumLimit : ℕ → ℕ
+sumLimit n = n * (65_535 * volumeLimit)
+
+-- the sums of the first n reaches stand for the sum of volume × mean, and a mean of these fits four bytes
+pub record Weighs (cards : List Card) (n : ℕ) (w : Weights) : Type 0 where
+  pub sum : oxygenSumOf (volumeSum (λ i. volumeAt cards (suc i)) n) (wholeSum w) ≡ weightedSum (λ i. volumeAt cards (suc i)) (λ i. meanAt cards (suc i)) n
+  pub fits : wholeSum w ≤ storedLimit * volumeSum (λ i. volumeAt cards (suc i)) n
+  pub high : w .high ≤ sumLimit n
+  pub low : w .low ≤ sumLimit n
+
+-- what one more mean needs
+pub record RoomToWeigh (w : Weights) (volume : ℕ) : Type 0 where
+  pub volume-range : volume ≤ volumeLimit
+  pub high : w .high ≤ sumLimit 128
+  pub low : w .low ≤ sumLimit 128
+
+-- what a division by the total volume needs: some volume, sums in range, and a mean that fits four bytes
+pub record Divisible (w : Weights) (volume : ℕ) : Type 0 where
+  pub some : 0 < volume
+  pub volume-range : volume ≤ 128 * volumeLimit
+  pub low : w .low ≤ sumLimit 128
+  pub fits : wholeSum w ≤ storedLimit * volume
+
+-- the mean and what is left
+abbrev pub quotientOf : Weights → (volume : ℕ) → Quotient
+quotientOf w volume = record { units = wholeSum w / volume; remainder = wholeSum w % volume }
