@@ -276,7 +276,7 @@ static inline struct water water_at(const struct head *h, double part, int nitri
 }
 
 /* The water at the foot. */
-static struct water foot_of(const struct head *h)
+static inline struct water foot_of(const struct head *h)
 {
     struct water foot = water_at(h, 1, h->xn > 0);
     foot.oxygen -= h->fall;
