@@ -1,6 +1,7 @@
 // The bench values of the river file paper that are not proved as rows, and a few more rivers: the result of reporting on each file and,
 // for accepted ones, foot BOD, foot oxygen, critical instant and critical oxygen of each reach, and with nitrification head and foot
-// nitrogenous BOD too; and the result of asking for means, with the means of the reaches and of the river.
+// nitrogenous BOD too; and, for a few rivers, the result of asking for means, with those of the reaches and of the river. More bench
+// values of means are in tests/run_test.py.
 ghost use Prim.Native.Nat.{_≤_};
 use report::mean::MEAN_SIZE;
 use report::record;
