@@ -106,7 +106,10 @@ static void raise_to(long *largest, long difference)
         *largest = labs(difference);
 }
 
-/* The largest differences of a program's report from the proved one: of a concentration, in units, and of an instant. */
+/*
+ * The largest differences of a program's report from the proved one: of a concentration, in units, and of an instant.
+ * Both have the same statuses, and where oxygen is not told it is 0 in both.
+ */
 static struct distance distance(int k, uint32_t reaches)
 {
     struct distance d = {0, 0};
@@ -124,6 +127,17 @@ static struct distance distance(int k, uint32_t reaches)
         raise_to(&d.instants, (long)a.critical_instant - b.critical_instant);
     }
     return d;
+}
+
+/* Whether all programs give a reach the same status; its oxygen is not to be compared otherwise. */
+static int same_status(uint32_t reach)
+{
+    uint32_t size = xylandreo_record_size(file, file_len);
+    for (int k = 0; k < PROGRAMS; k++)
+        if (xylandreo_record_of(reports[k], size, reach).status
+            != xylandreo_record_of(reports[PROVED], size, reach).status)
+            return 0;
+    return 1;
 }
 
 /* The largest difference of the plain means from the proved ones, in units. */
@@ -149,6 +163,11 @@ static void load(const char *path)
         if (timed[k].call(file, file_len, reports[k], timed[k].report_len) != timed[k].result) {
             fprintf(stderr, "bench: %s is refused, or has no volume\n", path);
             exit(2);
+        }
+    for (uint32_t i = 1; i <= xylandreo_reaches(file); i++)
+        if (!same_status(i)) {
+            fprintf(stderr, "bench: %s: the programs differ in the status of reach %u\n", path, i);
+            exit(1);
         }
 }
 

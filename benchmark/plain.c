@@ -11,12 +11,16 @@ struct reach {
     uint32_t outlet, temperature, k1, k2, volume, inflow, inflow_bod, inflow_oxygen, load;
     int has_dam;
     uint32_t share, generating, take, pressure, sludge, kn, inflow_nitrogenous, nitrogenous_load;
-    /* Worked out: flow from above, before and after the take, undecayed BOD, depth, and sums of flow times the
-       feeders' foot values. */
+    /* Worked out: flow from above, before and after the take, undecayed BOD, depth, sums of flow times the feeders'
+       foot values, and whether oxygen is used up in any reach above. */
     uint64_t above, mixed, flow, mass;
     uint32_t depth, feeders;
     double bod_above, nitrogenous_above, oxygen_above;
+    int used_up_above;
 };
+
+/* The status of a reach. */
+enum status { ORDINARY, USED_UP, USED_UP_ABOVE };
 
 /*
  * A river: reach i at i, where 0 takes what the last reach passes on, its rate factors, and whether the file has any
@@ -446,18 +450,35 @@ static struct head head_of(const struct reach *r)
         xn == x2 ? 0 : xn / (x2 - xn), fall};
 }
 
-static void write_record(const struct reach *r, const struct head *h, const struct course *c, uint8_t *record)
+/* The status of a reach with this lowest oxygen, which is reported rounded down. */
+static inline enum status status_of(const struct reach *r, double lowest)
 {
+    if (r->used_up_above)
+        return USED_UP_ABOVE;
+    return lowest < 0 ? USED_UP : ORDINARY;
+}
+
+static void put_oxygen(uint8_t *p, double oxygen)
+{
+    put(p, (uint32_t)(int32_t)floor(oxygen), 4);
+}
+
+/* Below a reach whose oxygen is used up, the figures of oxygen and the instant are 0. */
+static void write_record(const struct reach *r, const struct head *h, const struct course *c, enum status status,
+                         uint8_t *record)
+{
+    int told = status != USED_UP_ABOVE;
     record[0] = 'R';
     record[1] = 'P';
     record[2] = (uint8_t)r->depth;
     put(record + 3, (uint32_t)r->flow, 4);
     put(record + 7, (uint32_t)h->water.bod, 4);
     put(record + 11, (uint32_t)c->foot.bod, 4);
-    put(record + 15, (uint32_t)(int32_t)floor(h->water.oxygen), 4);
-    put(record + 19, c->instant, 2);
-    put(record + 21, (uint32_t)(int32_t)floor(c->lowest), 4);
-    put(record + 25, (uint32_t)(int32_t)floor(c->foot.oxygen), 4);
+    put_oxygen(record + 15, told ? h->water.oxygen : 0);
+    put(record + 19, told ? c->instant : 0, 2);
+    put_oxygen(record + 21, told ? c->lowest : 0);
+    put_oxygen(record + 25, told ? c->foot.oxygen : 0);
+    record[29] = (uint8_t)status;
 }
 
 /* The record that follows in a file with ammonia. */
@@ -469,10 +490,12 @@ static void write_nitrogenous(const struct head *h, const struct course *c, uint
     put(record + 6, (uint32_t)c->foot.nitrogenous, 4);
 }
 
-/* How many bytes each reach has in the report. */
+/* How many bytes each reach has in the report: an RP record, and the RN record that may follow. */
+enum { RP_BYTES = 30, RN_BYTES = 10 };
+
 static size_t record_size(const struct river *river)
 {
-    return river->has_ammonia ? 39 : 29;
+    return river->has_ammonia ? RP_BYTES + RN_BYTES : RP_BYTES;
 }
 
 /* Reads and checks the river file. */
@@ -486,13 +509,15 @@ static uint32_t accept(const uint8_t *file, size_t file_len, struct river *river
     return check_flows(river->reaches, river->count);
 }
 
-/* What the water at the foot of a reach brings to the next. */
-static inline void pass_on(struct river *river, const struct reach *r, const struct water *foot)
+/* What the water at the foot of a reach brings to the next. Oxygen is carried on whatever the status. */
+static inline void pass_on(struct river *river, const struct reach *r, const struct water *foot, enum status status)
 {
     struct reach *next = &river->reaches[r->outlet];
     next->bod_above += (double)r->flow * foot->bod;
     next->nitrogenous_above += (double)r->flow * foot->nitrogenous;
     next->oxygen_above += (double)r->flow * foot->oxygen;
+    if (status != ORDINARY)
+        next->used_up_above = 1;
 }
 
 /* The report with one of the ways along a reach. It is inlined, so that each entry below is compiled for its own way. */
@@ -509,10 +534,12 @@ report_by(way *along, const uint8_t *file, size_t file_len, uint8_t *report, siz
         struct reach *r = &river.reaches[i];
         struct head h = head_of(r);
         struct course c = along(&h);
-        pass_on(&river, r, &c.foot);
-        write_record(r, &h, &c, report + record_size(&river) * (i - 1));
+        enum status status = status_of(r, c.lowest);
+        uint8_t *record = report + record_size(&river) * (i - 1);
+        pass_on(&river, r, &c.foot, status);
+        write_record(r, &h, &c, status, record);
         if (river.has_ammonia)
-            write_nitrogenous(&h, &c, report + record_size(&river) * (i - 1) + 29);
+            write_nitrogenous(&h, &c, record + RP_BYTES);
     }
     return 0;
 }
@@ -554,36 +581,60 @@ static double mean_oxygen(const struct head *h)
     return h->saturation - deficit - h->fall / 2;
 }
 
-static uint64_t total_volume(const struct river *river)
+/*
+ * The lowest oxygen of the 1,025 instants without a loop over them: that at one of the two beside the critical time, or
+ * at head or foot where that time does not lie between them.
+ */
+static double lowest_oxygen(const struct head *h, const struct water *foot)
 {
-    uint64_t total = 0;
-    for (uint32_t i = 1; i <= river->count; i++)
-        total += river->reaches[i].volume;
-    return total;
+    int nitrifies = h->xn > 0;
+    double part = nitrifies ? even_part(h) : critical_part(h);
+    if (!(part > 0 && part < 1)) /* true for no number */
+        return fmin(h->water.oxygen, foot->oxygen);
+    double before = floor(1024 * part) / 1024;
+    return fmin(water_at(h, before, nitrifies).oxygen, water_at(h, before + 1 / 1024.0, nitrifies).oxygen);
+}
+
+/* The means of the reaches, and of those of status 0 or 1 the volume and the sum of volume times mean. */
+struct averages {
+    int32_t of[129];
+    __int128 volume, sum;
+};
+
+static void average(struct river *river, struct averages *averages)
+{
+    averages->volume = averages->sum = 0;
+    for (uint32_t i = 1; i <= river->count; i++) {
+        struct reach *r = &river->reaches[i];
+        struct head h = head_of(r);
+        struct water foot = foot_of(&h);
+        enum status status = status_of(r, lowest_oxygen(&h, &foot));
+        pass_on(river, r, &foot, status);
+        averages->of[i] = 0;
+        if (status == USED_UP_ABOVE)
+            continue;
+        averages->of[i] = (int32_t)floor(mean_oxygen(&h));
+        averages->volume += r->volume;
+        averages->sum += (__int128)r->volume * averages->of[i];
+    }
 }
 
 uint32_t plain_mean(const uint8_t *file, size_t file_len, uint8_t *means, size_t means_len, int32_t *units,
                     uint64_t *remainder)
 {
     struct river river;
+    struct averages averages;
     uint32_t refusal = accept(file, file_len, &river);
     if (refusal)
         return refusal;
     if (means_len < 4 * (size_t)river.count)
         return 12;
-    __int128 sum = 0, total = total_volume(&river);
-    if (total == 0)
+    average(&river, &averages);
+    if (averages.volume == 0)
         return 16;
-    for (uint32_t i = 1; i <= river.count; i++) {
-        struct reach *r = &river.reaches[i];
-        struct head h = head_of(r);
-        struct water foot = foot_of(&h);
-        int32_t mean = (int32_t)floor(mean_oxygen(&h));
-        pass_on(&river, r, &foot);
-        put(means + 4 * (i - 1), (uint32_t)mean, 4);
-        sum += (__int128)r->volume * mean;
-    }
-    *units = (int32_t)(sum / total - (sum % total < 0));
-    *remainder = (uint64_t)(sum - *units * total);
+    for (uint32_t i = 1; i <= river.count; i++)
+        put(means + 4 * (i - 1), (uint32_t)averages.of[i], 4);
+    *units = (int32_t)(averages.sum / averages.volume - (averages.sum % averages.volume < 0));
+    *remainder = (uint64_t)(averages.sum - *units * averages.volume);
     return 0;
 }

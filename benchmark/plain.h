@@ -1,6 +1,6 @@
 /*
  * The report in double precision, in three ways, and the means; parameters and results are those of xylandreo_report
- * and of xylandreo_mean.
+ * and of xylandreo_mean. The status of a reach goes by the lowest oxygen that the same program finds.
  */
 #ifndef PLAIN_H
 #define PLAIN_H
@@ -20,7 +20,10 @@ uint32_t stepped_report(const uint8_t *file, size_t file_len, uint8_t *report, s
  */
 uint32_t closed_report(const uint8_t *file, size_t file_len, uint8_t *report, size_t report_len);
 
-/* By the integrals of the formulas, which need no loop over the instants. */
+/*
+ * By the integrals of the formulas, and the status by the two instants beside the critical time: neither needs a loop
+ * over the instants.
+ */
 uint32_t plain_mean(const uint8_t *file, size_t file_len, uint8_t *means, size_t means_len, int32_t *units,
                     uint64_t *remainder);
 

@@ -43,7 +43,8 @@ closed       plain C in doubles: the closed formula for the critical time, halvi
              Times are those of the fastest of 201 batches each that take turns; (medians) are ratios of the median batches.
 checks       reading and flow check alone (calls that are refused with 12), part of the times; the plain programs share theirs
 ns a step    the rest of the proved time over 1,024 steps a reach: head, step shares, instants, record
-difference   largest distance of a concentration from that of the proved report, in units of 0.000001 mg/L
+difference   largest distance of a concentration from that of the proved report, in units of 0.000001 mg/L; the run
+             stops where programs differ in the status of a reach
 of instants  the same of the critical instant, in 1024ths of the travel time
 the means    xylandreo_mean, against xylandreo_report and against plain C in doubles by the integrals of the formulas, without a loop
 apart        largest distance of a mean from the proved one, in units of 0.000001 mg/L

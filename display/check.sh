@@ -73,6 +73,34 @@ make_odd_files() {
     : > "$1/empty.river"
 }
 
+# A number of so many bytes, high byte first: number BYTES VALUE
+number() {
+    local i
+    for ((i = $1 - 1; i >= 0; i--)); do
+        printf "\\x$(printf %02x $(($2 >> 8 * i & 255)))"
+    done
+}
+
+# The card of a reach: card OUTLET TEMPERATURE K1 K2 VOLUME INFLOW INFLOW_BOD INFLOW_OXYGEN LOAD
+card() {
+    local width
+    printf RE
+    for width in 1 1 2 2 4 4 4 2 4; do
+        number "$width" "$1"
+        shift
+    done
+}
+
+# Oxygen is used up in reach 1, and so above 3 and 4, whatever the brook 2 brings and the air makes up for.
+make_used_up() {
+    printf RV
+    number 2 4
+    card 3 22 400 300 1500000 5000 3000 8000 250000
+    card 3 15 200 500 100000 1000 1000 9000 0
+    card 4 22 400 1500 1000000 1000 1000 9000 0
+    card 0 22 400 2000 1000000 0 0 0 0
+}
+
 # The display's lines are those of a printing program, and the status tells a refusal: check_lines PROGRAM OPTION FILE
 check_lines() {
     "$1" < "$3" > "$scratch/printed"
@@ -90,15 +118,18 @@ mg='
     }'
 
 # The rows that a table should have, worked out from the lines and the means, with a mark where the units are below those of
-# the limit: rows_from_lines MEANS LIMIT. Lines of eleven numbers end with nitrogenous BOD; a river without volume has no means.
+# the limit, and words where oxygen is used up: rows_from_lines MEANS LIMIT. The tenth number of a line is the status, and lines
+# of twelve end with nitrogenous BOD; a river without volume has no means.
 rows_from_lines() {
     awk -v means="$1" -v limit="$2" "$mg"'
         function oxygen(units) { return mg(units) (units < limit ? "*" : "") }
         BEGIN { while ((getline line < means) > 0) { split(line, word, " "); mean[word[1]] = word[2] } }
         { flow[NR] = $3; if ($3 >= 10000) cubic = 1
           before[NR] = $1 " " $2
-          after[NR] = mg($4) " " mg($5) " " oxygen($6) " " oxygen($8) " " oxygen($9) ($1 in mean ? " " oxygen(mean[$1]) : "") " " \
-                      sprintf("%.1f", int($7 * 1000 / 1024 + 0.5) / 10) (NF == 11 ? " " mg($10) " " mg($11) : "") }
+          told = oxygen($6) " " oxygen($8) " " oxygen($9) ($1 in mean ? " " oxygen(mean[$1]) : "") " " \
+                 sprintf("%.1f", int($7 * 1000 / 1024 + 0.5) / 10)
+          after[NR] = mg($4) " " mg($5) " " ($10 == 2 ? "used up above" : told) (NF == 12 ? " " mg($11) " " mg($12) : "") \
+                      ($10 == 1 ? " used up" : "") }
         END { for (i = 1; i <= NR; i++) print before[i], cubic ? sprintf("%.3f", flow[i] / 1000) : flow[i], after[i] }'
 }
 
@@ -119,7 +150,9 @@ check_table() {
 }
 
 mkdir "$scratch/odd" && make_odd_files "$scratch/odd" || exit 2
-for river in *.river refused/*.river "$scratch"/odd/*.river; do
+mkdir "$scratch/used" && make_used_up > "$scratch/used/plain.river" || exit 2
+{ make_used_up; printf NT; number 2 300; number 4 0; number 4 5000; number 4 0; } > "$scratch/used/ammonia.river"
+for river in *.river refused/*.river "$scratch"/odd/*.river "$scratch"/used/*.river; do
     expect 0 "$display" --check "$river"
     check_lines "$print" --lines "$river"
     check_lines "$print_mean" --means "$river"
@@ -129,7 +162,7 @@ for river in refused/*.river; do
     expect 1 "$display" "$river"
     says ": refused ${number%%-*} reach "
 done
-for river in *.river; do
+for river in *.river "$scratch"/used/*.river; do
     check_table "$river" 5.0 5000000
     check_table "$river" 8.4 8400000
 done
@@ -150,9 +183,30 @@ expect 2 "$display" --means
 expect 2 "$display" --means missing.river
 expect 2 "$display" missing.river
 expect 2 "$display" refused
-# A river whose mean is below zero, and one that has none.
+# A river whose mean is below zero, where oxygen is used up, and one that has none.
 expect 0 "$display" overload.river
-says '; mean by volume -4.867 mg/L$'
+says '; mean by volume -[0-9.]* mg/L; '
+for river in plain ammonia; do
+    expect 0 "$display" --limit 8.0 "$scratch/used/$river.river"
+    says '^used up: oxygen falls below zero in the reach; used up above: in a reach above it'
+    says '^ *1 .* 8.000 .*\*.*  used up$'
+    says '^ *3 .* [0-9.]*  used up above'
+    says '^ *4 .* [0-9.]*  used up above'
+    says '; 1 of 4 reaches below 8.0 mg/L, marked \*; oxygen used up in 1 reach and above 2$'
+done
+expect 0 "$display" --lines "$scratch/used/plain.river"
+says '^1 1 5000 .* 1$'
+says '^2 1 1000 .* 0$'
+says '^3 2 7000 .* 0 0 0 0 2$'
+says '^4 3 7000 .* 0 0 0 0 2$'
+expect 0 "$display" --lines "$scratch/used/ammonia.river"
+says '^3 2 7000 .* 0 0 0 0 2 0 0$'
+says '^4 3 7000 .* 0 0 0 0 2 714285 [1-9][0-9]*$'
+expect 0 "$display" --means "$scratch/used/plain.river"
+says '^3 0$'
+says '^4 0$'
+expect 0 "$display" two.river
+! grep -q used "$scratch/said" || wrong "a river with oxygen all the way has it used up in its table"
 expect 1 "$display" --means no-volume.river
 says '^refused 16 reach 0$'
 expect 0 "$display" no-volume.river
@@ -219,6 +273,60 @@ cp two.river two.report "$scratch/changed"
 echo >> "$scratch/changed/two.report"
 expect 1 "$collection" "$scratch/changed"
 says '^two.river  accepted  *same  *6.500  *2  DIFFERS$'
+# Old reports have no status. Their figures of oxygen are passed over where they are not told now, and nothing else is.
+without_status() {
+    sed -E 's/^(([^ ]+ ){8}[^ ]+) [^ ]+/\1/'
+}
+# Figures of oxygen from before, where the status is 2.
+with_old_oxygen() {
+    awk '$10 == 2 { $6 = -9761265; $7 = 17; $8 = -9761266; $9 = 5991960 } { print }'
+}
+# A folder with a river that uses up oxygen and its report, of which a command makes another: store FOLDER RIVER COMMAND...
+store() {
+    mkdir -p "$scratch/$1" && cp "$scratch/used/$2.river" "$scratch/$1" &&
+        "$print" < "$scratch/used/$2.river" | "${@:3}" > "$scratch/$1/$2.report" || exit 2
+}
+store agrees plain without_status
+store agrees ammonia without_status
+cp town.river "$scratch/agrees" && without_status < town.report > "$scratch/agrees/town.report"
+cp two.river two.report "$scratch/agrees"
+expect 0 "$collection" "$scratch/agrees"
+says '^ammonia.river  accepted  *same .* 1  same, old$'
+says '^plain.river  *accepted  *same .* 1  same, old$'
+says '^two.river  *accepted  *same .* 2  same$'
+says '; reports beside them: 1 the same, 0 differ; old reports, without the status: 3 the same, 0 differ$'
+for river in plain ammonia; do
+    "$print" < "$scratch/used/$river.river" | with_old_oxygen | without_status > "$scratch/agrees/$river.report"
+done
+expect 0 "$collection" "$scratch/agrees"
+says '; reports beside them: 1 the same, 0 differ; old reports, without the status: 3 the same, 0 differ$'
+# Edits of a report, each of which makes it another: a figure of oxygen at status 0, the instant at status 1, BOD at status 2, a status;
+# of old reports also nitrogenous BOD at status 2, a line too few, a line too many, a number too many, no number where any may stand.
+changes=('$1 == 2 { $9++ }' '$1 == 1 { $7++ }' '$1 == 3 { $5++ }' '$1 == 1 { $10 = 0 }' '$1 == 2 { $10 = 2 }' '$1 == 4 { $10 = 0 }')
+old_changes=("${changes[@]:0:3}" '$1 == 3 && NF == 9 { $4++ } $1 == 3 && NF == 11 { $11++ }' '$1 == 4 { next }' '$1 == 4 { print }' '$1 == 4 { $9 = $9 " 0" }' '$1 == 4 { $6 = "x" }')
+for river in plain ammonia; do
+    for change in "${changes[@]}"; do
+        store changed-new "$river" awk "$change { print }"
+        expect 1 "$collection" "$scratch/changed-new"
+        says "^$river.river .* DIFFERS\$"
+    done
+    for change in "${old_changes[@]}"; do
+        store changed-old "$river" without_status
+        awk "$change { print }" "$scratch/changed-old/$river.report" > "$scratch/report" && mv "$scratch/report" "$scratch/changed-old/$river.report"
+        expect 1 "$collection" "$scratch/changed-old"
+        says "^$river.river .* DIFFERS, old\$"
+    done
+done
+says '; reports beside them: 0 the same, 0 differ; old reports, without the status: 0 the same, 2 differ$'
+# A report of no line, and two in which the first line alone has a status, or lacks it.
+for change in 'false { print }' 'NR > 1 { NF = 9 } { print }'; do
+    store changed-new plain awk "$change"
+    expect 1 "$collection" "$scratch/changed-new"
+    says "^plain.river .* DIFFERS\$"
+done
+store changed-old plain awk 'NR == 1 { NF = 9 } { print }'
+expect 1 "$collection" "$scratch/changed-old"
+says "^plain.river .* DIFFERS, old\$"
 expect 2 "$collection" "$scratch/none"
 expect 2 "$collection" two.river
 expect 2 "$collection"

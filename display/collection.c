@@ -6,7 +6,8 @@
  *
  * For each NAME.river it says whether the river is accepted, or the refusal with its reason; whether rewriting
  * gives the same bytes; the lowest oxygen and its reach; and, where NAME.report lies beside it, whether that
- * is what the printing program prints now.
+ * is what the printing program prints now. An old report, from before there was a status, is the same where it is what
+ * is printed now but for the status and, at reaches of status 2, oxygen; the last line counts these apart.
  *
  * The exit status is 0 where all is accepted and the same, 1 where a river is refused or something differs,
  * 2 for bad use and where a file cannot be read.
@@ -26,20 +27,31 @@
 #define SUFFIX ".river"
 #define WIDEST_NAME 40 /* columns kept for names; a longer one moves the rest of its line */
 
+/* Numbers of a line of an old report, which has no status; nitrogenous BOD adds two. */
+#define OLD_NUMBERS 9
+#define NITROGENOUS_NUMBERS 2
+#define OXYGEN_NUMBERS 4 /* head, instant, lowest and foot */
+
 /* How a comparison went; NOTHING where there was nothing to compare. */
 enum verdict { NOTHING, SAME, DIFFERS };
+
+/* How that of a stored report went, and whether it is an old one. */
+struct comparison {
+    enum verdict verdict;
+    int is_old;
+};
 
 /* What was found out about one file. */
 struct finding {
     struct river river;
     struct report report;
     enum verdict rewritten; /* NOTHING where reading refuses, so that there is no river to write */
-    enum verdict kept;      /* the report beside the file; NOTHING where there is none */
+    struct comparison kept; /* the report beside the file; NOTHING where there is none */
 };
 
-/* Counts of files; those of verdicts by verdict. */
+/* Counts of files; those of verdicts by verdict, of old reports apart. */
 struct counts {
-    size_t accepted, refused, unreadable, rewritten[3], kept[3];
+    size_t accepted, refused, unreadable, rewritten[3], kept[3], old[3];
 };
 
 /* What *.river means in a shell, folders aside. A link to nothing is told when it is opened. */
@@ -91,19 +103,88 @@ static enum verdict rewrite(const struct river *river, uint32_t reported)
     return rewritten(river, river->length - 1, &too_short) && too_short == 12 ? SAME : DIFFERS;
 }
 
-/* Whether NAME.report is what is printed now for NAME.river. One that cannot be read is not. */
-static enum verdict compare_report(const char *name, const struct report *report)
+/* What remains of a text. */
+struct rest {
+    const char *at, *end;
+};
+
+/* Goes past the given characters where they stand there. Returns whether they did. */
+static int pass(struct rest *rest, const char *due, size_t length)
 {
-    static char printed[MAX_LINES], kept[MAX_LINES];
+    if ((size_t)(rest->end - rest->at) < length || memcmp(rest->at, due, length))
+        return 0;
+    rest->at += length;
+    return 1;
+}
+
+/* Goes past a number, whatever it is: at most ten digits, perhaps below zero. */
+static int pass_number(struct rest *rest)
+{
+    int digits = 0;
+    pass(rest, "-", 1);
+    for (; rest->at < rest->end && *rest->at >= '0' && *rest->at <= '9'; rest->at++)
+        digits++;
+    return digits >= 1 && digits <= 10;
+}
+
+/* How many numbers the first line has; 0 where it has anything else. */
+static int numbers_in_line(struct rest rest)
+{
+    int numbers = 0;
+    do {
+        if (!pass_number(&rest))
+            return 0;
+        numbers++;
+    } while (pass(&rest, " ", 1));
+    return pass(&rest, "\n", 1) ? numbers : 0;
+}
+
+/* Goes past the oxygen figures of an old line: those of now, or any where these are not told. */
+static int pass_oxygen(struct rest *rest, const struct report *report, uint32_t reach)
+{
+    char due[MAX_LINE];
+    struct xylandreo_record record = record_at(report, reach);
+    if (xylandreo_tells_oxygen(&record))
+        return pass(rest, due, put_oxygen(report, reach, due));
+    for (int i = 0; i < OXYGEN_NUMBERS; i++)
+        if (!pass(rest, " ", 1) || !pass_number(rest))
+            return 0;
+    return 1;
+}
+
+/* Whether an old report has a line for each reach, with the figures of now. A refused river has no such lines. */
+static int is_same_old(struct rest kept, const struct report *report)
+{
+    char due[MAX_LINE];
+    for (uint32_t i = 1; i <= report->reaches; i++)
+        if (!pass(&kept, due, put_bod(report, i, due)) || !pass_oxygen(&kept, report, i)
+            || !pass(&kept, due, put_nitrogenous(report, i, due)) || !pass(&kept, "\n", 1))
+            return 0;
+    return kept.at == kept.end;
+}
+
+static int is_same_new(struct rest kept, const struct report *report)
+{
+    static char printed[MAX_LINES];
+    size_t length = put_lines(report, printed);
+    return pass(&kept, printed, length) && kept.at == kept.end;
+}
+
+/* Whether NAME.report is what is printed now for NAME.river. One that cannot be read is not. */
+static struct comparison compare_report(const char *name, const struct report *report)
+{
+    static char text[MAX_LINES];
     char path[512];
     snprintf(path, sizeof path, "%.*s.report", (int)(strlen(name) - strlen(SUFFIX)), name);
     FILE *file = fopen(path, "rb");
     if (!file)
-        return errno == ENOENT || errno == ENAMETOOLONG ? NOTHING : DIFFERS;
-    size_t length = fread(kept, 1, sizeof kept, file);
-    int failed = ferror(file);
+        return (struct comparison){errno == ENOENT || errno == ENAMETOOLONG ? NOTHING : DIFFERS, 0};
+    struct rest kept = {text, text + fread(text, 1, sizeof text, file)};
+    int failed = ferror(file), numbers = numbers_in_line(kept);
+    int is_old = numbers == OLD_NUMBERS || numbers == OLD_NUMBERS + NITROGENOUS_NUMBERS;
     fclose(file);
-    return !failed && length == put_lines(report, printed) && !memcmp(kept, printed, length) ? SAME : DIFFERS;
+    int is_same = !failed && (is_old ? is_same_old(kept, report) : is_same_new(kept, report));
+    return (struct comparison){is_same ? SAME : DIFFERS, is_old};
 }
 
 /* Looks at one file. Returns 0, or the errno of what went wrong. */
@@ -123,13 +204,21 @@ static void count(const struct finding *finding, struct counts *counts)
     counts->accepted += finding->report.result == 0;
     counts->refused += finding->report.result != 0;
     counts->rewritten[finding->rewritten]++;
-    counts->kept[finding->kept]++;
+    (finding->kept.is_old ? counts->old : counts->kept)[finding->kept.verdict]++;
 }
 
 static const char *word(enum verdict verdict)
 {
     static const char *const words[] = {"-", "same", "DIFFERS"};
     return words[verdict];
+}
+
+/* The word for the report beside a file. */
+static const char *kept_word(const struct comparison *kept)
+{
+    if (!kept->is_old)
+        return word(kept->verdict);
+    return kept->verdict == SAME ? "same, old" : "DIFFERS, old";
 }
 
 static void show_padded(const char *name, size_t width)
@@ -150,7 +239,7 @@ static void show_accepted(const struct finding *finding)
     uint32_t reach = lowest_reach(&finding->report);
     struct text oxygen = milligrams(record_at(&finding->report, reach).critical_oxygen);
     printf("  %-20s %-9s %20s %6" PRIu32 "  %s\n", "accepted", word(finding->rewritten), oxygen.chars, reach,
-           word(finding->kept));
+           kept_word(&finding->kept));
 }
 
 static void show_refused(const struct finding *finding)
@@ -159,7 +248,7 @@ static void show_refused(const struct finding *finding)
     char verdict[32];
     snprintf(verdict, sizeof verdict, "refused %" PRIu32 " reach %" PRIu32, xylandreo_number(result),
              xylandreo_reach(result));
-    printf("  %-20s %-9s %20s %6s  %-8s ", verdict, word(finding->rewritten), "-", "-", word(finding->kept));
+    printf("  %-20s %-9s %20s %6s  %-12s ", verdict, word(finding->rewritten), "-", "-", kept_word(&finding->kept));
     show_reason(stdout, &finding->river, result);
     printf("\n");
 }
@@ -171,8 +260,11 @@ static void show_counts(const struct counts *counts)
            counts->refused);
     if (counts->unreadable)
         printf(", %zu more not readable", counts->unreadable);
-    printf("; rewritten: %zu the same, %zu differ; reports beside them: %zu the same, %zu differ\n",
+    printf("; rewritten: %zu the same, %zu differ; reports beside them: %zu the same, %zu differ",
            counts->rewritten[SAME], counts->rewritten[DIFFERS], counts->kept[SAME], counts->kept[DIFFERS]);
+    if (counts->old[SAME] || counts->old[DIFFERS])
+        printf("; old reports, without the status: %zu the same, %zu differ", counts->old[SAME], counts->old[DIFFERS]);
+    printf("\n");
 }
 
 /* Hundredths of a second, for the progress line alone. */
@@ -246,7 +338,8 @@ static int status_of(const struct counts *counts)
 {
     if (counts->unreadable)
         return BAD_USE;
-    return counts->refused || counts->rewritten[DIFFERS] || counts->kept[DIFFERS] ? REFUSED : ACCEPTED;
+    int differs = counts->rewritten[DIFFERS] || counts->kept[DIFFERS] || counts->old[DIFFERS];
+    return counts->refused || differs ? REFUSED : ACCEPTED;
 }
 
 /* All river files of the current folder, whose names are given and freed here. */

@@ -52,9 +52,11 @@ int has_nitrogenous(const struct report *report)
 uint32_t lowest_reach(const struct report *report)
 {
     uint32_t lowest = 1;
-    for (uint32_t i = 2; i <= report->reaches; i++)
-        if (record_at(report, i).critical_oxygen < record_at(report, lowest).critical_oxygen)
+    for (uint32_t i = 2; i <= report->reaches; i++) {
+        struct xylandreo_record record = record_at(report, i);
+        if (xylandreo_tells_oxygen(&record) && record.critical_oxygen < record_at(report, lowest).critical_oxygen)
             lowest = i;
+    }
     return lowest;
 }
 
@@ -130,19 +132,26 @@ void show_reason(FILE *to, const struct river *river, uint32_t result)
         fputs("; this looks like a text; tools/river make TEXT OUT makes a river file of it", to);
 }
 
-/* Puts the line of one reach, without its end. */
-static int put_line(char *text, uint32_t reach, const struct xylandreo_record *r)
+size_t put_bod(const struct report *report, uint32_t reach, char text[MAX_LINE])
 {
-    return snprintf(text, MAX_LINE,
-                    "%" PRIu32 " %u %" PRIu32 " %" PRIu32 " %" PRIu32 " %" PRId32 " %u %" PRId32 " %" PRId32, reach,
-                    r->depth, r->flow, r->head_bod, r->foot_bod, r->head_oxygen, r->critical_instant,
-                    r->critical_oxygen, r->foot_oxygen);
+    struct xylandreo_record r = record_at(report, reach);
+    return (size_t)snprintf(text, MAX_LINE, "%" PRIu32 " %u %" PRIu32 " %" PRIu32 " %" PRIu32, reach, r.depth, r.flow,
+                            r.head_bod, r.foot_bod);
 }
 
-/* Puts the numbers that end the line in a report with nitrogenous BOD. */
-static int put_nitrogenous(char *text, const struct xylandreo_record *r)
+size_t put_oxygen(const struct report *report, uint32_t reach, char text[MAX_LINE])
 {
-    return snprintf(text, MAX_LINE, " %" PRIu32 " %" PRIu32, r->head_nitrogenous, r->foot_nitrogenous);
+    struct xylandreo_record r = record_at(report, reach);
+    return (size_t)snprintf(text, MAX_LINE, " %" PRId32 " %u %" PRId32 " %" PRId32, r.head_oxygen, r.critical_instant,
+                            r.critical_oxygen, r.foot_oxygen);
+}
+
+size_t put_nitrogenous(const struct report *report, uint32_t reach, char text[MAX_LINE])
+{
+    struct xylandreo_record r = record_at(report, reach);
+    if (!has_nitrogenous(report))
+        return 0;
+    return (size_t)snprintf(text, MAX_LINE, " %" PRIu32 " %" PRIu32, r.head_nitrogenous, r.foot_nitrogenous);
 }
 
 static size_t put_refusal(char *text, uint32_t result)
@@ -169,10 +178,10 @@ size_t put_lines(const struct report *report, char text[MAX_LINES])
         return put_refusal(text, report->result);
     size_t length = 0;
     for (uint32_t i = 1; i <= report->reaches; i++) {
-        struct xylandreo_record record = record_at(report, i);
-        length += (size_t)put_line(text + length, i, &record);
-        if (has_nitrogenous(report))
-            length += (size_t)put_nitrogenous(text + length, &record);
+        length += put_bod(report, i, text + length);
+        length += put_oxygen(report, i, text + length);
+        length += (size_t)snprintf(text + length, MAX_LINE, " %u", record_at(report, i).status);
+        length += put_nitrogenous(report, i, text + length);
         text[length++] = '\n';
     }
     return length;

@@ -42,7 +42,10 @@ void report_river(const struct river *river, struct report *report);
 struct xylandreo_record record_at(const struct report *report, uint32_t reach);
 int has_nitrogenous(const struct report *report);
 
-/* The reach with the lowest oxygen of an accepted river, the first of them where several have it. */
+/*
+ * The reach with the lowest oxygen of an accepted river among those that tell theirs, as the first reach always does;
+ * the first of them where several have it.
+ */
 uint32_t lowest_reach(const struct report *report);
 
 /* A river's means: the result of the entry, and where it is 0 the mean of each reach and that of the river. */
@@ -77,14 +80,22 @@ void show_refusal(FILE *to, const struct river *river, uint32_t result);
 void show_reason(FILE *to, const struct river *river, uint32_t result);
 
 /*
- * Room for what the printing programs print: a line of a report has at most eleven numbers of at most eleven
+ * Room for what the printing programs print: a line of a report has at most twelve numbers of at most eleven
  * characters, and means have shorter lines, one more than there are reaches.
  */
-#define MAX_LINE (11 * 12)
+#define MAX_LINE (12 * 12)
 #define MAX_LINES (XYLANDREO_MAX_REACHES * MAX_LINE + 1)
 
 /* Puts what the printing programs print for a report and for means, and returns its length. */
 size_t put_lines(const struct report *report, char text[MAX_LINES]);
 size_t put_means(const struct means *means, char text[MAX_LINES]);
+
+/*
+ * Puts three parts of the line of a reach, without its end, and returns the length: the reach, depth, flow and BOD; the
+ * figures of oxygen; nitrogenous BOD, or nothing in a report without it. The status stands before the last.
+ */
+size_t put_bod(const struct report *report, uint32_t reach, char text[MAX_LINE]);
+size_t put_oxygen(const struct report *report, uint32_t reach, char text[MAX_LINE]);
+size_t put_nitrogenous(const struct report *report, uint32_t reach, char text[MAX_LINE]);
 
 #endif

@@ -2,7 +2,8 @@
  * The desk's display: shows the reports of river files as tables with units, and the means. Of the archive it
  * calls reporting, the size of a reach in a report and the means, and nothing deeper.
  *
- *   display [--limit 5.0] FILE...   a table and a summary line for each; marks oxygen below the limit, in mg/L
+ *   display [--limit 5.0] FILE...   a table and a summary line for each; marks oxygen below the limit, in mg/L, and
+ *                                   says where oxygen is used up, in the reach or above it
  *   display --lines FILE            the lines that the printing program prints
  *   display --means FILE            the lines that the program for means prints
  *   display --check FILE            calls the entries on this file and on thousands made from it, and checks
@@ -105,21 +106,56 @@ static void show_share(uint16_t instant)
     printf(" %7u.%u", tenths / 10, tenths % 10);
 }
 
+/* All that a row has of oxygen. */
+static void show_profile(const struct table *table, uint32_t reach, const struct xylandreo_record *r)
+{
+    show_oxygen(r->head_oxygen, table->limit);
+    show_oxygen(r->critical_oxygen, table->limit);
+    show_oxygen(r->foot_oxygen, table->limit);
+    if (has_means(table->means))
+        show_oxygen(xylandreo_mean_of(table->means->bytes, reach), table->limit);
+    show_share(r->critical_instant);
+}
+
+/* What stands there in place of figures that are not told, as wide as they are where more follows; such a river has means. */
+static void show_used_up_above(const struct table *table)
+{
+    printf("  %-*s", has_nitrogenous(table->report) ? 48 : 0, "used up above");
+}
+
 static void show_row(const struct table *table, uint32_t reach)
 {
     struct xylandreo_record r = record_at(table->report, reach);
     printf("%5" PRIu32 " %5u", reach, r.depth);
     show_flow(r.flow, table->cubic);
     printf(" %8s %8s", milligrams(r.head_bod).chars, milligrams(r.foot_bod).chars);
-    show_oxygen(r.head_oxygen, table->limit);
-    show_oxygen(r.critical_oxygen, table->limit);
-    show_oxygen(r.foot_oxygen, table->limit);
-    if (has_means(table->means))
-        show_oxygen(xylandreo_mean_of(table->means->bytes, reach), table->limit);
-    show_share(r.critical_instant);
+    if (xylandreo_tells_oxygen(&r))
+        show_profile(table, reach, &r);
+    else
+        show_used_up_above(table);
     if (has_nitrogenous(table->report))
         printf("       %8s %8s", milligrams(r.head_nitrogenous).chars, milligrams(r.foot_nitrogenous).chars);
-    printf("\n");
+    printf("%s\n", r.status == XYLANDREO_USED_UP ? "  used up" : "");
+}
+
+/* How many reaches have a status. */
+static uint32_t count_of(const struct report *report, uint8_t status)
+{
+    uint32_t count = 0;
+    for (uint32_t i = 1; i <= report->reaches; i++)
+        count += record_at(report, i).status == status;
+    return count;
+}
+
+/* How many reaches that tell their oxygen have it below the limit somewhere. */
+static uint32_t count_below(const struct report *report, const struct limit *limit)
+{
+    uint32_t count = 0;
+    for (uint32_t i = 1; i <= report->reaches; i++) {
+        struct xylandreo_record r = record_at(report, i);
+        count += xylandreo_tells_oxygen(&r) && is_below(r.critical_oxygen, limit);
+    }
+    return count;
 }
 
 /* The river's mean is rounded down to its units already, so that it is shown as every other figure. */
@@ -127,9 +163,8 @@ static void show_summary(const struct table *table)
 {
     const struct report *report = table->report;
     const struct limit *limit = table->limit;
-    uint32_t below = 0, lowest = lowest_reach(report);
-    for (uint32_t i = 1; i <= report->reaches; i++)
-        below += (uint32_t)is_below(record_at(report, i).critical_oxygen, limit);
+    uint32_t below = count_below(report, limit), lowest = lowest_reach(report);
+    uint32_t used_up = count_of(report, XYLANDREO_USED_UP);
     printf("lowest oxygen %s mg/L in reach %" PRIu32, milligrams(record_at(report, lowest).critical_oxygen).chars,
            lowest);
     if (has_means(table->means))
@@ -137,6 +172,9 @@ static void show_summary(const struct table *table)
     if (limit->text)
         printf("; %" PRIu32 " of %" PRIu32 " %s below %s mg/L%s", below, report->reaches,
                report->reaches == 1 ? "reach" : "reaches", limit->text, below ? ", marked *" : "");
+    if (used_up)
+        printf("; oxygen used up in %" PRIu32 " %s and above %" PRIu32, used_up, used_up == 1 ? "reach" : "reaches",
+               count_of(report, XYLANDREO_USED_UP_ABOVE));
 }
 
 static void show_table(const char *path, const struct table *table)
@@ -147,6 +185,9 @@ static void show_table(const char *path, const struct table *table)
     show_headings(table);
     for (uint32_t i = 1; i <= reaches; i++)
         show_row(table, i);
+    if (count_of(table->report, XYLANDREO_USED_UP))
+        printf("used up: oxygen falls below zero in the reach; used up above: in a reach above it, so that its own "
+               "oxygen is not told and its volume has no part in the mean\n");
 }
 
 /* The table of an accepted river, and the summary line that every river has. */

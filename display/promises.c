@@ -47,6 +47,17 @@ static void check_marks(const uint8_t *records, uint32_t size)
            "each record of nitrogenous BOD begins with its mark", 0);
 }
 
+/* The critical point of a reach that tells its oxygen. */
+static void check_critical(const struct xylandreo_record *r)
+{
+    expect(r->critical_instant <= XYLANDREO_INSTANTS, "the critical instant lies in the reach", 0);
+    expect(r->critical_oxygen <= r->head_oxygen && r->critical_oxygen <= r->foot_oxygen,
+           "critical oxygen is the lowest", 0);
+    expect(r->critical_instant != 0 || r->critical_oxygen == r->head_oxygen, "instant 0 is the head", 0);
+    expect(r->critical_instant != XYLANDREO_INSTANTS || r->critical_oxygen == r->foot_oxygen,
+           "the last instant is the foot", 0);
+}
+
 /* What the figures of every reach keep, each by itself and among themselves. */
 static void check_record(const uint8_t *report, uint32_t size, uint32_t reach)
 {
@@ -56,12 +67,11 @@ static void check_record(const uint8_t *report, uint32_t size, uint32_t reach)
     expect(r.depth >= 1 && r.depth <= reach, "depth is from 1 to the reach's number", 0);
     expect(r.foot_bod <= r.head_bod, "BOD at the foot is at most that at the head", 0);
     expect(r.foot_nitrogenous <= r.head_nitrogenous, "nitrogenous BOD at the foot is at most that at the head", 0);
-    expect(r.critical_instant <= XYLANDREO_INSTANTS, "the critical instant lies in the reach", 0);
-    expect(r.critical_oxygen <= r.head_oxygen && r.critical_oxygen <= r.foot_oxygen, "critical oxygen is the lowest",
-           0);
-    expect(r.critical_instant != 0 || r.critical_oxygen == r.head_oxygen, "instant 0 is the head", 0);
-    expect(r.critical_instant != XYLANDREO_INSTANTS || r.critical_oxygen == r.foot_oxygen,
-           "the last instant is the foot", 0);
+    if (xylandreo_tells_oxygen(&r))
+        check_critical(&r);
+    else
+        expect(!r.head_oxygen && !r.critical_instant && !r.critical_oxygen && !r.foot_oxygen,
+               "at status 2 the figures of oxygen and the instant are 0", 0);
 }
 
 static void check_refusal(uint32_t result)
@@ -104,6 +114,41 @@ static void check_written(size_t length, size_t written, uint32_t result)
            "bytes past what is written keep their contents", result);
 }
 
+/* What the checks take from the file of a river that reading accepts: the outlet and the volume of each reach. */
+struct cards {
+    uint8_t outlet[XYLANDREO_MAX_REACHES];
+    uint32_t volume[XYLANDREO_MAX_REACHES];
+};
+
+static struct cards cards_of(const struct river *river)
+{
+    const struct xylandreo_field *fields = xylandreo_kinds[2].fields; /* of RE: outlet is the first, volume the fifth */
+    struct cards cards;
+    struct xylandreo_fault none;
+    size_t at = xylandreo_pass(river->bytes, river->length, 0, 0, &none);
+    for (uint32_t i = 0; i < xylandreo_reaches(river->bytes); i++) {
+        cards.outlet[i] = (uint8_t)xylandreo_value(river->bytes + at, &fields[0]);
+        cards.volume[i] = (uint32_t)xylandreo_value(river->bytes + at, &fields[4]);
+        at = xylandreo_pass(river->bytes, river->length, at, 1, &none);
+    }
+    return cards;
+}
+
+/* The statuses of a report. Outlets lie below, so that all that is above a reach has gone before. */
+static void check_statuses(const struct cards *cards, uint32_t size, uint32_t reaches)
+{
+    uint8_t used_up_above[UINT8_MAX + 1] = {0};
+    for (uint32_t i = 1; i <= reaches; i++) {
+        struct xylandreo_record r = xylandreo_record_of(lent, size, i);
+        expect((r.status == XYLANDREO_USED_UP_ABOVE) == used_up_above[i],
+               "the status is 2 exactly where a reach above has status 1 or 2", 0);
+        expect(used_up_above[i] || r.status == (r.critical_oxygen < 0 ? XYLANDREO_USED_UP : XYLANDREO_ORDINARY),
+               "any other status is 1 where critical oxygen is below zero, and 0 where it is not", 0);
+        if (r.status != XYLANDREO_ORDINARY)
+            used_up_above[cards->outlet[i - 1]] = 1;
+    }
+}
+
 /* Calls the entry for reports with a buffer of the given length, and checks what it wrote. */
 static uint32_t checked_call(const struct river *river, size_t length)
 {
@@ -113,25 +158,26 @@ static uint32_t checked_call(const struct river *river, size_t length)
     check_written(length, (size_t)reaches * size, result);
     for (uint32_t i = 1; i <= reaches; i++)
         check_record(lent, size, i);
+    if (result == 0) {
+        struct cards cards = cards_of(river);
+        check_statuses(&cards, size, reaches);
+    }
     return result;
 }
 
-/* The volume of each reach of a river that reading accepts, and all of it. */
+/* The volume that counts for the mean of the river: that of each reach which tells its oxygen, and all of it. */
 struct volumes {
     uint32_t of[XYLANDREO_MAX_REACHES];
     uint64_t total;
 };
 
-static struct volumes volumes_of(const struct river *river)
+static struct volumes volumes_of(const struct cards *cards, const struct report *report)
 {
-    const struct xylandreo_field *volume = &xylandreo_kinds[2].fields[4]; /* of RE */
     struct volumes volumes = {{0}, 0};
-    struct xylandreo_fault none;
-    size_t at = xylandreo_pass(river->bytes, river->length, 0, 0, &none);
-    for (uint32_t i = 0; i < xylandreo_reaches(river->bytes); i++) {
-        volumes.of[i] = (uint32_t)xylandreo_value(river->bytes + at, volume);
-        volumes.total += volumes.of[i];
-        at = xylandreo_pass(river->bytes, river->length, at, 1, &none);
+    for (uint32_t i = 1; i <= report->reaches; i++) {
+        struct xylandreo_record r = record_at(report, i);
+        volumes.of[i - 1] = xylandreo_tells_oxygen(&r) ? cards->volume[i - 1] : 0;
+        volumes.total += volumes.of[i - 1];
     }
     return volumes;
 }
@@ -154,7 +200,7 @@ static int is_equal(struct sum a, struct sum b)
     return a.high + (a.low >> 16) == b.high + (b.low >> 16) && (a.low & 0xffff) == (b.low & 0xffff);
 }
 
-/* Units times the total volume and the remainder are the sum of volume times mean. */
+/* Units times the total volume and the remainder are the sum of volume times mean, by the volume that counts. */
 static void check_river_mean(const struct volumes *volumes, uint32_t reaches, int32_t units, uint64_t remainder)
 {
     struct sum sum = {0, 0}, due = {0, remainder};
@@ -162,17 +208,28 @@ static void check_river_mean(const struct volumes *volumes, uint32_t reaches, in
         add(&sum, volumes->of[i - 1], xylandreo_mean_of(lent, i));
     add(&due, volumes->total, units);
     expect(remainder < volumes->total, "the remainder is below the total volume", 0);
-    expect(is_equal(sum, due), "the river's mean is that of the means, weighted by volume", 0);
+    expect(is_equal(sum, due), "the river's mean is that of the means of status 0 or 1, weighted by volume", 0);
 }
 
-/* The result that is due from the entry for means, by that of a report with a long buffer. */
-static uint32_t due_of_means(const struct river *river, uint32_t reported, size_t length)
+/* A reach without volume has its head oxygen, which is told as 0 at status 2, as any mean there is. */
+static void check_mean(const struct cards *cards, const struct report *report, uint32_t reach)
 {
-    if (reported != 0)
-        return reported;
-    if (length < (size_t)xylandreo_reaches(river->bytes) * XYLANDREO_MEAN_BYTES)
+    struct xylandreo_record r = record_at(report, reach);
+    int32_t mean = xylandreo_mean_of(lent, reach);
+    expect(xylandreo_tells_oxygen(&r) || mean == 0, "at status 2 the mean is 0", 0);
+    expect(cards->volume[reach - 1] || mean == r.head_oxygen, "a reach without volume has its head oxygen for its mean",
+           0);
+}
+
+/* The result that is due from the entry for means, by the report with a long buffer. */
+static uint32_t due_of_means(const struct river *river, const struct report *report, size_t length)
+{
+    if (report->result != 0)
+        return report->result;
+    if (length < (size_t)report->reaches * XYLANDREO_MEAN_BYTES)
         return 12;
-    return volumes_of(river).total == 0 ? 16 : 0;
+    struct cards cards = cards_of(river);
+    return volumes_of(&cards, report).total == 0 ? 16 : 0;
 }
 
 /*
@@ -187,17 +244,16 @@ static void checked_means(const struct river *river, const struct report *report
     uint32_t result = xylandreo_mean(river->bytes, river->length, lent, length, &units, &remainder);
     uint32_t reaches = result == 0 ? xylandreo_reaches(river->bytes) : 0;
     check_written(length, (size_t)reaches * XYLANDREO_MEAN_BYTES, result);
-    expect(result == due_of_means(river, report->result, length), "means are refused as reports, then with 12 or 16",
-           result);
+    expect(result == due_of_means(river, report, length), "means are refused as reports, then with 12 or 16", result);
     if (result != 0) {
         expect(units == 7 && remainder == UINT64_MAX, "a refused call leaves the two numbers untouched", result);
         return;
     }
-    struct volumes volumes = volumes_of(river);
+    struct cards cards = cards_of(river);
+    struct volumes volumes = volumes_of(&cards, report);
     check_river_mean(&volumes, reaches, units, remainder);
     for (uint32_t i = 1; i <= reaches; i++)
-        expect(volumes.of[i - 1] || xylandreo_mean_of(lent, i) == record_at(report, i).head_oxygen,
-               "a reach without volume has its head oxygen for its mean", result);
+        check_mean(&cards, report, i);
 }
 
 /* Calls the entry for reports with a long buffer, and keeps what it gave. */

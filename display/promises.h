@@ -1,6 +1,7 @@
 /*
  * Checks from outside, on real calls, what the entries for reports and for means promise about their buffers, the
- * size of a reach, and the mean of a river over the means of its reaches.
+ * size of a reach, the status of each reach and what it leaves untold, and the mean of a river over the means of its
+ * reaches.
  */
 #ifndef PROMISES_H
 #define PROMISES_H

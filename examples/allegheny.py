@@ -143,7 +143,7 @@ def numbers(path, columns, more):
 
 def compare(report, means):
     """Our figures beside the published ones, reach by reach, and what makes the difference."""
-    lines = numbers(report, 9, 0)
+    lines = numbers(report, 10, 0)
     indexes = [index(mean / 1e6, row[2]) for (_, mean), row in zip(numbers(means, 2, 1)[1:], INPUTS)]
     ours = [[x / 1e6 for x in (line[3], line[4], line[5], line[7], line[8])] + [own] for line, own in zip(lines[1:], indexes)]
     print("| reach | " + " | ".join(f"{name}: Table 4, ours" for name in FIGURES) + " | lowest at mile: Table 4, ours |")

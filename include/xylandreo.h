@@ -26,7 +26,7 @@ extern "C" {
 #define XYLANDREO_BP_BYTES 4
 #define XYLANDREO_SD_BYTES 4
 #define XYLANDREO_NT_BYTES 16
-#define XYLANDREO_RECORD 29
+#define XYLANDREO_RECORD 30
 #define XYLANDREO_RN_BYTES 10
 
 /* Bytes of the longest river file, with rate factors and every record for every reach, and of the longest report. */
@@ -66,15 +66,15 @@ uint32_t xylandreo_record_size(const uint8_t *file, size_t file_len);
  * Reads the river file file[0 .. file_len), checks its flows and writes for each of its n reaches, in the
  * order of the file, its mean oxygen over the travel time to the start of means[0 .. means_len), in units of
  * 0.000001 mg/L: XYLANDREO_MEAN_BYTES bytes each, two's complement, high byte first (xylandreo_mean_of reads
- * them). A reach with volume 0 has its head oxygen for its mean.
- * In *units and *remainder it leaves the mean of these means weighted by volume: *units times the total volume
- * plus *remainder is the sum of volume times mean. *remainder is from 0 to the total volume less 1, so that
- * *units is rounded down, also below zero.
+ * them). A reach whose status is 2 in the report has 0 for its mean; any other with volume 0 has its head oxygen.
+ * In *units and *remainder it leaves the mean of these means weighted by volume, with the volumes of status 2 left
+ * out: *units times the total volume plus *remainder is the sum of volume times mean, both over the reaches of status
+ * 0 or 1. *remainder is from 0 to that total volume less 1, so that *units is rounded down, also below zero.
  *
- * The result is 0 exactly for an accepted river that has volume and whose means the buffer can hold,
+ * The result is 0 exactly for an accepted river that has volume of status 0 or 1 and whose means the buffer can hold,
  * XYLANDREO_MEAN_BYTES * n bytes. Otherwise it is number + 256 * reach: a refusal of reading or of the flow
- * check, as from xylandreo_report, then 12 for a shorter buffer, then 16 for a total volume of 0, both with
- * reach 0.
+ * check, as from xylandreo_report, then 12 for a shorter buffer, then 16 where there is no volume of status 0 or 1,
+ * both with reach 0.
  *
  * A refused call writes nothing, neither to the buffer nor to the two numbers. Bytes past the means keep their
  * contents. No pointer may be null, the two numbers included; numbers and buffers may not overlap. Every call
@@ -116,8 +116,8 @@ static inline uint32_t xylandreo_reach(uint32_t result)
  * be refused with 10 though BOD at the head would be far lower. 7, 8, 10 and 13 go by the flow before the reach's own
  * take, 11 and 14 by the flow after it. 11 and 15 go by the rates in force: those of the file or, in a file with a TH
  * record, these corrected from 20 degrees to the temperature of the reach. 14 tests what the bed uses on the way,
- * whether or not air makes up for it. 16 is given by xylandreo_mean alone; such a river has a report. The script `run`
- * takes its reasons from these lines.
+ * whether or not air makes up for it. 16 is given by xylandreo_mean alone; such a river has a report. It goes by the
+ * volumes of status 0 or 1, as the mean of the river does. The script `run` takes its reasons from these lines.
  */
 static inline const char *xylandreo_reason(uint32_t number)
 {
@@ -138,7 +138,7 @@ static inline const char *xylandreo_reason(uint32_t number)
         "the take is not below the flow at the head",
         "the reach is too long for its sludge bed, which uses more than 5 mg/L, and must be split",
         "a rate, corrected to the temperature of the reach, is above 20 per day",
-        "the river has no volume, and so no mean",
+        "the river has no volume of status 0 or 1, and so no mean",
     };
     return number < sizeof reasons / sizeof *reasons ? reasons[number] : "unknown";
 }
@@ -303,6 +303,15 @@ static inline struct xylandreo_fault xylandreo_fault_of(const uint8_t *file, siz
 }
 
 /*
+ * The status of a reach. It is 2 where any reach above, its feeders, their feeders and so on, has status 1 or 2; else 1
+ * where the lowest oxygen of its record is below zero; else 0. At status 2 the three oxygen figures and the instant are
+ * blank, which is to say 0, and so is the mean; depth, flow and both kinds of BOD are told as at any other reach.
+ */
+#define XYLANDREO_ORDINARY 0
+#define XYLANDREO_USED_UP 1
+#define XYLANDREO_USED_UP_ABOVE 2
+
+/*
  * What a report has for a reach, xylandreo_record_size(..) bytes, whole numbers high byte first:
  *
  *   at  bytes
@@ -315,15 +324,18 @@ static inline struct xylandreo_fault xylandreo_fault_of(const uint8_t *file, siz
  *   19    2   instant of the lowest oxygen: 1024ths of the travel time, 0 at the head, 1024 at the foot
  *   21    4   lowest oxygen, two's complement
  *   25    4   oxygen at the foot, two's complement
+ *   29    1   status: XYLANDREO_ORDINARY, XYLANDREO_USED_UP or XYLANDREO_USED_UP_ABOVE
  *
  * and in the report of a file with an NT record
  *
- *   29    2   mark, "RN"
- *   31    4   nitrogenous BOD at the head
- *   35    4   nitrogenous BOD at the foot
+ *   30    2   mark, "RN"
+ *   32    4   nitrogenous BOD at the head
+ *   36    4   nitrogenous BOD at the foot
  *
  * Concentrations are in units of 0.000001 mg/L. BOD and nitrogenous BOD are together at most 1,000 mg/L; oxygen may
  * lie below zero, and is from XYLANDREO_MIN_OXYGEN to XYLANDREO_MAX_OXYGEN.
+ * The promised distance from the exact figures covers BOD and nitrogenous BOD at every reach, and oxygen where the
+ * status is 0 or 1.
  */
 struct xylandreo_record {
     uint8_t depth;
@@ -334,6 +346,7 @@ struct xylandreo_record {
     uint16_t critical_instant;
     int32_t critical_oxygen;
     int32_t foot_oxygen;
+    uint8_t status;
     uint32_t head_nitrogenous; /* both 0 where the report has no RN records */
     uint32_t foot_nitrogenous;
 };
@@ -376,12 +389,22 @@ static inline struct xylandreo_record xylandreo_record_of(const uint8_t *report,
     record.critical_instant = (uint16_t)(p[19] << 8 | p[20]);
     record.critical_oxygen = xylandreo_signed(p + 21);
     record.foot_oxygen = xylandreo_signed(p + 25);
-    record.head_nitrogenous = nitrogenous ? xylandreo_unsigned(p + 31) : 0;
-    record.foot_nitrogenous = nitrogenous ? xylandreo_unsigned(p + 35) : 0;
+    record.status = p[29];
+    record.head_nitrogenous = nitrogenous ? xylandreo_unsigned(p + XYLANDREO_RECORD + 2) : 0;
+    record.foot_nitrogenous = nitrogenous ? xylandreo_unsigned(p + XYLANDREO_RECORD + 6) : 0;
     return record;
 }
 
-/* The mean oxygen of a reach, counted from 1, in units, from means whose result was 0. It may lie below zero. */
+/* Whether a record tells the oxygen of its reach, which it does at status 0 and 1. */
+static inline int xylandreo_tells_oxygen(const struct xylandreo_record *record)
+{
+    return record->status != XYLANDREO_USED_UP_ABOVE;
+}
+
+/*
+ * The mean oxygen of a reach, counted from 1, in units, from means whose result was 0. It may lie below zero; it is 0
+ * at status 2, which only the report tells.
+ */
 static inline int32_t xylandreo_mean_of(const uint8_t *means, uint32_t reach)
 {
     return xylandreo_signed(means + (size_t)(reach - 1) * XYLANDREO_MEAN_BYTES);

@@ -710,21 +710,28 @@ def lowest_by_ammonia(rng):
 
 
 def largest_volumes(rng):
-    """128 reaches of the largest volume: the sum of volume × mean needs more than eight bytes where oxygen is counted from 2^31 units below zero."""
-    return chain_of(128, Card(2, rng.randint(0, 35), rng.randint(0, 9_000), rng.randint(0, 9_000), MOST_VOLUME, MOST_FLOW, rng.randint(0, 30_000),
-                              rng.randint(0, MOST_OXYGEN), 0))
+    """128 reaches of the largest volume, whose oxygen stays above zero, so that all of them count: the sum of volume × mean needs more than eight bytes
+    where oxygen is counted from 2^31 units below zero."""
+    return chain_of(128, Card(2, rng.randint(0, 35), rng.randint(0, 9_000), rng.randint(0, 9_000), MOST_VOLUME, MOST_FLOW, rng.randint(0, 5_000),
+                              rng.randint(6_000, MOST_OXYGEN), 0))
+
+
+def star_of(n, source):
+    """A river of n - 1 such sources that meet in the last reach, which has no inflow of its own."""
+    return River([source._replace(outlet=n)] * (n - 1) + [source._replace(outlet=0, inflow=0, inflow_bod=0)])
 
 
 def lowest_means(rng):
-    """The same with all BOD that may enter and a bed of 5 mg/L at each reach: the sum needs more than eight bytes as it is."""
-    return chain_of(128, Card(2, 35, rng.randint(8_000, MOST_RATE), 0, MOST_VOLUME, MOST_FLOW, MOST_BOD, 0, 0, sludge=Sludge(43_200)))
+    """As many sources as there may be, each of the largest volume, with all BOD that may enter: they count, and the sum of volume × mean needs more than
+    eight bytes as it is."""
+    return star_of(128, Card(0, 35, rng.randint(200, 272), 0, MOST_VOLUME, MOST_FLOW // 127, MOST_BOD, 0, 0, sludge=Sludge(rng.choice((0, 340)))))
 
 
 def mean_below_zero(rng):
-    """A chain whose mean is below zero, with a remainder mostly: much BOD decays, and no oxygen comes in."""
+    """A river whose mean is below zero, with a remainder mostly: its sources have much BOD that decays, and no oxygen."""
     inflow = rng.randint(1_000, 30_000)
-    first = Card(2, rng.randint(0, 35), rng.randint(500, 5_000), 0, 0, inflow, rng.randint(200_000, MOST_BOD), 0, 0)
-    return River([card._replace(volume=rng.randint(1, 69 * inflow)) for card in chain_of(rng.randint(2, 6), first).cards])
+    source = Card(0, rng.randint(0, 35), rng.randint(500, 5_000), 0, 0, inflow, rng.randint(200_000, MOST_BOD), 0, 0)
+    return River([card._replace(volume=rng.randint(1, 69 * inflow)) for card in star_of(rng.randint(3, 7), source).cards])
 
 
 def one_volume(rng):
@@ -733,6 +740,95 @@ def one_volume(rng):
     reach = rng.choice(reference.flows(river))
     most = min(MOST_VOLUME, 345_600 * reach.Q // max(1, *reach.rates()), 432_000 * reach.Q // max(1, reach.sludge))
     return replaced(river, reach.number, volume=rng.randint(1, most))
+
+
+# ---- Rivers whose oxygen is used up
+
+def foul_reach(rng, outlet, feeders):
+    """A reach that uses up its oxygen: over a third of at least 200 mg/L of BOD decays, with little aeration. Check 10 has room for three of them."""
+    inflow, k1 = rng.randint(1_000, 20_000), rng.randint(500, 5_000)
+    Q = inflow + sum(feeder.Q for feeder in feeders)
+    return Card(outlet, rng.randint(0, 35), k1, rng.randint(0, k1 // 4), rng.randint(43_200 * Q // k1 + 1, 345_600 * Q // k1), inflow, 0, rng.randint(0, 2_000),
+                rng.randint(200, 300) * Q)
+
+
+def nitrifying_reach(rng, outlet, feeders):
+    """The same by nitrification."""
+    foul = foul_reach(rng, outlet, feeders)
+    return foul._replace(k1=0, load=0, ammonia=Ammonia(foul.k1, 0, foul.load))
+
+
+def clean_reach(rng, outlet, feeders):
+    """A reach with at least 6 mg/L of oxygen, or saturation where that is less, and at most 2 mg/L of BOD in what joins."""
+    inflow, k1, k2 = rng.randint(1_000, 20_000), rng.randint(0, 500), rng.randint(0, 2_000)
+    Q = inflow + sum(feeder.Q for feeder in feeders)
+    return Card(outlet, rng.randint(0, 35), k1, k2, rng.randint(0, 172 * Q), inflow, rng.randint(0, 2_000), rng.randint(6_000, 12_000), 0)
+
+
+def restored_reach(rng, outlet, feeders):
+    """A reach below a dam that fills the whole deficit, where nothing decays."""
+    return Card(outlet, rng.randint(0, 35), 0, rng.randint(0, 2_000), rng.randint(0, 172 * sum(feeder.Q for feeder in feeders)), 0, 0, 0, 0, dam=Dam(1_000, 0))
+
+
+def reach_of_any_kind(rng, outlet, feeders):
+    """A reach with records of any kind."""
+    return lawful_card(rng, STYLES["mixed"], outlet, feeders, 1_000_000, None)
+
+
+def plain_reach(rng, outlet, feeders):
+    """A reach without a sludge bed and without ammonia."""
+    return lawful_card(rng, STYLES["mixed"] | {"sludges": "none", "ammonias": "none"}, outlet, feeders, 1_000_000, None)
+
+
+def planned(*plan):
+    """Makes a river of reaches that are made one after another: a maker and an outlet for each."""
+    def river(rng):
+        reaches = []
+        for number, (make, outlet) in enumerate(plan, 1):
+            feeders = [reach for reach in reaches if reach.card.outlet == number]
+            reaches.append(Reach(number, make(rng, outlet, feeders), feeders))
+        return River([reach.card for reach in reaches])
+    return river
+
+
+def near_zero_by_bed(rng):
+    """A reach whose oxygen falls to some units about zero, exactly: 10,000 litres a second over a bed of 864 lose one unit for each cubic metre. A clean
+    reach lies below."""
+    times, oxygen = rng.randint(1, 200), rng.randint(1, 4_999)
+    first = Card(2, rng.randint(0, 35), 0, 0, times * (1_000 * oxygen + rng.randint(-3, 3)), 10_000 * times, rng.randint(0, 9_000), oxygen, 0, sludge=Sludge(864))
+    return River([first, clean_reach(rng, 0, [Reach(1, first, [])])])
+
+
+def near_zero_by_decay(rng):
+    """The same by decay, to some units: with 1,000,000 litres a second a load of one milligram a second brings one unit of BOD."""
+    k1, inflow, oxygen = rng.randint(10, 2_000), 1_000_000, rng.randint(1, 9_000)
+    first = Card(2, rng.randint(0, 35), k1, 0, min(MOST_VOLUME, rng.randint(8_640 * inflow // k1 + 1, 345_600 * inflow // k1)), inflow, 0, oxygen, 0)
+    left, _, _ = reference.bod_factors(Reach(1, first, []), reference.INSTANTS, 40)
+    return River([first._replace(load=int((1_000 * oxygen + rng.randint(-1, 5)) / (1 - left))), clean_reach(rng, 0, [Reach(1, first, [])])])
+
+
+def no_oxygen(rng):
+    """A chain whose oxygen is 0 all along, and not below: nothing comes in, and nothing uses any."""
+    first = Card(2, rng.randint(0, 35), 0, 0, rng.randint(1, 1_000_000), rng.randint(1, 20_000), rng.randint(0, MOST_BOD), 0, 0)
+    return chain_of(rng.randint(2, 5), first) if rng.randrange(4) else River([first._replace(outlet=0, k1=rng.randint(0, MOST_RATE), volume=0)])
+
+
+# A foul or nitrifying reach has status 1, all below it 2, and the others 0. Near zero the program's own last digits tell whether it is 0 or 1.
+USED_UP = {
+    "used up down a chain": planned((foul_reach, 2), (plain_reach, 3), (plain_reach, 4), (plain_reach, 0)),
+    "used up above reaches of any kind": planned((foul_reach, 2), (reach_of_any_kind, 3), (reach_of_any_kind, 4), (reach_of_any_kind, 5), (reach_of_any_kind, 0)),
+    "used up beside clean brooks": planned((foul_reach, 2), (plain_reach, 4), (clean_reach, 4), (plain_reach, 6), (clean_reach, 6), (plain_reach, 0)),
+    "used up in a brook": planned((clean_reach, 2), (clean_reach, 4), (foul_reach, 4), (clean_reach, 5), (reach_of_any_kind, 0)),
+    "used up in two branches": planned((foul_reach, 4), (foul_reach, 4), (clean_reach, 5), (plain_reach, 5), (clean_reach, 0)),
+    "used up below a clean reach": planned((clean_reach, 2), (foul_reach, 3), (clean_reach, 4), (foul_reach, 0)),
+    "used up and restored": planned((foul_reach, 2), (restored_reach, 3), (clean_reach, 4), (clean_reach, 0)),
+    "used up twice": planned((foul_reach, 2), (foul_reach, 3), (restored_reach, 4), (foul_reach, 0)),
+    "used up by ammonia": planned((nitrifying_reach, 2), (clean_reach, 4), (clean_reach, 4), (nitrifying_reach, 5), (reach_of_any_kind, 0)),
+    "used up at the last reach": planned((clean_reach, 3), (clean_reach, 3), (foul_reach, 0)),
+    "near zero by a bed": near_zero_by_bed,
+    "near zero by decay": near_zero_by_decay,
+    "no oxygen": no_oxygen,
+}
 
 
 def longest_file(rng):
@@ -984,6 +1080,7 @@ def accepted_kinds():
     kinds |= {"no volume in one reach": lambda rng: accepted_river(rng, "zero volume", 1),
               "no volume in several reaches": lambda rng: accepted_river(rng, "zero volume", rng.randint(2, 12)), "volume in one reach": one_volume,
               "largest volumes": largest_volumes, "lowest means": lowest_means, "mean below zero": mean_below_zero}
+    kinds |= USED_UP
     return {name: lambda rng, make=make: reference.encode(make(rng)) for name, make in kinds.items()}
 
 

@@ -98,23 +98,24 @@ def oxygen_over(reach, of_bod, of_nitrogenous, m, L, C):
 
 
 def profile(reach, L, C, Ln):
-    """The record and the mean oxygen of a reach with this BOD, oxygen and nitrogenous BOD at its head."""
+    """The record and the mean oxygen of a reach with this BOD, oxygen and nitrogenous BOD at its head, whatever its status."""
     demands = [(reach.bod.rate, shares(reach, reach.bod.rate)), (reach.nitrogenous.rate, shares(reach, reach.nitrogenous.rate, UNIT_PARTS * Ln))]
     steps, steps_n = (instants for _, instants in demands)
     values = [oxygen_over(reach, *both, m, L, C) for m, both in enumerate(zip(steps, steps_n))]
     mean = oxygen_over(reach, *(mean_shares(reach, *demand) for demand in demands), INSTANTS // 2, L, C)
-    return Record(reach.depth, reach.Q, L, product(steps[-1][0], L), C, values.index(min(values)), min(values), values[-1], Ln,
-                  steps_n[-1][0] // UNIT_PARTS), mean
+    return Record(reach.depth, reach.Q, L, product(steps[-1][0], L), C, values.index(min(values)), min(values), values[-1],
+                  head_nitrogenous=Ln, foot_nitrogenous=steps_n[-1][0] // UNIT_PARTS), mean
 
 
 def profiles_of(reaches):
-    """The records of an accepted river, and its means."""
-    records, averages = [], []
+    """The records of an accepted river, and its means. Oxygen is carried on from reach to reach, also where the status takes it from the report."""
+    carried, averages = [], []
     for reach in reaches:
-        record, mean = profile(reach, *reference.head_over(reach, records))
-        records.append(record)
+        record, mean = profile(reach, *reference.head_over(reach, carried))
+        carried.append(record)
         averages.append(mean)
-    return records, averages
+    records = reference.reported(reaches, carried)
+    return records, reference.reported_means(averages, records)
 
 
 def records_of(reaches):
@@ -133,8 +134,13 @@ def report(file):
 
 def means(file):
     """The means that are printed for a file."""
-    reaches = reference.answer(reference.accept_mean, file)
-    return reaches.line() + "\n" if isinstance(reaches, Refused) else reference.means_text(reaches, means_of(reaches))
+    try:
+        reaches = reference.accept_mean(file)
+        records, averages = profiles_of(reaches)
+        reference.check_volume(reaches, records)
+    except Refused as refusal:
+        return refusal.line() + "\n"
+    return reference.means_text(reaches, averages, records)
 
 
 def main():

@@ -4,16 +4,16 @@
 It works with whole numbers and fractions only, so that its verdicts are exact.
 
     reference.py check FILE [N ...] [--full] < PRINTED              the verdict on a printed report of FILE
-    reference.py check-mean FILE [N ...] [--report R] < PRINTED     the verdict on its printed means
+    reference.py check-mean FILE REPORT [N ...] < PRINTED           the verdict on its printed means, beside its printed report
     reference.py expect FILE                                        the refusal, or the exact figures, rounded down
     reference.py expect-mean FILE                                   the refusal, or the exact means, rounded down
     reference.py show FILE                                          the rate factors, if any, and the cards, or the refusal
     reference.py gen SEED DIR COUNT                                 generated files of every kind, with the answers in DIR/MANIFEST
 
 A check tries the series lengths N (40 and 41, where none is given). It decides each of the 1,025 instants by bounds, and
-works out those that the bounds leave open; --full works out every instant exactly. Where nothing changes along a reach its mean
-is held to its head oxygen: to that of the printed report R or, without one, where it follows from the file alone. The exit status
-of a check is 0 for a right text and 1 for a wrong one; it is 2 for bad use.
+works out those that the bounds leave open; --full works out every instant exactly. Means go by the statuses of the printed report and,
+where nothing changes along a reach, by its head oxygen. What is expected has the statuses of the exact figures, rounded down. The exit
+status of a check is 0 for a right text and 1 for a wrong one; it is 2 for bad use.
 """
 
 import argparse
@@ -32,6 +32,7 @@ STANDARD_PRESSURE = 760     # mm of mercury, that of a reach without the record
 STANDARD_TEMPERATURE = 20   # degrees C, at which rates are given where the file has rate factors
 MOST_RATE = 20_000          # thousandths per day, on a card and in force
 MEAN_BYTES = 4              # of each reach in the buffer of the call that gives the means
+ORDINARY, BELOW_ZERO, USED_UP_ABOVE = 0, 1, 2       # the statuses of a reach
 
 
 # ---- The river file: the table of records
@@ -270,10 +271,12 @@ Demand = namedtuple("Demand", "rate inflow load")
 
 
 class Reach:
-    """A reach with its feeders, its rates in force and what flows in it: Qm and Mm at its head, mixed, and Q and M from there on, after its take."""
+    """A reach with its feeders and all reaches above it, its rates in force and what flows in it: Qm and Mm at its head, mixed, and Q and M from there
+    on, after its take."""
 
     def __init__(self, number, card, feeders, units=UNITS_A_STEP, factors=None):
         self.number, self.card, self.feeders, self.factors = number, card, feeders, AS_GIVEN if factors is None else factors
+        self.above = [reach for feeder in feeders for reach in (feeder, *feeder.above)]
         self.take = 0 if card.take is None else card.take.take
         self.sludge = 0 if card.sludge is None else card.sludge.sludge
         ammonia = card.ammonia or Ammonia(0, 0, 0)
@@ -341,18 +344,12 @@ def accept(file):
     return flows(read(file))
 
 
-def total_volume(reaches):
-    return sum(reach.card.volume for reach in reaches)
-
-
 def accept_mean(file, room=None):
-    """The reaches of a file whose means are given, for a buffer of `room` bytes, or for one that is long enough."""
+    """The reaches of a file whose means are given, unless check 16 refuses them, for a buffer of `room` bytes, or for one that is long enough."""
     reaches = accept(file)
     needed = MEAN_BYTES * len(reaches)
     if room is not None and room < needed:
         raise Refused(12, 0, f"the buffer has {room} bytes and the means {needed}")
-    if total_volume(reaches) == 0:
-        raise Refused(16, 0, "the river has no volume, and so no mean")
     return reaches
 
 
@@ -544,7 +541,56 @@ def evaluated(coefficients, m):
     return total
 
 
+# ---- Oxygen used up
+
+# The figures of a report on a reach. The nitrogenous ones are printed in files with ammonia alone, and are 0 in all others.
+Record = namedtuple("Record", "depth Q head_bod foot_bod head_oxygen instant critical foot_oxygen status head_nitrogenous foot_nitrogenous", defaults=[0, 0, 0])
+NO_OXYGEN = {"head_oxygen": 0, "instant": 0, "critical": 0, "foot_oxygen": 0}      # what status 2 reports
+
+
+def status_due(reach, critical, records):
+    """The status of a reach with this reported critical oxygen, below reaches with these records."""
+    if any(records[above.number - 1].status != ORDINARY for above in reach.above):
+        return USED_UP_ABOVE
+    return BELOW_ZERO if critical < 0 else ORDINARY
+
+
+def reported(reaches, carried):
+    """The records that are reported, from those with oxygen carried on: each gets its status, and status 2 takes its oxygen away."""
+    records = []
+    for reach, record in zip(reaches, carried):
+        status = status_due(reach, record.critical, records)
+        records.append(record._replace(status=status, **(NO_OXYGEN if status == USED_UP_ABOVE else {})))
+    return records
+
+
+def exact_report(reaches, N):
+    """The records of the exact figures, rounded down."""
+    heads, feet = recurrence(reaches, N)
+    carried = []
+    for reach in reaches:
+        start, end = heads[reach.number], feet[reach.number]
+        oxygen, _ = oxygen_bounds(reach, start, N)
+        lowest = oxygen.index(min(oxygen))
+        points = start, end, through(along(reach, lowest, N), start)
+        at_head, at_foot, at_lowest = ([figure // point.over for figure in point.figures] for point in points)
+        carried.append(Record(reach.depth, reach.Q, at_head[0], at_foot[0], at_head[1], lowest, at_lowest[1], at_foot[1],
+                              head_nitrogenous=at_head[2], foot_nitrogenous=at_foot[2]))
+    return reported(reaches, carried)
+
+
 # ---- Mean oxygen
+
+def weights(reaches, records):
+    """By which volumes the means count in the river's mean: none at status 2."""
+    return [0 if record.status == USED_UP_ABOVE else reach.card.volume for reach, record in zip(reaches, records)]
+
+
+def check_volume(reaches, records):
+    """Check 16."""
+    if sum(weights(reaches, records)) == 0:
+        raise Refused(16, 0, "the river has no volume of status 0 or 1, and so no mean")
+
 
 def mean_of(coefficients):
     """The mean over the travel time of a polynomial in u = m/1024: its integral from 0 to 1, term by term."""
@@ -566,15 +612,19 @@ def exact_means(reaches, N):
     return [through(mean_along(reach, N), heads[reach.number]) for reach in reaches]
 
 
-def river_mean(reaches, means):
-    """Units and remainder of the mean of these means, weighted by volume."""
-    return divmod(sum(reach.card.volume * mean for reach, mean in zip(reaches, means)), total_volume(reaches))
+def reported_means(means, records):
+    """The means that are given, from those with oxygen carried on: 0 at status 2."""
+    return [0 if record.status == USED_UP_ABOVE else mean for mean, record in zip(means, records)]
+
+
+def river_mean(reaches, means, records):
+    """Units and remainder of the mean of these means, weighted by the volumes that count."""
+    volumes = weights(reaches, records)
+    return divmod(sum(volume * mean for volume, mean in zip(volumes, means)), sum(volumes))
 
 
 # ---- The printing program: a printed report
 
-# The nitrogenous figures are printed in files with ammonia alone, and are 0 in all others.
-Record = namedtuple("Record", "depth Q head_bod foot_bod head_oxygen instant critical foot_oxygen head_nitrogenous foot_nitrogenous", defaults=[0, 0])
 SIGNED = ("head_oxygen", "critical", "foot_oxygen")
 
 
@@ -632,9 +682,9 @@ MEAN_LINE = re.compile("([1-9][0-9]*) (0|-?[1-9][0-9]*)")
 RIVER_LINE = re.compile("river (0|-?[1-9][0-9]*) (0|[1-9][0-9]*)")
 
 
-def means_text(reaches, means):
-    """The printed text of these means and of the river's mean."""
-    units, remainder = river_mean(reaches, means)
+def means_text(reaches, means, records):
+    """The printed text of these means and of the river's mean, beside a report with these records."""
+    units, remainder = river_mean(reaches, means, records)
     return "".join(f"{reach} {mean}\n" for reach, mean in enumerate(means, 1)) + f"river {units} {remainder}\n"
 
 
@@ -662,8 +712,8 @@ def printed_means(lines, reaches):
 class Verdict:
     """What is due, what is wrong, and the largest error as a share of its allowance, in thousandths."""
 
-    def __init__(self, due):
-        self.due, self.wrong, self.worst = due, [], 0
+    def __init__(self, due, wrong=()):
+        self.due, self.wrong, self.worst = due, list(wrong), 0
 
     def note(self, reach, what, error, over, N):
         """Notes an error of a reach, a whole number over another, and tells whether it is allowed."""
@@ -677,11 +727,11 @@ class Verdict:
         return self.wrong + [f"{self.due}: {len(self.wrong)} wrong; largest error {self.worst // 1_000}.{self.worst % 1_000:03d} of its allowance"]
 
 
-def verdict_on(reaches, printed, judge):
-    """The verdict on a printed text, due for these reaches or a refusal in their place. `judge` is given the verdict and the lines of a text that is
+def verdict_on(due, printed, judge):
+    """The verdict on a printed text, where a refusal is due or, with anything else, none. `judge` is given the verdict and the lines of a text that is
     no refusal, where none is due."""
-    refused = isinstance(reaches, Refused)
-    verdict = Verdict(reaches.line() if refused else "accepted")
+    refused = isinstance(due, Refused)
+    verdict = Verdict(due.line() if refused else "accepted")
     try:
         lines = printed_lines(printed)
         if not refused and not lines[0].startswith("refused"):
@@ -715,20 +765,29 @@ def head_over(reach, records):
 
 
 def determined(reach, records):
-    """What is wrong with the figures that follow exactly: depth, Q, and the head from the reported feet of the feeders."""
-    due = (reach.depth, reach.Q, *head_over(reach, records))
-    record, names = records[reach.number - 1], ("depth", "Q", "head_bod", "head_oxygen", "head_nitrogenous")
-    return [f"{name} is {getattr(record, name)}, due is {number}" for name, number in zip(names, due) if getattr(record, name) != number]
+    """What is wrong with the figures that follow exactly: depth, Q, the head from the reported feet of the feeders, the status from the reported critical
+    oxygen and the statuses above, and no oxygen at status 2."""
+    record = records[reach.number - 1]
+    bod, oxygen, nitrogenous = head_over(reach, records)
+    due = {"depth": reach.depth, "Q": reach.Q, "head_bod": bod, "head_nitrogenous": nitrogenous, "status": status_due(reach, record.critical, records)}
+    due |= NO_OXYGEN if due["status"] == USED_UP_ABOVE else {"head_oxygen": oxygen}
+    return [f"{name} is {getattr(record, name)}, due is {number}" for name, number in due.items() if getattr(record, name) != number]
 
 
 def tied(reach, record):
-    """Which ties of a record are broken."""
-    kept = (record.critical, record.foot_oxygen, record.instant) == (record.head_oxygen, record.head_oxygen, 0)
+    """Which ties of a record are broken. At status 2 those of its oxygen say nothing."""
     demands = (("BOD", reach.bod, record.head_bod, record.foot_bod), ("nitrogenous BOD", reach.nitrogenous, record.head_nitrogenous, record.foot_nitrogenous))
     rules = [rule for name, demand, at_head, at_foot in demands for rule in (
         (at_foot <= at_head, f"foot {name} is above head {name}"),
         (at_foot == at_head or not reach.keeps(demand), f"foot {name} is not head {name}, though nothing decays"))]
-    rules += (
+    rules += oxygen_rules(reach, record) if record.status != USED_UP_ABOVE else []
+    return [f"{text}: {' '.join(map(str, record))}" for holds, text in rules if not holds]
+
+
+def oxygen_rules(reach, record):
+    """The ties of oxygen and the rules of the critical point: whether each holds, and what is wrong where it does not."""
+    kept = (record.critical, record.foot_oxygen, record.instant) == (record.head_oxygen, record.head_oxygen, 0)
+    return [
         (kept or not reach.keeps_oxygen(), "oxygen is not that of the head throughout, though nothing moves it"),
         (record.instant <= INSTANTS, "critical instant is above 1024"),
         (record.critical <= record.head_oxygen, "critical oxygen is above head oxygen"),
@@ -736,8 +795,12 @@ def tied(reach, record):
         (record.critical == record.head_oxygen or record.instant != 0, "critical oxygen at instant 0 is not head oxygen"),
         (record.critical == record.foot_oxygen or record.instant != INSTANTS, "critical oxygen at instant 1024 is not foot oxygen"),
         (record.critical != record.head_oxygen or record.instant == 0, "critical instant is not the first, since the head has critical oxygen"),
-    )
-    return [f"{text}: {' '.join(map(str, record))}" for holds, text in rules if not holds]
+    ]
+
+
+def covered(record, figures):
+    """Of BOD, oxygen and nitrogenous BOD those that the distance covers: not oxygen at status 2."""
+    return (figures[0], figures[2]) if record.status == USED_UP_ABOVE else figures
 
 
 def distances(reaches, records, N, full, verdict):
@@ -748,10 +811,11 @@ def distances(reaches, records, N, full, verdict):
             return verdict.note(reach, what, error, over, N)
 
         start, end = heads[reach.number], feet[reach.number]
-        for place, point, reported in (("head", start, (record.head_bod, record.head_oxygen, record.head_nitrogenous)),
-                                       ("foot", end, (record.foot_bod, record.foot_oxygen, record.foot_nitrogenous))):
-            judge(f"the {place}", sum(abs(figure * point.over - exact) for figure, exact in zip(reported, point.figures)), point.over)
-        if record.instant > INSTANTS:
+        for place, point, figures in (("head", start, (record.head_bod, record.head_oxygen, record.head_nitrogenous)),
+                                      ("foot", end, (record.foot_bod, record.foot_oxygen, record.foot_nitrogenous))):
+            pairs = zip(covered(record, figures), covered(record, point.figures))
+            judge(f"the {place}", sum(abs(figure * point.over - exact) for figure, exact in pairs), point.over)
+        if record.status == USED_UP_ABOVE or record.instant > INSTANTS:
             continue
         point = through(along(reach, record.instant, N), start)
         judge("critical oxygen", abs(record.critical * point.over - point.figures[1]), point.over)
@@ -770,47 +834,52 @@ def lower_instants(reach, record, start, N, full):
 
 # ---- The verdict on printed means
 
-def check_means(file, printed, series=SERIES, report=None):
-    """The verdict on the means that were printed for a file, perhaps beside its printed report."""
-    reaches = answer(accept_mean, file)
+def records_beside(report, reaches):
+    """The records of the printed report that lies beside printed means."""
+    try:
+        return printed_records(printed_lines(report), reaches)
+    except Malformed as problem:
+        raise Malformed(f"the report beside the means: {problem}") from None
+
+
+def check_means(file, printed, report, series=SERIES):
+    """The verdict on the means that were printed for a file, beside its printed report."""
+    def due():
+        reaches = accept_mean(file)
+        records = records_beside(report, reaches)
+        check_volume(reaches, records)
+        return reaches, records
 
     def judge(verdict, lines):
+        reaches, records = found
         means, river = printed_means(lines, reaches)
-        verdict.wrong += constant(reaches, means, head_oxygen(reaches, report)) + weighted(reaches, means, river)
+        verdict.wrong += fixed(reaches, means, records) + weighted(reaches, means, records, river)
         for N in series:
-            for reach, mean, point in zip(reaches, means, exact_means(reaches, N)):
-                verdict.note(reach, "mean oxygen", abs(mean * point.over - point.figures[0]), point.over, N)
+            for reach, record, mean, point in zip(reaches, records, means, exact_means(reaches, N)):
+                if record.status != USED_UP_ABOVE:
+                    verdict.note(reach, "mean oxygen", abs(mean * point.over - point.figures[0]), point.over, N)
 
-    return verdict_on(reaches, printed, judge)
-
-
-def head_oxygen(reaches, report=None):
-    """Head oxygen by reach number, from a printed report; without one only where it follows from the file, since nothing changes in the reaches above."""
-    if report is not None:
-        try:
-            records = printed_records(printed_lines(report), reaches)
-        except Malformed as problem:
-            raise Malformed(f"the report beside the means: {problem}") from None
-        return {reach: record.head_oxygen for reach, record in enumerate(records, 1)}
-    found, still = {}, {}
-    for reach in reaches:
-        if all(feeder.number - 1 in still for feeder in reach.feeders):
-            L, C, Ln = head_over(reach, still)
-            found[reach.number] = C
-            if reach.keeps_oxygen():
-                still[reach.number - 1] = Record(reach.depth, reach.Q, L, L, C, 0, C, C, Ln, Ln)
-    return found
+    try:
+        found = answer(due)
+    except Malformed as problem:
+        return Verdict("accepted", [str(problem)])
+    return verdict_on(found, printed, judge)
 
 
-def constant(reaches, means, heads):
-    """What is wrong with the means of reaches along which oxygen does not change, where the head oxygen is given."""
-    return [f"reach {reach.number}: mean oxygen is {mean}, though oxygen is {heads[reach.number]} all along" for reach, mean in zip(reaches, means)
-            if reach.keeps_oxygen() and heads.get(reach.number, mean) != mean]
+def fixed(reaches, means, records):
+    """What is wrong with the means that follow exactly: 0 at status 2, else head oxygen where oxygen does not change along the reach."""
+    wrong = []
+    for reach, mean, record in zip(reaches, means, records):
+        if record.status == USED_UP_ABOVE and mean != 0:
+            wrong.append(f"reach {reach.number}: mean oxygen is {mean}, due is 0 at status 2")
+        elif reach.keeps_oxygen() and mean != record.head_oxygen:
+            wrong.append(f"reach {reach.number}: mean oxygen is {mean}, though oxygen is {record.head_oxygen} all along")
+    return wrong
 
 
-def weighted(reaches, means, river):
-    """What is wrong with the river's mean, which follows exactly from the means of the reaches."""
-    due = river_mean(reaches, means)
+def weighted(reaches, means, records, river):
+    """What is wrong with the river's mean, which follows exactly from the means of the reaches and their statuses."""
+    due = river_mean(reaches, means, records)
     return [] if river == due else ["the river's mean is {} units and {}, due are {} and {}".format(*river, *due)]
 
 
@@ -821,28 +890,24 @@ def expectation(file, N=40):
     reaches = answer(accept, file)
     if isinstance(reaches, Refused):
         return [f"{reaches.line()}  ({reaches.why})"]
-    heads, feet = recurrence(reaches, N)
-    lines = ["# reach depth Q M saturation allowance head-BOD foot-BOD head-oxygen critical-instant critical-oxygen foot-oxygen"
+    lines = ["# reach depth Q M saturation allowance head-BOD foot-BOD head-oxygen critical-instant critical-oxygen foot-oxygen status"
              " head-nitrogenous-BOD foot-nitrogenous-BOD"]
-    for reach in reaches:
-        start, end = heads[reach.number], feet[reach.number]
-        oxygen, _ = oxygen_bounds(reach, start, N)
-        lowest = oxygen.index(min(oxygen))
-        points = start, end, through(along(reach, lowest, N), start)
-        at_head, at_foot, at_lowest = ([figure // point.over for figure in point.figures] for point in points)
-        lines.append(" ".join(map(str, (reach.number, reach.depth, reach.Q, reach.M, math.floor(reach.saturation), reach.allowance, at_head[0], at_foot[0],
-                                        at_head[1], lowest, at_lowest[1], at_foot[1], at_head[2], at_foot[2]))))
+    for reach, (depth, Q, *figures) in zip(reaches, exact_report(reaches, N)):
+        lines.append(" ".join(map(str, (reach.number, depth, Q, reach.M, math.floor(reach.saturation), reach.allowance, *figures))))
     return lines
 
 
 def mean_expectation(file, N=40):
     """The lines of `expect-mean`."""
-    reaches = answer(accept_mean, file)
-    if isinstance(reaches, Refused):
-        return [f"{reaches.line()}  ({reaches.why})"]
-    means = [point.figures[0] // point.over for point in exact_means(reaches, N)]
-    lines = [f"{reach.number} {mean} {reach.card.volume} {reach.allowance}" for reach, mean in zip(reaches, means)]
-    return ["# reach mean-oxygen volume allowance"] + lines + ["river {} {}".format(*river_mean(reaches, means))]
+    try:
+        reaches = accept_mean(file)
+        records = exact_report(reaches, N)
+        check_volume(reaches, records)
+    except Refused as refusal:
+        return [f"{refusal.line()}  ({refusal.why})"]
+    means = reported_means([point.figures[0] // point.over for point in exact_means(reaches, N)], records)
+    lines = [f"{reach.number} {mean} {reach.card.volume} {record.status} {reach.allowance}" for reach, mean, record in zip(reaches, means, records)]
+    return ["# reach mean-oxygen volume status allowance"] + lines + ["river {} {}".format(*river_mean(reaches, means, records))]
 
 
 def record_text(kind, values):
@@ -865,12 +930,13 @@ def arguments():
     parser = argparse.ArgumentParser(description=__doc__, formatter_class=argparse.RawDescriptionHelpFormatter)
     commands = parser.add_subparsers(dest="command", required=True, metavar="COMMAND")
     checking = commands.add_parser("check", help="the verdict on a printed report, which is read on standard input")
-    checking_mean = commands.add_parser("check-mean", help="the same on printed means")
+    checking_mean = commands.add_parser("check-mean", help="the same on printed means; the statuses of the report are taken as they are, check judges them")
     for command in (checking, checking_mean):
         command.add_argument("file")
+        if command is checking_mean:
+            command.add_argument("report", help="the printed report, which has the statuses and the oxygen at the heads")
         command.add_argument("series", nargs="*", type=int, metavar="N", help="series lengths, 40 and 41 if none is given")
     checking.add_argument("--full", action="store_true", help="work out every instant exactly")
-    checking_mean.add_argument("--report", help="the printed report, which has the oxygen at the heads")
     for name, text in (("expect", "the refusal, or the exact figures"), ("expect-mean", "the refusal, or the exact means"),
                        ("show", "the rate factors and cards, or the refusal")):
         commands.add_parser(name, help=text).add_argument("file")
@@ -894,7 +960,7 @@ def given_verdict(given, file):
     printed, series = sys.stdin.buffer.read(), given.series or SERIES
     if given.command == "check":
         return check(file, printed, series, given.full)
-    return check_means(file, printed, series, None if given.report is None else content(given.report))
+    return check_means(file, printed, content(given.report), series)
 
 
 def main():

@@ -1,28 +1,29 @@
 #!/usr/bin/env python3
 """Tests of the reference itself: tests/reference_test.py
 
-The table of records and the bench values of docs/RIVER-FILE.md; the bounds on oxygen against exact figures; right reports and means are found right, and
-many with one thing wrong are found wrong; the program's arithmetic (recipe.py) gives the stored reports and means of the examples and keeps the promised
-distance; the generated files hold every kind. It needs no program. The exit status is 1 where something fails.
+The tables of records and the bench values of docs/RIVER-FILE.md; the bounds on oxygen against exact figures; right reports and means are found right, and
+many with one thing wrong are found wrong, by wrong rules for the status too; the program's arithmetic (recipe.py) gives the stored reports and means of the
+examples and keeps the promised distance; the generated files hold every kind. It needs no program. The exit status is 1 where something fails.
 """
 
 import glob
 import math
 import os
 import random
+import re
 import sys
 from fractions import Fraction
 
 import generate
 import recipe
 import reference
-from reference import (AS_GIVEN, BITS, INSTANTS, SERIES, STANDARD_PRESSURE, Ammonia, Card, Dam, Factors, Point, Pressure, Reach, Record, Refused, River,
-                       Sludge, Take, in_force)
+from reference import (AS_GIVEN, BELOW_ZERO, BITS, INSTANTS, NO_OXYGEN, ORDINARY, SERIES, STANDARD_PRESSURE, USED_UP_ABOVE, Ammonia, Card, Dam, Factors, Point,
+                       Pressure, Reach, Record, Refused, River, Sludge, Take, in_force)
 from testing import expect, run_tests
 
 ROOT = os.path.dirname(os.path.dirname(os.path.abspath(__file__)))
 WORKED = [Card(2, 20, 0, 0, 1_000, 3_000, 2_000, 8_000, 0), Card(0, 20, 0, 0, 1_000, 1_000, 30_000, 2_000, 0)]
-WORKED_LINES = b"1 1 3000 2000000 2000000 8000000 0 8000000 8000000\n2 2 4000 9000000 9000000 6500000 0 6500000 6500000\n"
+WORKED_LINES = b"1 1 3000 2000000 2000000 8000000 0 8000000 8000000 0\n2 2 4000 9000000 9000000 6500000 0 6500000 6500000 0\n"
 
 
 def answer_line(file):
@@ -33,7 +34,11 @@ def answer_line(file):
 
 def mean_line(file, room=None):
     """The same of the call that gives the means, with a buffer of so many bytes or a long one."""
-    due = reference.answer(reference.accept_mean, file, room)
+    def called():
+        reaches = reference.accept_mean(file, room)
+        reference.check_volume(reaches, recipe.records_of(reaches))
+
+    due = reference.answer(called)
     return due.line() if isinstance(due, Refused) else "accepted"
 
 
@@ -42,7 +47,8 @@ def is_right(file, printed, series=SERIES):
 
 
 def means_are_right(file, printed, report=None):
-    return not reference.check_means(file, printed, report=report).wrong
+    """Beside this report, or the one that the recipe gives."""
+    return not reference.check_means(file, printed, recipe.report(file).encode() if report is None else report).wrong
 
 
 # ---- The paper
@@ -74,13 +80,27 @@ def our_fields(kinds):
             yield kind.mark.decode(), at, kind.zeros, "zeros", 0, 0
 
 
+def report_fields(text, mark):
+    """The names of the fields of a report's record in the paper, as the reference has them. Their offsets, and the size of the record, add up."""
+    size, = map(int, re.findall(rf"^\| at \| bytes \| field of `{mark}`, ([0-9]+) bytes \|", text, re.MULTILINE))
+    rows, end = table(text, f"at | bytes | field of `{mark}`, {size} bytes"), 0
+    for at, width, name, _ in rows:
+        expect(f"where {name} stands", int(at), end)
+        end += int(width)
+    expect(f"bytes of {mark}", end, size)
+    names = [name.replace(" ", "_").replace("nitrogenous_BOD", "nitrogenous").replace("BOD", "bod") for _, _, name, _ in rows]
+    return size, tuple({"critical_instant": "instant", "critical_oxygen": "critical"}.get(name, name) for name in names)
+
+
 def paper_agrees():
-    """The tables of records and fields in the paper are those of the reference."""
+    """The tables of records and fields in the paper, and of those of a report, are those of the reference."""
     with open(os.path.join(ROOT, "docs", "RIVER-FILE.md"), encoding="utf-8") as file:
         text = file.read()
     kinds = (reference.HEADER, reference.FACTORS, reference.REACH) + reference.AFTER_REACH
     expect("records", [(row[0], int(row[1])) for row in table(text, "mark")], [(kind.mark.decode(), kind.size) for kind in kinds])
     expect("fields", list(paper_fields(table(text, "record"))), list(our_fields(kinds)))
+    expect("a report's record", report_fields(text, "RP"), (30, ("mark",) + Record._fields[:-2]))
+    expect("the one after it", report_fields(text, "RN"), (10, ("mark",) + Record._fields[-2:]))
     expect("the longest file", f"{reference.LONGEST:,} bytes" in text and f"at most {reference.LONGEST + 1:,} bytes" in text, True)
     return "tables of the paper"
 
@@ -123,8 +143,8 @@ def takes():
 
     first, second = WORKED_LINES.splitlines(keepends=True)
     for what, file, lines in (
-            ("a take of 1,000 at reach 1", worked(1_000, None), b"1 1 2000 2000000 2000000 8000000 0 8000000 8000000\n2 2 3000 11333333 11333333 6000000 0 6000000 6000000\n"),
-            ("a take of 1,000 at reach 2", worked(None, 1_000), first + b"2 2 3000 9000000 9000000 6500000 0 6500000 6500000\n"),
+            ("a take of 1,000 at reach 1", worked(1_000, None), b"1 1 2000 2000000 2000000 8000000 0 8000000 8000000 0\n2 2 3000 11333333 11333333 6000000 0 6000000 6000000 0\n"),
+            ("a take of 1,000 at reach 2", worked(None, 1_000), first + b"2 2 3000 9000000 9000000 6500000 0 6500000 6500000 0\n"),
             ("takes of 0", worked(0, 0), first + second)):
         expect(what, is_right(file, lines), True)
     one = Card(0, 20, 1_000, 0, 3_456_000, 10_000, 0, 0, 0)
@@ -208,8 +228,8 @@ def beds():
 
     first, second = WORKED_LINES.splitlines(keepends=True)
     for what, file, lines in (
-            ("a bed of 34,560 at reach 2", worked(None, 34_560), first + b"2 2 4000 9000000 9000000 6500000 1024 6400000 6400000\n"),
-            ("a bed of 25,920 at reach 1", worked(25_920, None), b"1 1 3000 2000000 2000000 8000000 1024 7900000 7900000\n2 2 4000 9000000 9000000 6425000 0 6425000 6425000\n"),
+            ("a bed of 34,560 at reach 2", worked(None, 34_560), first + b"2 2 4000 9000000 9000000 6500000 1024 6400000 6400000 0\n"),
+            ("a bed of 25,920 at reach 1", worked(25_920, None), b"1 1 3000 2000000 2000000 8000000 1024 7900000 7900000 0\n2 2 4000 9000000 9000000 6425000 0 6425000 6425000 0\n"),
             ("beds of 0", worked(0, 0), first + second)):
         expect(what, (is_right(file, lines), recipe.report(file).encode()), (True, lines))
     expect("no bed and a bed of 0", worked(None, None) != worked(0, None) != worked(0, 0), True)
@@ -378,9 +398,9 @@ def corrected_reports():
     vanishing = River([few], Factors(1_100, 1_100))
     reach, = reference.flows(vanishing)
     expect("rates that come to 0", (reach.rates(), reach.keeps_oxygen(), reach.keeps(reach.bod)), ((0, 0, 0), True, True))
-    expect("keep all figures", recipe.report(reference.encode(vanishing)), "1 1 3000 2000000 2000000 8000000 0 8000000 8000000\n")
+    expect("keep all figures", recipe.report(reference.encode(vanishing)), "1 1 3000 2000000 2000000 8000000 0 8000000 8000000 0\n")
     bed = few._replace(sludge=Sludge(25_920))
-    expect("and a bed goes by them", recipe.report(reference.encode(River([bed], Factors(1_100, 1_100)))), "1 1 3000 2000000 2000000 8000000 1024 7900000 7900000\n")
+    expect("and a bed goes by them", recipe.report(reference.encode(River([bed], Factors(1_100, 1_100)))), "1 1 3000 2000000 2000000 8000000 1024 7900000 7900000 0\n")
     return "reports by rates in force"
 
 
@@ -416,6 +436,41 @@ def factor_records():
             ("after the count", written(River([], Factors(999, 1_000))), "refused 3 reach 0")):
         expect(what, found, due)
     return "records of rate factors"
+
+
+def one_bed(volume, **fields):
+    """A reach of 10,000 litres a second and 1 mg/L of oxygen over a bed that takes one unit of it for each cubic metre."""
+    return Card(0, 20, 0, 0, volume, 10_000, 0, 1_000, 0, sludge=Sludge(864))._replace(**fields)
+
+
+# Reach 1 uses up its oxygen, by two units. A reach lies below it, a brook beside that, and the last below both.
+USED_UP = [one_bed(1_000_002, outlet=2), Card(4, 20, 0, 0, 1_000, 10_000, 2_000, 9_000, 0), Card(4, 20, 0, 0, 500_001, 5_000, 0, 8_000, 0),
+           Card(0, 20, 0, 0, 1_000, 0, 0, 0, 0)]
+USED_UP_LINES = (b"1 1 10000 0 0 1000000 1024 -2 -2 1\n2 2 20000 1000000 1000000 0 0 0 0 2\n"
+                 b"3 1 5000 0 0 8000000 0 8000000 8000000 0\n4 3 25000 800000 800000 0 0 0 0 2\n")
+USED_UP_MEANS = b"1 499999\n2 0\n3 8000000\n4 0\nriver 2999999 500001\n"
+
+
+def status_bench():
+    """The bench values of the paper on the status: what they are, the river and its report."""
+    for volume, end in ((1_000_000, b"0 0 0"), (1_000_001, b"-1 -1 1")):
+        yield f"a bed in {volume} cubic metres", River([one_bed(volume)]), b"1 1 10000 0 0 1000000 1024 " + end + b"\n"
+    yield "oxygen used up", River(USED_UP), USED_UP_LINES
+    ends = (b" 0 0", b" 0 0", b" 4000000 4000000", b" 800000 800000")
+    yield ("oxygen used up beside ammonia", River(USED_UP[:2] + [USED_UP[2]._replace(ammonia=Ammonia(0, 4_000, 0)), USED_UP[3]]),
+           b"".join(line + end + b"\n" for line, end in zip(USED_UP_LINES.splitlines(), ends)))
+
+
+def statuses():
+    """The bench values of the paper on the status."""
+    for what, river, lines in status_bench():
+        file = reference.encode(river)
+        expect(what, (is_right(file, lines), recipe.report(file).encode()), (True, lines))
+    file = reference.encode(River(USED_UP))
+    expect("means of oxygen used up", (means_are_right(file, USED_UP_MEANS), recipe.means(file).encode()), (True, USED_UP_MEANS))
+    above = [sorted(reach.number for reach in one.above) for one in reference.flows(River(USED_UP))]
+    expect("the reaches above", above, [[], [1], [], [1, 2, 3]])
+    return "statuses"
 
 
 def worked_volumes(first, second, **fields):
@@ -554,16 +609,21 @@ def right_values(reach, start):
     return [start[1]] + [start[1] if reach.keeps_oxygen() else value >> BITS for value in values[1:]]
 
 
-def right_report(reaches):
-    """A report without any error but rounding, for these reaches."""
+def carried_on(reaches):
+    """The records of these reaches without any error but rounding, with oxygen carried on, whatever the status."""
     records = []
     for reach in reaches:
         bod, oxygen, nitrogenous = start = reference.head_over(reach, records)
         (S1, _, _), (Sn, _, _) = (reference.demand_factors(reach, demand.rate, INSTANTS, 60) for demand in reach.demands)
         values = right_values(reach, start)
         records.append(Record(reach.depth, reach.Q, bod, math.floor(bod * S1), oxygen, values.index(min(values)), min(values), values[-1],
-                              nitrogenous, math.floor(nitrogenous * Sn)))
+                              head_nitrogenous=nitrogenous, foot_nitrogenous=math.floor(nitrogenous * Sn)))
     return records
+
+
+def right_report(reaches):
+    """A report without any error but rounding."""
+    return reference.reported(reaches, carried_on(reaches))
 
 
 def text(reaches, records):
@@ -598,6 +658,7 @@ def wrong_records(rng, reaches, records):
                ("head oxygen", {"head_oxygen": record.head_oxygen - 1}), ("foot BOD above the head's", {"foot_bod": record.head_bod + 1}),
                ("foot oxygen far off", {"foot_oxygen": record.foot_oxygen + far}), ("critical oxygen above the head's", {"critical": record.head_oxygen + 1}),
                ("critical oxygen too low", {"critical": record.critical - far}), ("an instant past the foot", {"instant": INSTANTS + 1})]
+    changes += [(f"status {status}", {"status": status}) for status in range(4) if status != record.status]
     if record.foot_bod >= far:
         changes.append(("foot BOD far off", {"foot_bod": record.foot_bod - far}))
     if record.critical + far <= min(record.head_oxygen, record.foot_oxygen):
@@ -616,13 +677,18 @@ def wrong_records(rng, reaches, records):
         yield what, records[:reach.number - 1] + [record._replace(**fields)] + records[reach.number:]
 
 
+def without_status(printed):
+    """A report as it was before there was a status."""
+    return b"".join(b" ".join(words[:9] + words[10:]) + b"\n" for words in (line.split() for line in printed.splitlines()))
+
+
 def malformed(printed, ammonia):
-    """Texts that are no report, among them one that has nitrogenous BOD where the file has no ammonia, or lacks it where it has."""
+    """Texts that are no report, among them one that has nitrogenous BOD where the file has no ammonia, or lacks it where it has, and one without a status."""
     lines = printed.splitlines(keepends=True)
     other = b"".join((line.rsplit(b" ", 2)[0] if ammonia else line[:-1] + b" 0 0") + b"\n" for line in lines)
-    return [other, b"", b"\n", printed[:-1], printed + b"\n", lines[0] + printed, b"".join(lines[:-1]), b" " + printed, b"0" + printed, printed.replace(b" ", b"  ", 1),
-            printed.replace(b"\n", b" \n", 1), printed.replace(b"\n", b" 0\n", 1), printed.replace(b"\n", b"\r\n"), b"refused 7 reach 1\n", b"accepted\n",
-            printed.replace(b"1", b"\xc2\xb9", 1)]
+    return [other, without_status(printed), b"", b"\n", printed[:-1], printed + b"\n", lines[0] + printed, b"".join(lines[:-1]), b" " + printed, b"0" + printed,
+            printed.replace(b" ", b"  ", 1), printed.replace(b"\n", b" \n", 1), printed.replace(b"\n", b" 0\n", 1), printed.replace(b"\n", b"\r\n"),
+            b"refused 7 reach 1\n", b"accepted\n", printed.replace(b"1", b"\xc2\xb9", 1)]
 
 
 def verdicts():
@@ -649,10 +715,17 @@ def verdicts():
 
 # ---- Right and wrong means
 
-def right_means(reaches, records):
-    """Means without any error but rounding, over the heads of a report."""
-    points = [reference.through(reference.mean_along(reach, 60), Point(1, reference.head_over(reach, records))) for reach in reaches]
+def carried_means(reaches, carried):
+    """Means without any error but rounding, over heads with oxygen carried on, whatever the status."""
+    points = [reference.through(reference.mean_along(reach, 60), Point(1, reference.head_over(reach, carried))) for reach in reaches]
     return [point.figures[0] // point.over for point in points]
+
+
+def right_means(reaches):
+    """Means without any error but rounding, and the records of the report beside them."""
+    carried = carried_on(reaches)
+    records = reference.reported(reaches, carried)
+    return reference.reported_means(carried_means(reaches, carried), records), records
 
 
 def means_and_river(means, units, remainder):
@@ -660,8 +733,8 @@ def means_and_river(means, units, remainder):
     return ("".join(f"{reach} {mean}\n" for reach, mean in enumerate(means, 1)) + f"river {units} {remainder}\n").encode()
 
 
-def means_text(reaches, means):
-    return reference.means_text(reaches, means).encode()
+def means_text(reaches, means, records):
+    return reference.means_text(reaches, means, records).encode()
 
 
 def towards_zero(total, volume):
@@ -670,25 +743,30 @@ def towards_zero(total, volume):
     return (-size if total < 0 else size), left
 
 
-def wrong_rivers(reaches, means):
+def volume_of_all(reaches):
+    return sum(reach.card.volume for reach in reaches)
+
+
+def wrong_rivers(reaches, means, records):
     """Printed means with another mean of the river than follows from them."""
-    (units, remainder), volume, count = reference.river_mean(reaches, means), reference.total_volume(reaches), len(means)
+    (units, remainder), volume, count = reference.river_mean(reaches, means, records), sum(reference.weights(reaches, records)), len(means)
     others = [("units", (units + 1, remainder)), ("a remainder", (units, remainder + 1)), ("a remainder of the total volume", (units - 1, remainder + volume)),
               ("a remainder below zero", (units + 1, remainder - volume)), ("the unweighted mean", (sum(means) // count, sum(means) % count)),
-              ("a mean rounded towards zero", towards_zero(units * volume + remainder, volume))]
+              ("a mean rounded towards zero", towards_zero(units * volume + remainder, volume)),
+              ("a mean over the volume of all", divmod(units * volume + remainder, volume_of_all(reaches)))]
     return [(what, means_and_river(means, *river)) for what, river in others if river != (units, remainder)]
 
 
-def wrong_means(rng, reaches, means):
+def wrong_means(rng, reaches, means, records):
     """Printed means with one thing wrong, each with what that is."""
     reach = rng.choice(reaches)
     far = 2 * reach.allowance + 50
 
     def moved(by):
-        return means_text(reaches, [mean + by * (number == reach.number) for number, mean in enumerate(means, 1)])
+        return means_text(reaches, [mean + by * (number == reach.number) for number, mean in enumerate(means, 1)], records)
 
-    found = wrong_rivers(reaches, means) + [("a mean too high", moved(far)), ("a mean too low", moved(-far))]
-    return found + ([("a mean that moves", moved(1))] if reach.keeps_oxygen() else [])
+    found = wrong_rivers(reaches, means, records) + [("a mean too high", moved(far)), ("a mean too low", moved(-far))]
+    return found + ([("a mean that moves", moved(1))] if reach.keeps_oxygen() or records[reach.number - 1].status == USED_UP_ABOVE else [])
 
 
 def malformed_means(printed):
@@ -703,15 +781,16 @@ def mean_verdicts():
     """Right means are found right and wrong ones wrong, for rivers of every style that have volume; means are wrong for the others."""
     rng, found = random.Random(7), 0
     for style, river, reaches in drawn_rivers(rng, len(generate.STYLES)):
-        file, records = reference.encode(river), right_report(reaches)
-        report, means = text(reaches, records), right_means(reaches, records)
-        if not reference.total_volume(reaches):
+        file, (means, records) = reference.encode(river), right_means(reaches)
+        report = text(reaches, records)
+        if not volume_of_all(reaches):
             wrong = [(str(river), means_and_river(means, *river)) for river in ((0, 0), (means[-1], 0), (sum(means) // len(means), 0))]
             expect(f"{style}: 16", means_are_right(file, b"refused 16 reach 0\n", report), True)
         else:
-            wrong = wrong_means(rng, reaches, means) + [(other[:60], other) for other in malformed_means(means_text(reaches, means))]
-            expect(f"{style}: right means", reference.check_means(file, means_text(reaches, means), report=report).wrong, [])
-            expect(f"{style}: right means without the report", means_are_right(file, means_text(reaches, means)), True)
+            printed = means_text(reaches, means, records)
+            wrong = wrong_means(rng, reaches, means, records) + [(other[:60], other) for other in malformed_means(printed)]
+            expect(f"{style}: right means", reference.check_means(file, printed, report).wrong, [])
+            expect(f"{style}: right means beside no report", [means_are_right(file, printed, other) for other in (b"", b"refused 7 reach 1\n", report[:-1])], [False] * 3)
         for what, other in wrong:
             expect(f"{style}: {what} is found", means_are_right(file, other, report), False)
             found += 1
@@ -726,21 +805,42 @@ def means_by_other_rules():
             ("the mean of head and foot", EQUAL_RATES, lambda values: (values[0] + values[-1]) // 2), ("the value half way", EQUAL_RATES, lambda values: values[512]),
             ("a trapezoid", long, lambda values: (sum(values[:-1]) + sum(values[1:])) // (2 * INSTANTS)), ("no oxygen below zero", long, lambda values: 0)):
         reaches = reference.flows(River([card]))
-        values, file = right_values(reaches[0], reference.head_over(reaches[0], [])), reference.encode(River([card]))
-        expect(f"{what} is found", means_are_right(file, means_text(reaches, [rule(values)])), False)
-        expect(f"{what} is not due", means_are_right(file, means_text(reaches, right_means(reaches, []))), True)
+        values, file, (means, records) = right_values(reaches[0], reference.head_over(reaches[0], [])), reference.encode(River([card])), right_means(reaches)
+        expect(f"{what} is found", means_are_right(file, means_text(reaches, [rule(values)], records)), False)
+        expect(f"{what} is not due", means_are_right(file, means_text(reaches, means, records)), True)
     still = reference.flows(River([EQUAL_RATES._replace(volume=0, inflow_oxygen=9_000, outlet=2), WORKED[1]._replace(volume=5)]))
-    file, means = reference.encode(River([reach.card for reach in still])), right_means(still, right_report(still))
+    file, (means, records) = reference.encode(River([reach.card for reach in still])), right_means(still)
     for what, other in (("0 in a reach without volume", 0), ("its saturation", 14_652_000), ("a unit more", means[0] + 1)):
-        expect(f"{what} is found", means_are_right(file, means_text(still, [other, means[1]])), False)
-    foul = River([Card(2, 20, 1_000, 0, 700_000, 10_000, 40_000, 0, 0), Card(0, 20, 1_000, 0, 300_001, 0, 0, 0, 0)])
+        expect(f"{what} is found", means_are_right(file, means_text(still, [other, means[1]], records)), False)
+    foul = River([Card(3, 20, 1_000, 0, 700_000, 10_000, 40_000, 0, 0), Card(3, 20, 1_000, 0, 300_001, 10_000, 40_000, 0, 0), Card(0, 20, 0, 0, 9, 0, 0, 0, 0)])
     reaches = reference.flows(foul)
-    means = right_means(reaches, right_report(reaches))
-    (units, remainder), volume = reference.river_mean(reaches, means), reference.total_volume(reaches)
+    means, records = right_means(reaches)
+    (units, remainder), volume = reference.river_mean(reaches, means, records), sum(reference.weights(reaches, records))
     for what, river, verdict in (("rounded down", (units, remainder), True), ("rounded towards zero", towards_zero(units * volume + remainder, volume), False),
                                  ("not weighted", (sum(means) // 2, sum(means) % 2), False), ("weighted by flow", divmod(sum(means) * 10_000, 20_000), False)):
         expect(f"a mean below zero that is {what}", means_are_right(reference.encode(foul), means_and_river(means, *river)), verdict)
     return "means by other rules"
+
+
+def means_at_status_2():
+    """Means that a program would print which goes on at status 2 are found, each for its reason."""
+    file, reaches = reference.encode(River(USED_UP)), reference.flows(River(USED_UP))
+    means, records = right_means(reaches)
+    report, carried = text(reaches, records), carried_means(reaches, carried_on(reaches))
+    total, all_volume = sum(reach.card.volume * mean for reach, mean in zip(reaches, means)), volume_of_all(reaches)
+    whole = sum(reach.card.volume * mean for reach, mean in zip(reaches, carried))
+    due = "the river's mean is {} units and {}, due are 2999999 and 500001"
+    for what, printed, reasons in (
+            ("right means", means_text(reaches, means, records), []),
+            ("the volume of status 2", means_and_river(means, *divmod(total, all_volume)), [due.format(*divmod(total, all_volume))]),
+            ("the mean of reach 2 carried on", means_text(reaches, [means[0], carried[1], *means[2:]], records), ["reach 2: mean oxygen is 4499999, due is 0 at status 2"]),
+            ("all carried on", means_and_river(carried, *divmod(whole, all_volume)),
+             [f"reach {reach}: mean oxygen is {carried[reach - 1]}, due is 0 at status 2" for reach in (2, 4)] + [due.format(*divmod(whole, all_volume))]),
+            ("reach 1 left out too", means_and_river(means, 8_000_000, 0), [due.format(8_000_000, 0)]), ("16", b"refused 16 reach 0\n", ["'refused 16 reach 0' is printed, due is 'accepted'"])):
+        expect(what, reference.check_means(file, printed, report, SERIES[:1]).wrong, reasons)
+    none = [reference.Record(*record[:8], USED_UP_ABOVE) for record in records]
+    expect("check 16 goes by the statuses of the report", means_are_right(file, b"refused 16 reach 0\n", text(reaches, none)), True)
+    return "means at status 2"
 
 
 def mean_limits():
@@ -748,9 +848,7 @@ def mean_limits():
     file = worked_volumes(1_000, 1_000, sludge=Sludge(34_560))
     reaches = reference.accept(file)
     for off, verdict in ((300, True), (301, False), (-300, True), (-301, False)):
-        expect(f"a mean that is off by {off} units at depth 2", means_are_right(file, means_text(reaches, [8_000_000, 6_450_000 + off])), verdict)
-    expect("head oxygen that follows from the file", reference.head_oxygen(reference.flows(River(WORKED))), {1: 8_000_000, 2: 6_500_000})
-    expect("and where a bed lies above", reference.head_oxygen(reference.flows(River([WORKED[0]._replace(sludge=Sludge(9)), WORKED[1]]))), {1: 8_000_000})
+        expect(f"a mean that is off by {off} units at depth 2", means_are_right(file, means_text(reaches, [8_000_000, 6_450_000 + off], right_report(reaches))), verdict)
     return "means on the allowance"
 
 
@@ -780,6 +878,96 @@ def exact_limits():
     return "errors on the allowance"
 
 
+def wrong_at_distance(reaches, records):
+    """What the promised distance finds wrong, at one series length."""
+    judged = reference.Verdict("accepted")
+    reference.distances(reaches, records, SERIES[0], False, judged)
+    return judged.wrong
+
+
+def limits_at_status_2():
+    """At status 2 the errors of both BODs, added, have the whole allowance, and oxygen has no part in it."""
+    for cards, errors in ((USED_UP, ((300, 0), (-300, 0))),
+                          (USED_UP[:2] + [USED_UP[2]._replace(ammonia=Ammonia(0, 4_000, 0)), USED_UP[3]], ((600, 0), (0, -600), (200, 400), (-1, 599)))):
+        reaches = reference.flows(River(cards))
+        records, reach = right_report(reaches), 4 if has_ammonia(reference.flows(River(cards))) else 2
+        record = records[reach - 1]
+        for place in ("head", "foot"):
+            for bod, nitrogenous in errors:
+                for more, verdict in ((0, 0), (1 if bod > 0 else -1, 1)):
+                    changed = record._replace(**{f"{place}_bod": record.head_bod + bod + more * (bod != 0),
+                                                 f"{place}_nitrogenous": record.head_nitrogenous + nitrogenous + more * (bod == 0)})
+                    wrong = wrong_at_distance(reaches, records[:reach - 1] + [changed] + records[reach:])
+                    expect(f"errors of {bod} and {nitrogenous} units and {abs(more)} more at the {place} of reach {reach}", len(wrong), verdict)
+        for status in (ORDINARY, BELOW_ZERO):
+            wrong = wrong_at_distance(reaches, records[:reach - 1] + [record._replace(status=status)] + records[reach:])
+            expect(f"no oxygen at status {status}", "the head is off by" in wrong[0], True)
+    return "errors at status 2"
+
+
+# A reach that uses up its oxygen, one below a dam that restores it, a clean brook, a reach below both that uses up its own, and the last below that.
+STATUS_RIVER = River([Card(2, 22, 400, 300, 1_500_000, 5_000, 3_000, 8_000, 250_000), Card(4, 10, 400, 300, 400_000, 0, 0, 0, 0, dam=Dam(1_000, 0)),
+                      Card(4, 18, 200, 800, 100_000, 2_000, 1_000, 9_200, 0), Card(5, 22, 900, 300, 1_500_000, 1_000, 1_000, 8_000, 200_000),
+                      Card(0, 22, 400, 9_000, 200_000, 4_000, 0, 9_000, 0)])
+
+
+def with_statuses(carried, rule):
+    """The records that a program would report which has another rule for the status: it is given the record and the statuses of its feeders."""
+    reaches, records = reference.flows(STATUS_RIVER), []
+    for reach, record in zip(reaches, carried):
+        status = rule(record, [records[feeder.number - 1].status for feeder in reach.feeders])
+        records.append(record._replace(status=status, **(NO_OXYGEN if status == USED_UP_ABOVE else {})))
+    return records
+
+
+def statuses_by_other_rules():
+    """Reports that a program with another rule for the status would print are found, each for its reason."""
+    reaches, file = reference.flows(STATUS_RIVER), reference.encode(STATUS_RIVER)
+    carried, records = carried_on(reaches), right_report(reaches)
+    expect("statuses", ([record.status for record in records], [record.critical < 0 for record in carried]), ([1, 2, 0, 2, 2], [True, False, False, True, True]))
+    for what, rule, reason in (
+            ("the nearest feeder alone", lambda record, above: 2 if 1 in above else int(record.critical < 0), "reach 4: status is 1, due is 2"),
+            ("1 before 2", lambda record, above: 1 if record.critical < 0 else 2 if any(above) else 0, "reach 4: status is 1, due is 2"),
+            ("all feeders but the first", lambda record, above: 2 if any(above[1:]) else int(record.critical < 0), "reach 2: status is 0, due is 2"),
+            ("all feeders", lambda record, above: 2 if above and all(above) else int(record.critical < 0), "reach 4: status is 1, due is 2"),
+            ("oxygen below zero alone", lambda record, above: int(record.critical < 0), "reach 2: status is 0, due is 2"),
+            ("every reach after", lambda record, above: 2 if record is not carried[0] else 1, "reach 3: status is 2, due is 0"),
+            ("no status", lambda record, above: 0, "reach 1: status is 0, due is 1")):
+        expect(f"by {what}", reference.check(file, text(reaches, with_statuses(carried, rule)), SERIES[:1]).wrong[:1], [reason])
+    shown = [record._replace(status=due.status) for record, due in zip(carried, records)]
+    names = ", due is 0; ".join(f"reach 2: {name} is {getattr(carried[1], name)}" for name in NO_OXYGEN if getattr(carried[1], name))
+    wrong = reference.check(file, text(reaches, shown), SERIES[:1]).wrong
+    expect("oxygen left at status 2", "; ".join(part for part in wrong if part.startswith("reach 2")), names + ", due is 0")
+    expect("and nothing else", {part.split(":")[0] for part in wrong}, {"reach 2", "reach 4", "reach 5"})
+    return "statuses by other rules"
+
+
+def statuses_one_at_a_time():
+    """One figure of the status river is wrong, or zero is taken for below zero, and the verdict has this reason alone."""
+    reaches, file = reference.flows(STATUS_RIVER), reference.encode(STATUS_RIVER)
+    records = right_report(reaches)
+    for reach, fields, reason in (
+            (1, {"status": 2}, "reach 1: status is 2, due is 1"), (3, {"status": 1}, "reach 3: status is 1, due is 0"), (4, {"status": 1}, "reach 4: status is 1, due is 2"),
+            (5, {"status": 0}, "reach 5: status is 0, due is 2"), (5, {"status": 3}, "reach 5: status is 3, due is 2"), (2, {"instant": 1}, "reach 2: instant is 1, due is 0"),
+            (2, {"foot_oxygen": -1}, "reach 2: foot_oxygen is -1, due is 0"), (5, {"critical": -5}, "reach 5: critical is -5, due is 0"),
+            (4, {"head_oxygen": 7}, "reach 4: head_oxygen is 7, due is 0"), (4, {"head_bod": 7}, "reach 4: head_bod is 7, due is "),
+            (5, {"foot_bod": records[4].foot_bod - 405}, "reach 5: the foot is off by 40")):
+        changed = records[:reach - 1] + [records[reach - 1]._replace(**fields)] + records[reach:]
+        wrong = reference.check(file, text(reaches, changed), SERIES[:1]).wrong
+        expect(f"{fields} in reach {reach}", wrong[0][:len(reason)], reason)
+    for volume, status in ((1_000_000, BELOW_ZERO), (1_000_001, ORDINARY)):
+        river = River([one_bed(volume)])
+        record, = right_report(reference.flows(river))
+        wrong = reference.check(reference.encode(river), text(reference.flows(river), [record._replace(status=status)])).wrong
+        expect(f"status {status} at critical oxygen {record.critical}", wrong, [f"reach 1: status is {status}, due is {1 - status}"])
+    exact = one_bed(1_000_001)
+    printed = b"1 1 10000 0 0 1000000 1024 {0} {0} {1}\n"
+    for critical, status, verdict in ((0, 0, True), (0, 1, False), (7, 0, True), (-1, 1, True), (-9, 1, True), (-9, 0, False)):
+        line = printed.replace(b"{0}", str(critical).encode()).replace(b"{1}", str(status).encode())
+        expect(f"the reported critical oxygen {critical} counts, not the exact one, status {status}", is_right(reference.encode(River([exact])), line), verdict)
+    return "statuses one at a time"
+
+
 def same_at_both_speeds():
     """--full gives the same verdict."""
     rng = random.Random(4)
@@ -806,9 +994,11 @@ def recipe_of_styles():
     """The recipe's reports and means are found right, for rivers of every style."""
     rng, worst = random.Random(6), [0, 0]
     for style, river, reaches in drawn_rivers(rng, len(generate.STYLES)):
-        file, report = reference.encode(river), text(reaches, recipe.records_of(reaches))
-        verdicts = reference.check(file, report), reference.check_means(file, recipe.means(file).encode(), report=report)
+        file, records = reference.encode(river), recipe.records_of(reaches)
+        report = text(reaches, records)
+        verdicts = reference.check(file, report), reference.check_means(file, recipe.means(file).encode(), report)
         expect(f"{style}: the recipe", [verdict.wrong for verdict in verdicts], [[], []])
+        expect(f"{style}: where there is volume, there is some of status 0 or 1", sum(reference.weights(reaches, records)) > 0, volume_of_all(reaches) > 0)
         worst = [max(most, verdict.worst) for most, verdict in zip(worst, verdicts)]
     return "recipe within {} of its allowance, its means within {}".format(*(f"{most // 1_000}.{most % 1_000:03d}" for most in worst))
 
@@ -838,17 +1028,43 @@ def kinds_for_means():
     expect("no volume in several", (len(volumes["no volume in several reaches"]) > 1, sum(volumes["no volume in several reaches"])), (True, 0))
     expect("volume in one reach", (volumes["volume in one reach"][-1] > 0, sum(volumes["volume in one reach"][:-1])), (True, 0))
     expect("largest volumes", {*volumes["largest volumes"], *volumes["lowest means"]}, {generate.MOST_VOLUME})
-    means = recipe.means_of(drawn["lowest means"])
-    expect("a sum of more than eight bytes", sum(means) * generate.MOST_VOLUME < -2 ** 63, True)
-    units, remainder = reference.river_mean(drawn["mean below zero"], recipe.means_of(drawn["mean below zero"]))
+    expect("all of them count", {record.status for record in recipe.records_of(drawn["largest volumes"])}, {ORDINARY})
+    records, means = recipe.profiles_of(drawn["lowest means"])
+    expect("all but the last count", [record.status for record in records], [BELOW_ZERO] * 127 + [USED_UP_ABOVE])
+    expect("a sum of more than eight bytes", -2 ** 67 < sum(means) * generate.MOST_VOLUME < -2 ** 66, True)
+    records, means = recipe.profiles_of(drawn["mean below zero"])
+    units, remainder = reference.river_mean(drawn["mean below zero"], means, records)
     expect("a mean below zero with a remainder", (units < 0, remainder > 0), (True, True))
     return f"{len(drawn)} kinds for means"
 
 
+# The statuses of the kinds of generated files in which oxygen is used up.
+KIND_STATUSES = {"down a chain": [1, 2, 2, 2], "above reaches of any kind": [1, 2, 2, 2, 2], "beside clean brooks": [1, 2, 0, 2, 0, 2], "in a brook": [0, 0, 1, 2, 2],
+                 "in two branches": [1, 1, 0, 2, 2], "below a clean reach": [0, 1, 2, 2], "and restored": [1, 2, 2, 2], "twice": [1, 2, 2, 2],
+                 "by ammonia": [1, 2, 0, 2, 2], "at the last reach": [0, 0, 1]}
+
+
+def kinds_for_status():
+    """Kinds of generated files that the status needs: status 1 and 2, a side branch that stays 0, with ammonia, and critical oxygen near zero, both ways."""
+    rng, kinds, near = random.Random(9), generate.accepted_kinds(), {}
+    for name, due in KIND_STATUSES.items():
+        for _ in range(2):
+            reaches = reference.accept(kinds[f"used up {name}"](rng))
+            expect(f"used up {name}", [record.status for record in recipe.records_of(reaches)], due)
+    for name in ("near zero by a bed", "near zero by decay"):
+        firsts = [recipe.records_of(reference.accept(kinds[name](rng)))[0] for _ in range(12)]
+        expect(f"{name}: within some units", max(abs(record.critical) for record in firsts) <= 9, True)
+        near[name] = {record.status for record in firsts}
+    expect("statuses near zero", near, {name: {ORDINARY, BELOW_ZERO} for name in near})
+    records = [record for _ in range(3) for record in recipe.records_of(reference.accept(kinds["no oxygen"](rng)))]
+    expect("no oxygen", {(record.head_oxygen, record.critical, record.status) for record in records}, {(0, 0, ORDINARY)})
+    return f"{len(KIND_STATUSES) + 3} kinds for the status"
+
+
 TESTS = (paper_agrees, bench_values, takes, saturations, pressures, pressure_records, beds, bed_records, ammonia, nitrification,
-         ammonia_records, rates_in_force, factors, corrected_reports, factor_records, mean_bench, mean_answers, mean_formulas, allowances, exact_values,
-         bounds_hold, exact_limits, verdicts, same_at_both_speeds, mean_verdicts, means_by_other_rules, mean_limits, recipe_of_examples, recipe_of_styles,
-         every_kind, kinds_for_means)
+         ammonia_records, rates_in_force, factors, corrected_reports, factor_records, statuses, mean_bench, mean_answers, mean_formulas, allowances, exact_values,
+         bounds_hold, exact_limits, limits_at_status_2, verdicts, statuses_by_other_rules, statuses_one_at_a_time, same_at_both_speeds, mean_verdicts,
+         means_by_other_rules, means_at_status_2, mean_limits, recipe_of_examples, recipe_of_styles, every_kind, kinds_for_means, kinds_for_status)
 
 
 if __name__ == "__main__":

@@ -14,6 +14,7 @@ import xml.etree.ElementTree
 
 import reference
 from reference import Card, River, Sludge
+from reference_test import USED_UP, USED_UP_MEANS, status_bench
 from testing import expect, run_tests
 
 ROOT = os.path.dirname(os.path.dirname(os.path.realpath(__file__)))
@@ -104,6 +105,9 @@ def reports():
         expect("ammonia of zeros", run(path), (0, contents(TOWN[:-5] + "report").replace(b"\n", b" 0 0\n"), ""))
         path = stored(os.path.join(folder, "ones.river"), contents(TOWN)[:4] + b"TH\3\xe8\3\xe8" + contents(TOWN)[4:])
         expect("rate factors of 1,000", run(path), (0, contents(TOWN[:-5] + "report"), ""))
+        for what, river, due in status_bench():
+            path = stored(os.path.join(folder, "bench.river"), reference.encode(river))
+            expect(what, run(path), (0, due, ""))
     due = contents(TOWN[:-5] + "report")
     expect("a pipe", run("/dev/stdin", given=contents(TOWN)), (0, due, ""))
     expect("another folder", run("town.river", folder=EXAMPLES), (0, due, ""))
@@ -152,11 +156,13 @@ def means():
         path = stored(os.path.join(folder, "no volume.river"), two[:12] + bytes(4) + two[16:38] + bytes(4) + two[42:])
         expect("a report without volume", run(path)[0], 0)
         answer = run("--mean", path)
-        says("means without volume", answer, 1, "no volume.river", "no volume, and so no mean")
+        says("means without volume", answer, 1, "no volume.river", "and so no mean")
         expect("means without volume, printed", answer[1], b"refused 16 reach 0\n")
         for what, river, due in mean_bench():
             path = stored(os.path.join(folder, "bench.river"), reference.encode(river))
             expect(f"means of {what}", run("--mean", path), (0, due.encode(), ""))
+        path = stored(os.path.join(folder, "bench.river"), reference.encode(River(USED_UP)))
+        expect("means of oxygen used up", run("--mean", path), (0, USED_UP_MEANS, ""))
     return f"{len(ACCEPTED)} rivers' means"
 
 
@@ -164,6 +170,8 @@ def tables():
     """A table for each river, and a line for each river of a folder."""
     status, said, complaint = run("--table", "--limit", "5.0", *ACCEPTED)
     expect("tables", (status, said.count(b"lowest oxygen"), complaint), (0, len(ACCEPTED), ""))
+    status, said, _ = run("--table", os.path.join(EXAMPLES, "overload.river"))
+    expect("oxygen used up in a table", (status, b"used up above" in said), (0, True))
     status, said, _ = run("--table", TOWN, os.path.join(EXAMPLES, "refused", "4-too-warm.river"))
     expect("a table and a refusal", (status, b"temperature is 36, not from 0 to 35" in said), (1, True))
     status, said, _ = run("--table", os.path.join(EXAMPLES, "refused", "4-factor.river"))
@@ -175,46 +183,57 @@ def tables():
     return "tables, collections"
 
 
+def drawn(out, what, *words, name, given=None):
+    """The root of a picture that is drawn to a file, which is well-formed and names its river."""
+    expect(what, run("--picture", out, *words, given=given), (0, b"", ""))
+    root = xml.etree.ElementTree.fromstring(contents(out))
+    expect(f"{what}: title", (root.tag, root[0].text), ("{http://www.w3.org/2000/svg}svg", name))
+    os.remove(out)
+    return root
+
+
 def pictures():
-    """A picture of each example, and of a river that comes through a pipe, is well-formed and names its river."""
+    """A picture of each example, and of a river that comes through a pipe."""
     with tempfile.TemporaryDirectory() as folder:
         out = os.path.join(folder, "out & out.svg")
-
-        def drawn(what, *words, name, given=None):
-            expect(what, run("--picture", out, *words, given=given), (0, b"", ""))
-            root = xml.etree.ElementTree.fromstring(contents(out))
-            expect(f"{what}: title", (root.tag, root[0].text), ("{http://www.w3.org/2000/svg}svg", name))
-            os.remove(out)
-            return root
-
         for path in ACCEPTED:
-            drawn(path, path, name=path)
-            drawn(f"{path} with a limit", path, "--limit", "8.4", name=path)
-        drawn("a pipe", "/dev/stdin", given=contents(TOWN), name="/dev/stdin")
+            drawn(out, path, path, name=path)
+            drawn(out, f"{path} with a limit", path, "--limit", "8.4", name=path)
+        drawn(out, "a pipe", "/dev/stdin", given=contents(TOWN), name="/dev/stdin")
         odd = stored(os.path.join(folder, "a<b>&\"c\".river"), contents(TOWN))
-        text = "".join(drawn("an odd name", odd, "--limit", "7.0", name=odd).itertext())
+        text = "".join(drawn(out, "an odd name", odd, "--limit", "7.0", name=odd).itertext())
         expect("reaches below the limit are named", "2 of 5 below 7.0 mg/L: 4, 5" in text, True)
+    return f"{2 * len(ACCEPTED) + 2} pictures"
+
+
+def picture_contents():
+    """What pictures of some examples show: levels of saturation, sludge beds, oxygen used up, rate factors and ammonia."""
+    with tempfile.TemporaryDirectory() as folder:
+        def picture(name, *words):
+            path = os.path.join(EXAMPLES, f"{name}.river")
+            return drawn(os.path.join(folder, "out.svg"), name, path, *words, name=path)
+
         for name, levels in (("two-dam", 1), ("two-pressure", 2)):
-            path = os.path.join(EXAMPLES, f"{name}.river")
-            root = drawn(f"{name} once more", path, name=path)
-            expect(f"levels of saturation in {name}", sum(element.get("stroke-dasharray") == "5 3" for element in root.iter()), levels)
+            found = sum(element.get("stroke-dasharray") == "5 3" for element in picture(name).iter())
+            expect(f"levels of saturation in {name}", found, levels)
         for name, beds in (("two", 0), ("two-sludge", 1), ("old-weir", 3)):
-            path = os.path.join(EXAMPLES, f"{name}.river")
-            text = "".join(drawn(f"{name} and its beds", path, name=path).itertext())
+            text = "".join(picture(name).itertext())
             expect(f"sludge beds in {name}", (text.count("sludge bed of reach"), "sludge beds" in text), (beds, beds > 0))
+        for name, above, feet in (("two", 0, 2), ("overload", 2, 2)):
+            text = "".join(picture(name, "--limit", "5.0").itertext())
+            found = text.count("oxygen used up above reach"), "used up above" in text, text.count("foot: oxygen ")
+            expect(f"oxygen used up in {name}", found, (above, above > 0, feet))
         for name, factors in (("two", 0), ("two-factors", 1)):
-            path = os.path.join(EXAMPLES, f"{name}.river")
-            text = "".join(drawn(f"{name} and its factors", path, "--limit", "7.0", name=path).itertext())
+            text = "".join(picture(name, "--limit", "7.0").itertext())
             expect(f"rate factors in {name}", "by 1.047 for decay and 1.024 for aeration" in text, factors == 1)
         for name, feet, nitrifying in (("old-weir", 0, 0), ("two-ammonia", 2, 0), ("upper-stretch", 4, 3)):
-            path = os.path.join(EXAMPLES, f"{name}.river")
-            text = "".join(drawn(f"{name} and its ammonia", path, name=path).itertext())
+            text = "".join(picture(name).itertext())
             found = "nitrogenous BOD, mg/L" in text, text.count("foot: nitrogenous BOD "), text.count("nitrification of reach")
             expect(f"nitrogenous BOD in {name}", found, (feet > 0, feet, nitrifying))
-    return f"{2 * len(ACCEPTED) + 12} pictures"
+    return "what 12 of them show"
 
 
-TESTS = (wrong_uses, refusals, reports, means, tables, pictures)
+TESTS = (wrong_uses, refusals, reports, means, tables, pictures, picture_contents)
 
 
 if __name__ == "__main__":

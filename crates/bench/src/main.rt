@@ -1,7 +1,7 @@
 // The bench values of the river file paper that are not proved as rows, and a few more rivers: the result of reporting on each file and,
 // for accepted ones, foot BOD, foot oxygen, critical instant and critical oxygen of each reach, and with nitrification head and foot
-// nitrogenous BOD too; and, for a few rivers, the result of asking for means, with those of the reaches and of the river. More bench
-// values of means are in tests/run_test.py.
+// nitrogenous BOD too, and for one river the status; and, for a few rivers, the result of asking for means, with those of the reaches
+// and of the river. More bench values of means are in tests/run_test.py.
 ghost use Prim.Native.Nat.{_≤_};
 use report::mean::MEAN_SIZE;
 use report::record;
@@ -173,7 +173,7 @@ fn put_row(file: &mut [u8], count: u8) {
     }
 }
 
-// A row of 128 reaches passes, in a buffer of 3,712 bytes and no fewer, and one of 129 does not.
+// A row of 128 reaches passes, in a buffer of 3,840 bytes and no fewer, and one of 129 does not.
 fn rows() {
     let mut report = [0u8; REACHES * RP_SIZE];
     let mut short = [0u8; REACHES * RP_SIZE - 1];
@@ -181,7 +181,7 @@ fn rows() {
     put_row(&mut most, REACHES as u8);
     print_result(b"128 reaches", report::xylandreo_report(&most, &mut report));
     print_result(
-        b"128 reaches in 3,711 bytes",
+        b"128 reaches in 3,839 bytes",
         report::xylandreo_report(&most, &mut short),
     );
     let mut more = [0u8; HEADER_BYTES + (REACHES + 1) * REACH_BYTES];
@@ -241,6 +241,29 @@ fn rivers() {
         b"RV\x00\x03RE\x03\x0f\x01\xf4\x03\x84\x00\x1e\x84\x80\x00\x00N\x20\x00\x00\x1f\x40\x1bX\x00\x0fB\x40RE\x03\x12\x02\xbc\x02X\x00\x2d\xc6\xc0\x00\x00u0\x00\x00\x2e\xe0N\x20\x00\x00\x00\x00RE\x00\x16\x03\xe7\x03\xe8\x00\x89T\x40\x00\x00\x13\x88\x00\x00\x0b\xb8\x17p\x00\x07\xa1\x20",
         3,
     );
+}
+
+// Prints the figures of a reach without nitrification, and its status.
+fn print_status(line: Line) {
+    print_reach(line, false);
+    io::write_all(1, b"status ");
+    io::print_decimal(1, line.status as u64);
+    io::write_all(1, b"\n");
+}
+
+// A river whose oxygen is used up at reach 1: reach 2 lies below it, reach 3 is a side branch, and reach 4 lies below both.
+fn used_up() {
+    let mut report = [0u8; 4 * RP_SIZE];
+    let file =
+        b"RV\x00\x04RE\x02\x16\x01\x90\x01\x2c\x00\x16\xe3\x60\x00\x00\x13\x88\x00\x00\x0b\xb8\x1f\x40\x00\x03\xd0\x90RE\x04\x16\x01\x90\x05\xdc\x00\x0fB\x40\x00\x00\x03\xe8\x00\x00\x03\xe8\x23\x28\x00\x00\x00\x00RE\x04\x12\x00\xc8\x03\x20\x00\x0fB\x40\x00\x00N\x20\x00\x00\x07\xd0\x23\x28\x00\x00\x00\x00RE\x00\x14\x01\x2c\x07\xd0\x00\x1e\x84\x80\x00\x00\x27\x10\x00\x00\x03\xe8\x23\x28\x00\x00\x00\x00";
+    print_result(
+        b"oxygen used up",
+        report::xylandreo_report(file, &mut report),
+    );
+    print_status(record::read_record(&report, false, 0));
+    print_status(record::read_record(&report, false, 1));
+    print_status(record::read_record(&report, false, 2));
+    print_status(record::read_record(&report, false, 3));
 }
 
 // Rivers with an irrigation take: the worked example, all of the water of its first reach, and a reach that is too long for what remains.
@@ -427,18 +450,18 @@ fn print_size(name: &[u8], file: &[u8]) {
     io::write_all(1, b" bytes\n");
 }
 
-// A river of two reaches, the second with ammonia of zeros, has its report in a buffer of 78 bytes and no fewer; and sizes of a reach.
+// A river of two reaches, the second with ammonia of zeros, has its report in a buffer of 80 bytes and no fewer; and sizes of a reach.
 fn sizes() {
     let mut report = [0u8; 2 * NITRIFIED_SIZE];
     let mut short = [0u8; 2 * NITRIFIED_SIZE - 1];
     let file =
         b"RV\x00\x02RE\x02\x14\x00\x00\x00\x00\x00\x00\x03\xe8\x00\x00\x0b\xb8\x00\x00\x07\xd0\x1f\x40\x00\x00\x00\x00RE\x00\x14\x00\x00\x00\x00\x00\x00\x03\xe8\x00\x00\x03\xe8\x00\x00u0\x07\xd0\x00\x00\x00\x00NT\x00\x00\x00\x00\x00\x00\x00\x00\x00\x00\x00\x00\x00\x00";
     print_result(
-        b"ammonia in 78 bytes",
+        b"ammonia in 80 bytes",
         report::xylandreo_report(file, &mut report),
     );
     print_result(
-        b"ammonia in 77 bytes",
+        b"ammonia in 79 bytes",
         report::xylandreo_report(file, &mut short),
     );
     print_size(b"reach with ammonia in its file", file);
@@ -510,6 +533,7 @@ fn main() {
     rows();
     refusals();
     rivers();
+    used_up();
     takes();
     pressures();
     beds();

@@ -1,10 +1,11 @@
 -- The bench values of the river file paper that are to be proved, gathered as rows of one theorem: those of files, rates, flows and heads, the two lines of
--- the printing program's example, the second of them below a dam, also at 700 mm, both with takes, and both with nitrogenous BOD; and means.
+-- the printing program's example, the second of them below a dam, also at 700 mm, both with takes, and both with nitrogenous BOD; statuses and means.
 use mathlib.Core.Path.{_≡_, refl, sym, _∙_, ap}
 use mathlib.Core.Bool.{true, false}
 use mathlib.Core.List.{List, [], _∷_}
 use Prim.Native.Nat.{ℕ, _+_, _-_, _*_, _<_, _≤_}
 use native.Mathlib.Omega.{arith}
+use lib.Dec.{leb·suc-zero}
 use lib.IntN.{ℤ, pos, _+ℤ_, _*ℤ_}
 use lib.ListN.{take}
 use Rattle.river.specs.declared.card.Dam.{Dam}
@@ -23,18 +24,20 @@ use Rattle.river.specs.Saturation.{saturation, saturationThousandths, saturatio
 use Rattle.river.specs.Head.{floor, upstreamDemand, upstreamOxygen, aerated, belowDam, mixedDemand, headDemand, headOxygen}
 use Rattle.river.proofs.flow.Take.{mass-within}
 use Rattle.river.proofs.Bench.{reach, second, two, drawn, hilly, Rows as FlowRows, bench as flow-bench}
-use Rattle.report.specs.Program.{figuresOf, figuresAt, demandSum, oxygenSum, demandAtHead, oxygenAtHead, demandAt, oxygenAt, foot}
+use Rattle.report.specs.Status.{statusBy, isUsed, usedBy, shownNumber, shownOxygen, reported}
+use Rattle.report.specs.Program.{figuresOf, reportedAt, demandSum, oxygenSum, demandAtHead, oxygenAtHead, demandAt, oxygenAt, criticalOxygen, usedAbove, foot}
 use Rattle.report.specs.Record.{nitrifies, isNitrified, hasNitrification, plainBytes, encodePlain, encodeRecord, recordSize, Figures}
 use Rattle.report.specs.Report.{recordOf}
 use Rattle.decay.specs.Fraction.{_≼_, ofℕ, ofℤ, distance}
 use Rattle.report.specs.Distance.{allowanceAt}
 use Rattle.report.specs.ExactMean.{exactMeanOxygen}
 use Rattle.report.specs.Mean.{meanAt}
-use Rattle.report.proofs.MeanRows.{Rows as MeanRows, rows as mean-rows, Constant, constant}
+use Rattle.report.proofs.StatusRows.{Rows as StatusRows, rows as status-rows}
+use Rattle.report.proofs.MeanRows.{Rows as MeanRows, rows as mean-rows, Constant, constant, UsedUp, used-up}
 use Rattle.report.proofs.MeanRefutation.{allValues, own-mean, own-mean-near, rounded-mean-strays}
 use Rattle.report.proofs.Refutations.{two as equal}
 use Rattle.report.proofs.Forest.{AcceptedReach}
-use Rattle.report.proofs.Ties.{reach-demand-stays, reach-oxygen-stays, still-figures}
+use Rattle.report.proofs.Ties.{reach-demand-stays, reach-oxygen-stays, reach-critical-stays, still-figures}
 use Rattle.report.proofs.record.Encoding.{plain-first}
 
 -- the dam of the example, share 500 and generating flow 1,000
@@ -130,7 +133,7 @@ accepted-weir : (pressure : Amount) → SaturationInRange (second weir Without p
 unfolding DamRule fed flowOf massOf
 accepted-weir pressure conditions = accepted-second weir Without pressure conditions (omega arith) (refl, omega arith) (omega arith) (omega arith) (omega arith) (omega arith)
 
--- the figures of a line where nothing changes along the reach
+-- the figures of a line where nothing changes along the reach, and oxygen is not used up there or above
 abbrev line : (depth flow bod oxygen nitrogenous : ℕ) → Figures
 line depth flow bod oxygen nitrogenous =
     record {
@@ -142,6 +145,7 @@ line depth flow bod oxygen nitrogenous =
       critical-instant = 0;
       critical-oxygen = pos oxygen;
       foot-oxygen = pos oxygen;
+      status = 0;
       head-nitrogenous = nitrogenous;
       foot-nitrogenous = nitrogenous;
     }
@@ -177,6 +181,15 @@ foot-1 take nitrification still h =
       oxygen-is = ap (λ (o : ℤ). pos Q *ℤ o +ℤ pos 0) (reach-oxygen-stays own keeps refl refl foot ∙ head-1 take nitrification .oxygen-is);
     }
 
+-- critical oxygen of reach 1 is that of its head, so that oxygen is not used up there
+critical-1 : (take : Amount) (nitrification : Nitrification) → Still nitrification → amountOr 0 take < 3000 → criticalOxygen (upper take nitrification) none ≡ pos 8000000
+critical-1 take nitrification still h =
+    reach-critical-stays (accepted-first take nitrification still h) (upper-keeps take nitrification still) refl refl ∙ head-1 take nitrification .oxygen-is
+
+ordinary-1 : (take : Amount) (nitrification : Nitrification) → Still nitrification → amountOr 0 take < 3000 → usedAbove (feeders take nitrification) ≡ false
+unfolding usedBy statusBy isUsed
+ordinary-1 take nitrification still h = rw (critical-1 take nitrification still h)
+
 -- the head of reach 2, by the take of reach 1
 module _ (dam : Dam) (take pressure upper-take : Amount) (nitrification : Nitrification) (still : Still nitrification) (h : amountOr 0 upper-take < 3000) where
   head-2 : {bod oxygen nitrogenous : ℕ} → headDemand (sourceOf Bod (second dam take pressure)) true (flowOf (feeders upper-take nitrification)) ((3000 - amountOr 0 upper-take) * 2000000 + 0) ≡ bod → headDemand (sourceOf Nitrogenous (second dam take pressure)) true (flowOf (feeders upper-take nitrification)) ((3000 - amountOr 0 upper-take) * brought nitrification + 0) ≡ nitrogenous → headOxygen (second dam take pressure) true (flowOf (feeders upper-take nitrification)) (pos (3000 - amountOr 0 upper-take) *ℤ pos 8000000 +ℤ pos 0) ≡ pos oxygen → HeadIs (second dam take pressure) (feeders upper-take nitrification) bod oxygen nitrogenous
@@ -190,40 +203,42 @@ module _ (dam : Dam) (take pressure upper-take : Amount) (nitrification : Nitrif
       }
 
 -- the line of a reach that keeps its figures
-still-line : {card : Card} {up : Feeders} {bod oxygen nitrogenous : ℕ} → AcceptedReach card up → ((d : Demand) → rateOf d card * card .volume ≡ 0) → card .k2 * card .volume ≡ 0 → sludgeOf card * card .volume ≡ 0 → HeadIs card up bod oxygen nitrogenous → figuresOf card up ≡ line (reachDepth up) (reachFlow card up) bod oxygen nitrogenous
-still-line own h k s is = still-figures own h k s ∙ rw (is .bod-is, is .nitrogenous-is, is .oxygen-is)
+still-line : {card : Card} {up : Feeders} {bod oxygen nitrogenous : ℕ} → AcceptedReach card up → ((d : Demand) → rateOf d card * card .volume ≡ 0) → card .k2 * card .volume ≡ 0 → sludgeOf card * card .volume ≡ 0 → usedAbove up ≡ false → HeadIs card up bod oxygen nitrogenous → reported (figuresOf card up) ≡ line (reachDepth up) (reachFlow card up) bod oxygen nitrogenous
+unfolding statusBy shownNumber shownOxygen
+still-line {oxygen} own h k s ordinary is =
+    ap reported (still-figures own h k s ∙ rw (ordinary, is .bod-is, is .nitrogenous-is, is .oxygen-is, leb·suc-zero oxygen))
 
 -- the first line, with no take there, by its nitrification
-first-line : (nitrification : Nitrification) → Still nitrification → figuresOf (upper Without nitrification) none ≡ line 1 3000 2000000 8000000 (brought nitrification)
-unfolding flowOf deepest
+first-line : (nitrification : Nitrification) → Still nitrification → reported (figuresOf (upper Without nitrification) none) ≡ line 1 3000 2000000 8000000 (brought nitrification)
+unfolding flowOf deepest usedBy
 first-line nitrification still =
-    still-line (accepted-first Without nitrification still (omega arith)) (upper-keeps Without nitrification still) refl refl (head-1 Without nitrification)
+    still-line (accepted-first Without nitrification still (omega arith)) (upper-keeps Without nitrification still) refl refl refl (head-1 Without nitrification)
 
 -- the second line, with no take or dam, by the nitrification of reach 1
-second-line : (nitrification : Nitrification) {nitrogenous : ℕ} → Still nitrification → headDemand (sourceOf Nitrogenous (second Absent Without Without)) true 3000 (3000 * brought nitrification + 0) ≡ nitrogenous → figuresOf (second Absent Without Without) (feeders Without nitrification) ≡ line 2 4000 9000000 6500000 nitrogenous
+second-line : (nitrification : Nitrification) {nitrogenous : ℕ} → Still nitrification → headDemand (sourceOf Nitrogenous (second Absent Without Without)) true 3000 (3000 * brought nitrification + 0) ≡ nitrogenous → reported (figuresOf (second Absent Without Without) (feeders Without nitrification)) ≡ line 2 4000 9000000 6500000 nitrogenous
 unfolding fed flowOf deepest headDemand headOxygen upstreamDemand upstreamOxygen belowDam aerated floor
 second-line nitrification still e =
-    still-line (accepted-open Without nitrification still (omega arith)) (second-keeps Absent Without Without) refl refl
+    still-line (accepted-open Without nitrification still (omega arith)) (second-keeps Absent Without Without) refl refl (ordinary-1 Without nitrification still (omega arith))
     (head-2 Absent Without Without Without nitrification still (omega arith) {oxygen = 6500000} refl e refl)
 
 -- the line below the dam, by the pressure there
-weir-line : (pressure : Amount) {oxygen : ℕ} → SaturationInRange (second weir Without pressure) → headOxygen (second weir Without pressure) true 3000 (pos 3000 *ℤ pos 8000000 +ℤ pos 0) ≡ pos oxygen → figuresOf (second weir Without pressure) (feeders Without Idle) ≡ line 2 4000 9000000 oxygen 0
+weir-line : (pressure : Amount) {oxygen : ℕ} → SaturationInRange (second weir Without pressure) → headOxygen (second weir Without pressure) true 3000 (pos 3000 *ℤ pos 8000000 +ℤ pos 0) ≡ pos oxygen → reported (figuresOf (second weir Without pressure) (feeders Without Idle)) ≡ line 2 4000 9000000 oxygen 0
 unfolding flowOf deepest headDemand upstreamDemand
 weir-line pressure conditions e =
-    still-line (accepted-weir pressure conditions) (second-keeps weir Without pressure) refl refl
+    still-line (accepted-weir pressure conditions) (second-keeps weir Without pressure) refl refl (ordinary-1 Without Idle idle (omega arith))
     (head-2 weir Without pressure Without Idle idle (omega arith) refl refl e)
 
 -- the second line below a take of reach 1, and with one of its own
-below-take : figuresOf (second Absent Without Without) (feeders (Given 1000) Idle) ≡ line 2 3000 11333333 6000000 0
+below-take : reported (figuresOf (second Absent Without Without) (feeders (Given 1000) Idle)) ≡ line 2 3000 11333333 6000000 0
 unfolding fed flowOf deepest headDemand headOxygen upstreamDemand upstreamOxygen belowDam aerated floor
 below-take =
-    still-line (accepted-open (Given 1000) Idle idle (omega arith)) (second-keeps Absent Without Without) refl refl
+    still-line (accepted-open (Given 1000) Idle idle (omega arith)) (second-keeps Absent Without Without) refl refl (ordinary-1 (Given 1000) Idle idle (omega arith))
     (head-2 Absent Without Without (Given 1000) Idle idle (omega arith) {oxygen = 6000000} refl refl refl)
 
-own-take : figuresOf (second Absent (Given 1000) Without) (feeders Without Idle) ≡ line 2 3000 9000000 6500000 0
+own-take : reported (figuresOf (second Absent (Given 1000) Without) (feeders Without Idle)) ≡ line 2 3000 9000000 6500000 0
 unfolding fed flowOf deepest headDemand headOxygen upstreamDemand upstreamOxygen belowDam aerated floor
 own-take =
-    still-line accepted-drawn (second-keeps Absent (Given 1000) Without) refl refl
+    still-line accepted-drawn (second-keeps Absent (Given 1000) Without) refl refl (ordinary-1 Without Idle idle (omega arith))
     (head-2 Absent (Given 1000) Without Without Idle idle (omega arith) {oxygen = 6500000} refl refl refl)
 
 -- upstream oxygen of the second reach
@@ -248,42 +263,47 @@ plain-bytes {f} e = plain-first true f ∙ ap encodePlain e
 -- one theorem, a row each
 pub record Rows : Type 0 where
   pub flows-and-heads : FlowRows
-  -- means: weighted by volume, of the example, whose oxygen does not change, and of the reach whose rates are equal
+  -- statuses, and what is reported at each
+  pub statuses : StatusRows
+  -- means: weighted by volume, of the example, whose oxygen does not change, where oxygen is used up, and of the reach whose rates are equal
   pub weighted : MeanRows
   pub constant-means : Constant
+  pub used-up-means : UsedUp
   pub own-mean : meanAt equal 1 ≡ pos 12009589
   pub near-the-exact : distance (ofℤ (meanAt equal 1)) (exactMeanOxygen 40 (cardOf equal 1) (above equal 1)) ≼ ofℕ 1
   pub mean-of-values-strays : distance (ofℤ (floor allValues 1_025)) (exactMeanOxygen 40 (cardOf equal 1) (above equal 1)) ≼ allowanceAt equal 1 → ⊥
-  pub line-1 : figuresAt (two Absent) 1 ≡ line 1 3000 2000000 8000000 0
-  pub line-2 : figuresAt (two Absent) 2 ≡ line 2 4000 9000000 6500000 0
+  pub line-1 : reportedAt (two Absent) 1 ≡ line 1 3000 2000000 8000000 0
+  pub line-2 : reportedAt (two Absent) 2 ≡ line 2 4000 9000000 6500000 0
   pub below-dam : belowDam (second weir Without Without) (fed (above (two weir) 2)) (flowOf (above (two weir) 2)) (upstream (above (two weir) 2)) ≡ pos 8340602
-  pub line-dam : figuresAt (two weir) 2 ≡ line 2 4000 9000000 6755451 0
+  pub line-dam : reportedAt (two weir) 2 ≡ line 2 4000 9000000 6755451 0
   -- the dam at 700 mm
   pub hilly-below-dam : belowDam (second weir Without (Given 700)) (fed (above (hilly (Given 700)) 2)) (flowOf (above (hilly (Given 700)) 2)) (upstream (above (hilly (Given 700)) 2)) ≡ pos 8103186
-  pub hilly-line-1 : figuresAt (hilly (Given 700)) 1 ≡ line 1 3000 2000000 8000000 0
-  pub hilly-line-2 : figuresAt (hilly (Given 700)) 2 ≡ line 2 4000 9000000 6577389 0
+  pub hilly-line-1 : reportedAt (hilly (Given 700)) 1 ≡ line 1 3000 2000000 8000000 0
+  pub hilly-line-2 : reportedAt (hilly (Given 700)) 2 ≡ line 2 4000 9000000 6577389 0
   -- with a take of 1,000 at reach 1, and at reach 2 instead
-  pub drawn-1-line-1 : figuresAt (drawn (Given 1000) Without) 1 ≡ line 1 2000 2000000 8000000 0
-  pub drawn-1-line-2 : figuresAt (drawn (Given 1000) Without) 2 ≡ line 2 3000 11333333 6000000 0
-  pub drawn-2-line-1 : figuresAt (drawn Without (Given 1000)) 1 ≡ line 1 3000 2000000 8000000 0
-  pub drawn-2-line-2 : figuresAt (drawn Without (Given 1000)) 2 ≡ line 2 3000 9000000 6500000 0
+  pub drawn-1-line-1 : reportedAt (drawn (Given 1000) Without) 1 ≡ line 1 2000 2000000 8000000 0
+  pub drawn-1-line-2 : reportedAt (drawn (Given 1000) Without) 2 ≡ line 2 3000 11333333 6000000 0
+  pub drawn-2-line-1 : reportedAt (drawn Without (Given 1000)) 1 ≡ line 1 3000 2000000 8000000 0
+  pub drawn-2-line-2 : reportedAt (drawn Without (Given 1000)) 2 ≡ line 2 3000 9000000 6500000 0
   -- with nitrogenous BOD of 4 mg/L at reach 1, which reach 2 carries and adds none to; each line is that without and two numbers more
-  pub laden-line-1 : figuresAt (laden (Nitrifying 0 4000 0)) 1 ≡ line 1 3000 2000000 8000000 4000000
-  pub laden-line-2 : figuresAt (laden (Nitrifying 0 4000 0)) 2 ≡ line 2 4000 9000000 6500000 3000000
+  pub laden-line-1 : reportedAt (laden (Nitrifying 0 4000 0)) 1 ≡ line 1 3000 2000000 8000000 4000000
+  pub laden-line-2 : reportedAt (laden (Nitrifying 0 4000 0)) 2 ≡ line 2 4000 9000000 6500000 3000000
   -- a nitrification of zeros makes the records longer, and leaves their `RP` records as they are
-  pub plain-size : recordSize (two Absent) ≡ 29
-  pub zeros-size : recordSize (laden (Nitrifying 0 0 0)) ≡ 39
+  pub plain-size : recordSize (two Absent) ≡ 30
+  pub zeros-size : recordSize (laden (Nitrifying 0 0 0)) ≡ 40
   pub zeros-1 : take plainBytes (recordOf (laden (Nitrifying 0 0 0)) 0) ≡ recordOf (two Absent) 0
   pub zeros-2 : take plainBytes (recordOf (laden (Nitrifying 0 0 0)) 1) ≡ recordOf (two Absent) 1
 
 -- THEOREM: the bench values of the paper that are to be proved, a row each
 pub bench : Rows
-unfolding feedersAmong joinedIf flowOf deepest headDemand headOxygen upstreamDemand upstreamOxygen belowDam aerated floor saturation saturationThousandths saturationOf nitrifies isNitrified hasNitrification
+unfolding feedersAmong joinedIf flowOf deepest headDemand headOxygen upstreamDemand upstreamOxygen belowDam aerated floor saturation saturationThousandths saturationOf nitrifies isNitrified hasNitrification usedBy
 bench =
     record {
       flows-and-heads = flow-bench;
+      statuses = status-rows;
       weighted = mean-rows;
       constant-means = constant;
+      used-up-means = used-up;
       own-mean = own-mean;
       near-the-exact = own-mean-near;
       mean-of-values-strays = rounded-mean-strays;
@@ -294,7 +314,7 @@ bench =
       hilly-below-dam = below-weir (Given 700) refl;
       hilly-line-1 = first-line Idle idle;
       hilly-line-2 = weir-line (Given 700) (omega arith) refl;
-      drawn-1-line-1 = still-line (accepted-first (Given 1000) Idle idle (omega arith)) (upper-keeps (Given 1000) Idle idle) refl refl (head-1 (Given 1000) Idle);
+      drawn-1-line-1 = still-line (accepted-first (Given 1000) Idle idle (omega arith)) (upper-keeps (Given 1000) Idle idle) refl refl refl (head-1 (Given 1000) Idle);
       drawn-1-line-2 = below-take;
       drawn-2-line-1 = first-line Idle idle;
       drawn-2-line-2 = own-take;

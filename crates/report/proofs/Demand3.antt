@@ -1,4 +1,5 @@
--- Demand 3: the figures of every reach of every river that reading and the flow check accept lie within the allowance of the exact recurrence.
+-- Demand 3: the figures of every reach of every river that reading and the flow check accept lie within the allowance of the exact recurrence,
+-- at every status, with oxygen as it is carried on.
 -- The refutations and the rows of units are named here so that they are checked first: an allowance that rules out too little is refused by them.
 use mathlib.Core.Path.{sym, subst}
 use mathlib.Core.Bool.{Bool, true, false, cond}
@@ -15,7 +16,7 @@ use Rattle.river.specs.Card.{Lawful}
 use Rattle.river.specs.Flow.{Feeders, cardOf, above, reachDepth, Flows}
 use Rattle.report.specs.Program.{lowest, demandAt, oxygenAt, figuresOf, figuresAt, foot}
 use Rattle.report.specs.Recurrence.{exactOxygenAt}
-use Rattle.report.specs.Distance.{hasBed, stepUnits, allowanceAt, WithinAllowance, broughtAllowance, waterAllowance}
+use Rattle.report.specs.Distance.{hasBed, stepUnits, allowanceAt, OxygenWithin, broughtAllowance, waterAllowance}
 use Rattle.report.specs.Record.{hasNitrification, Figures}
 use Rattle.report.proofs.Refutations
 use Rattle.report.proofs.UnitRows
@@ -41,7 +42,7 @@ not-lower {o} {ox} {e} c h w =
     certify (c ∷ o ∷ ox ∷ e ∷ []) (slack h ⊞ slack (w .high)) (search quote depth 40 fits 9999) tt
 
 -- the distance allowed may be more
-within-more : {N : ℕ} {card : Card} {up : Feeders} {f : Figures} {a b : Fraction} → a ≼ b → WithinAllowance N card up f a → WithinAllowance N card up f b
+within-more : {N : ℕ} {card : Card} {up : Feeders} {f : Figures} {a b : Fraction} → a ≼ b → OxygenWithin N card up f a → OxygenWithin N card up f b
 within-more {N} {card} {up} {f} {a} {b} h w =
     record {
       at-head = ≼-trans (w .at-head) h;
@@ -63,7 +64,7 @@ units-cover cards = go (hasNitrification cards) (hasBed cards)
 
 module _ (N : ℕ) (long : 40 ≤ N) where
   -- THEOREM: a reach over an accepted forest lies within its allowance by water
-  pub within-water : {units : ℕ} {card : Card} {up : Feeders} → Covers units → AcceptedReach card up → AllAccepted up → reachDepth up ≤ 128 → WithinAllowance N card up (figuresOf card up) (waterAllowance units card up)
+  pub within-water : {units : ℕ} {card : Card} {up : Feeders} → Covers units → AcceptedReach card up → AllAccepted up → reachDepth up ≤ 128 → OxygenWithin N card up (figuresOf card up) (waterAllowance units card up)
   unfolding figuresOf demandAt oxygenAt
   within-water {units} {card} {up} covers own above shallow =
       let head = head-is-near N long covers own above (feet-are-near N long covers above (omega arith)) in
@@ -80,7 +81,7 @@ module _ (N : ℕ) (long : 40 ≤ N) where
       }
 
   -- THEOREM: every reach of an accepted river lies within the distance allowed, which is that by depth
-  pub demand-3 : (cards : List Card) → Lawful cards → Flows cards → (i : ℕ) → i < length cards → WithinAllowance N (cardOf cards (suc i)) (above cards (suc i)) (figuresAt cards (suc i)) (allowanceAt cards (suc i))
+  pub demand-3 : (cards : List Card) → Lawful cards → Flows cards → (i : ℕ) → i < length cards → OxygenWithin N (cardOf cards (suc i)) (above cards (suc i)) (figuresAt cards (suc i)) (allowanceAt cards (suc i))
   demand-3 cards lawful flows i l =
       let own = reach-accepted cards lawful flows i l in
       let water = above-accepted cards lawful flows i (suc i) (omega arith) in

@@ -3,12 +3,14 @@
 pub mod Numbers
 pub mod Signed
 use mathlib.Core.Path.{_≡_, refl, sym, ap, _∙_, subst}
+use mathlib.Core.Logic.{_↔_}
+use mathlib.Core.Bool.{Bool, true, false, cond}
 use mathlib.Core.List.{List, _++_}
 use Prim.Native.Nat.{ℕ, zero, suc, _-_, _≤_, _<_}
 use native.Mathlib.Nat.{le-refl}
 use native.Mathlib.Omega.{arith}
 use borrow.Author.Tests.{lt-ltb, le-ltb, le-leb, lt-leb, leb-true}
-use lib.Dec.{leb→le}
+use lib.Dec.{eqb, leb→le}
 use lib.IntN.{ℤ, pos, negsuc}
 use lib.Signed.{_≤ℤ_}
 use lib.ListN.{length, drop}
@@ -24,16 +26,19 @@ use Rattle.river.specs.Stored.{storedZero, storedLimit}
 use Rattle.river.specs.Accept.{Accepts, acceptFile}
 use Rattle.river.proofs.Acceptance.{accepts-exactly}
 use Rattle.river.proofs.Answers.{passed, went, need-true, need-false, after-accepted, after-refused}
-use Rattle.report.specs.Program.{oxygenAt, figuresOf, figuresAt, foot}
+use Rattle.report.specs.Status.{shownOxygen}
+use Rattle.report.specs.Program.{oxygenAt, criticalOxygen, usedAbove, statusOf, figuresOf, figuresAt, reportedAt, foot}
 use Rattle.report.specs.Distance.{allowanceAt, WithinAllowance}
 use Rattle.report.specs.Record.{hasNitrification, complement, fromComplement, recordSize, recordAt, readRecord, Figures}
-use Rattle.report.specs.Report.{recordOf, reportOf, reportSize, roomAnswer, reportAnswer, resultOf, bufferReported, figuresRead, Accepted, Reports}
+use Rattle.report.specs.Report.{recordOf, reportOf, reportSize, roomAnswer, reportAnswer, resultOf, bufferReported, figuresRead, Accepted, UsedUpAbove, Reports}
 use Rattle.report.specs.Ties.{Tied}
 use Rattle.report.specs.Lines.{Ready}
 use Rattle.report.proofs.Lowest.{lowest-first}
 use Rattle.report.proofs.Bounds.{Range}
 use Rattle.report.proofs.Orders.{reporting-order}
 use Rattle.report.proofs.NoNitrification.{none-reported}
+use Rattle.report.proofs.Statuses.{reported-same, status-two, used-from-one, figures-status}
+use Rattle.report.proofs.UsedAbove.{UsedReach, used-exactly}
 use Rattle.report.proofs.River.{IsRiver, river-of-file, head-in-range, instant-in-range, reach-tied, reach-within-allowance}
 use Rattle.report.proofs.record.Encoding.{Writable, record-length, read-back}
 use Rattle.report.proofs.record.Rows.{Begins, stands}
@@ -52,15 +57,24 @@ complement-in-range (negsuc n) low high =
 complement-back : {b : ℕ} (z : ℤ) → Range b z → fromComplement (complement z) ≡ z
 complement-back z r = complement-in-range z (r .oxygen-low) (r .oxygen-high)
 
-writable : {cards : List Card} → IsRiver cards → (i : ℕ) → i < length cards → Writable (hasNitrification cards) (figuresAt cards (suc i))
+-- and what is reported of it, which is 0 at status 2
+shown-back : (status : ℕ) (z : ℤ) → fromComplement (complement z) ≡ z → fromComplement (complement (shownOxygen status z)) ≡ shownOxygen status z
+unfolding shownOxygen complement fromComplement
+shown-back status z h = go (eqb status 2)
+  where
+    go : (t : Bool) → fromComplement (complement (cond t (pos 0) z)) ≡ cond t (pos 0) z
+    go true = refl
+    go false = h
+
+writable : {cards : List Card} → IsRiver cards → (i : ℕ) → i < length cards → Writable (hasNitrification cards) (reportedAt cards (suc i))
 unfolding figuresOf oxygenAt
 writable {cards} river i l =
     let c = lowest-first (oxygenAt (cardOf cards (suc i)) (above cards (suc i))) foot in
     record {
-      head = complement-back _ (head-in-range river i l);
+      head = shown-back _ _ (complement-back _ (head-in-range river i l));
       critical =
-          subst (λ (z : ℤ). fromComplement (complement z) ≡ z) (sym (c .value)) (complement-back _ (instant-in-range river i l _ (c .within)));
-      foot = complement-back _ (instant-in-range river i l foot (le-refl foot));
+          shown-back _ _ (subst (λ (z : ℤ). fromComplement (complement z) ≡ z) (sym (c .value)) (complement-back _ (instant-in-range river i l _ (c .within))));
+      foot = shown-back _ _ (complement-back _ (instant-in-range river i l foot (le-refl foot)));
       plain = λ e. none-reported cards e i l;
     }
 
@@ -81,7 +95,7 @@ pub record-stands :
 unfolding bufferReported
 record-stands file before buffer river i l =
     rw (buffer, answers file river)
-    (stands (recordOf (river .cards)) (recordSize (river .cards)) (λ j. record-length (hasNitrification (river .cards)) (figuresAt (river .cards) (suc j))) (length (river .cards)) i (drop (reportSize (river .cards)) before) l)
+    (stands (recordOf (river .cards)) (recordSize (river .cards)) (λ j. record-length (hasNitrification (river .cards)) (reportedAt (river .cards) (suc j))) (length (river .cards)) i (drop (reportSize (river .cards)) before) l)
 
 module _ (file before : List ℕ) where
   answered : (x : Answer (List Card)) → reportAnswer file (length before) ≡ x → Numbered x → resultOf x ≡ 0 → Accepted file (length before)
@@ -92,16 +106,43 @@ module _ (file before : List ℕ) where
       record { cards = w .value; passes = w .first; holds = leb-true _ _ (p .test) }
   answered (refused r) e n z = absurd (let h : ⊥ = omega arith in h)
 
-  module _ (bytes : AreBytes file) {after : List ℕ} (buffer : after ≡ bufferReported (reportAnswer file (length before)) before) (river : Accepted file (length before)) (i : ℕ) (l : i < length (river .cards)) where
+  module _ (bytes : AreBytes file) {after : List ℕ} (buffer : after ≡ bufferReported (reportAnswer file (length before)) before) (river : Accepted file (length before)) where
     is-river : IsRiver (river .cards)
     is-river = river-of-file file bytes (river .passes)
 
-    -- the figures in the bytes are those of the reach
-    figures-read : figuresRead (river .cards) after i ≡ figuresAt (river .cards) (suc i)
-    figures-read =
-        let s = record-stands file before buffer river i l in
-        let nitrified = hasNitrification (river .cards) in
-        ap (readRecord nitrified) (s .is) ∙ read-back nitrified (figuresAt (river .cards) (suc i)) (s .rest) (writable is-river i l)
+    module _ (i : ℕ) (l : i < length (river .cards)) where
+      -- the figures in the bytes are those that are reported of the reach
+      figures-read : figuresRead (river .cards) after i ≡ reportedAt (river .cards) (suc i)
+      figures-read =
+          let s = record-stands file before buffer river i l in
+          let nitrified = hasNitrification (river .cards) in
+          ap (readRecord nitrified) (s .is) ∙ read-back nitrified (reportedAt (river .cards) (suc i)) (s .rest) (writable is-river i l)
+
+      -- at status 0 and 1 they are all that the program computed
+      figures-whole : figuresRead (river .cards) after i .status ≤ 1 → figuresRead (river .cards) after i ≡ figuresAt (river .cards) (suc i)
+      figures-whole h =
+          figures-read ∙ reported-same (figuresAt (river .cards) (suc i)) (subst (λ (f : Figures). f .status ≤ 1) figures-read h)
+
+      -- and the status in the bytes is that of the definition
+      status-read : figuresRead (river .cards) after i .status ≡ statusOf (cardOf (river .cards) (suc i)) (above (river .cards) (suc i))
+      status-read = ap (λ (f : Figures). f .status) figures-read ∙ figures-status (cardOf (river .cards) (suc i)) (above (river .cards) (suc i))
+
+    -- a reach above has status 1 or 2 where the bytes say so
+    used-told : {i : ℕ} → UsedReach (river .cards) i → UsedUpAbove (river .cards) after i
+    used-told r =
+        record { place = r .place; within = r .within; lies-above = r .lies-above; used-up = rw (status-read (r .place) (r .within)) (used-from-one _ .0 (r .used)) }
+
+    used-meant : {i : ℕ} → UsedUpAbove (river .cards) after i → UsedReach (river .cards) i
+    used-meant u =
+        record { place = u .place; within = u .within; lies-above = u .lies-above; used = used-from-one _ .1 (rw (status-read (u .place) (u .within)) at (u .used-up)) }
+
+    -- and so the bytes say 2 exactly where they say that of a reach above
+    two-read : (i : ℕ) → i < length (river .cards) → (figuresRead (river .cards) after i .status ≡ 2) ↔ UsedUpAbove (river .cards) after i
+    unfolding statusOf
+    two-read i l =
+        let two = status-two (usedAbove (above (river .cards) (suc i))) (criticalOxygen (cardOf (river .cards) (suc i)) (above (river .cards) (suc i))) in
+        let used = used-exactly (is-river .lawful) i l in
+        ((λ e. used-told (used .0 (two .0 (sym (status-read i l) ∙ e)))), λ u. status-read i l ∙ two .1 (used .1 (used-meant u)))
 
 -- a refusal leaves the buffer as it was
 left-alone : (x : Answer (List Card)) (before : List ℕ) → (resultOf x ≡ 0 → ⊥) → bufferReported x before ≡ before
@@ -127,16 +168,19 @@ reports-of file before after result bytes answer buffer =
       buffer = buffer;
       untouched = λ h. buffer ∙ left-alone (reportAnswer file (length before)) before (λ z. h (answer ∙ z));
       figures = figures-read file before bytes buffer;
+      whole = figures-whole file before bytes buffer;
       depth = λ river i l. ap (λ (f : Figures). f .depth) (figures-read file before bytes buffer river i l);
       flow = λ river i l. ap (λ (f : Figures). f .flow) (figures-read file before bytes buffer river i l);
+      status = status-read file before bytes buffer;
+      used-up-above = two-read file before bytes buffer;
       tied =
           λ river i l.
           subst (Tied (cardOf (river .cards) (suc i)) (oxygenAt (cardOf (river .cards) (suc i)) (above (river .cards) (suc i)))) (sym (figures-read file before bytes buffer river i l))
-          (reach-tied (is-river file before bytes buffer river i l) i l);
+          (reach-tied (is-river file before bytes buffer river) i l);
       within =
           λ river i l N long.
           subst (λ (f : Figures). WithinAllowance N (cardOf (river .cards) (suc i)) (above (river .cards) (suc i)) f (allowanceAt (river .cards) (suc i))) (sym (figures-read file before bytes buffer river i l))
-          (reach-within-allowance (is-river file before bytes buffer river i l) i l N long);
+          (reach-within-allowance (is-river file before bytes buffer river) i l N long);
     }
 
 -- the entry's contract for a refusal, and for a report

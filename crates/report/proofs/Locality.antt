@@ -2,7 +2,7 @@
 -- whatever their numbers. Rivers that agree on a reach and on all above it have the same forest there, and with the same rate factors also by the
 -- rates in force.
 use mathlib.Core.Path.{_≡_, refl, sym, ap, ap₂, _∙_, subst}
-use mathlib.Core.Bool.{Bool, true, false, _||_}
+use mathlib.Core.Bool.{Bool, true, false, _||_, or-assoc}
 use mathlib.Core.List.{List, [], _∷_, map}
 use Prim.Native.Nat.{ℕ, zero, suc, _+_, _-_, _*_, _<_, _≤_, max}
 use native.Mathlib.Nat.{le-of-lt, add-left-comm}
@@ -22,8 +22,10 @@ use Rattle.river.specs.Saturation.{saturationOf}
 use Rattle.river.specs.Head.{belowDam, headDemand, headOxygen}
 use Rattle.report.specs.Record.{Figures}
 use Rattle.report.specs.Bed.{bedOf}
-use Rattle.report.specs.Program.{factorsAlong, partsAlong, demandAlong, turnedAlong, lossAlong, oxygenAlong, demandSum, oxygenSum, demandAtHead, oxygenAtHead, figuresBelow, figuresOf}
+use Rattle.report.specs.Status.{isUsed, usedBy}
+use Rattle.report.specs.Program.{factorsAlong, partsAlong, demandAlong, turnedAlong, lossAlong, oxygenAlong, demandSum, oxygenSum, demandAtHead, oxygenAtHead, oxygenAt, criticalOxygen, usedAbove, figuresBelow, figuresOf}
 use Rattle.report.specs.Locality.{withOutlet, SameButOutlet, SameForest, bare, alike, exchanged, chained, SameReach, LiesAbove, feeds, through, SameCard, Agree}
+use Rattle.report.proofs.StatusRows
 
 -- ---- what a reach takes from its feeders, and what it gives
 
@@ -36,19 +38,20 @@ record Sums : Type 0 where
   bod : ℕ
   nitrogenous : ℕ
   oxygen : ℤ
+  used : Bool
 
 abbrev sumsOf : Feeders → Sums
 sumsOf up =
-    record { fed = fed up; flow = flowOf up; mass = massOf up; deepest = deepest up; bod = demandSum Bod up; nitrogenous = demandSum Nitrogenous up; oxygen = oxygenSum up }
+    record { fed = fed up; flow = flowOf up; mass = massOf up; deepest = deepest up; bod = demandSum Bod up; nitrogenous = demandSum Nitrogenous up; oxygen = oxygenSum up; used = usedAbove up }
 
 -- the figures of a reach below these sums
 abbrev figuresBy : Card → Sums → Figures
 figuresBy card s =
-    figuresBelow card (1 + s .deepest) (s .flow + card .inflow - takeOf card) (headDemand (sourceOf Bod card) (s .fed) (s .flow) (s .bod)) (headDemand (sourceOf Nitrogenous card) (s .fed) (s .flow) (s .nitrogenous)) (headOxygen card (s .fed) (s .flow) (s .oxygen))
+    figuresBelow (s .used) card (1 + s .deepest) (s .flow + card .inflow - takeOf card) (headDemand (sourceOf Bod card) (s .fed) (s .flow) (s .bod)) (headDemand (sourceOf Nitrogenous card) (s .fed) (s .flow) (s .nitrogenous)) (headOxygen card (s .fed) (s .flow) (s .oxygen))
 
--- what a feeder gives, by its undecayed BOD after the take and its figures
-abbrev given : ℕ → Figures → Sums
-given M f =
+-- what a feeder gives, by its undecayed BOD after the take, whether oxygen is used up above it, and its figures
+abbrev given : ℕ → Bool → Figures → Sums
+given M used f =
     record {
       fed = true;
       flow = f .flow;
@@ -57,13 +60,14 @@ given M f =
       bod = f .flow * f .foot-bod;
       nitrogenous = f .flow * f .foot-nitrogenous;
       oxygen = pos (f .flow) *ℤ f .foot-oxygen;
+      used = isUsed (f .status) || used;
     }
 
 abbrev massBy : Card → Sums → ℕ
 massBy card s = remainingMass (takeOf card) (s .flow + card .inflow) (s .mass + ownMass card)
 
 abbrev gives : Card → Sums → Sums
-gives card s = given (massBy card s) (figuresBy card s)
+gives card s = given (massBy card s) (s .used) (figuresBy card s)
 
 -- and with what others give
 infixr 5 _⊕_
@@ -77,6 +81,7 @@ s ⊕ t =
       bod = s .bod + t .bod;
       nitrogenous = s .nitrogenous + t .nitrogenous;
       oxygen = s .oxygen +ℤ t .oxygen;
+      used = s .used || t .used;
     }
 
 -- ---- the order of feeders does not count
@@ -109,21 +114,31 @@ figures-any-outlet s card = rw (dam-any-outlet card (s .fed))
 
 gives-any-outlet : (s : Sums) (card : Card) → gives (withOutlet 0 card) s ≡ gives card s
 unfolding withOutlet
-gives-any-outlet s card = ap (given (massBy card s)) (figures-any-outlet s card)
+gives-any-outlet s card = ap (given (massBy card s) (s .used)) (figures-any-outlet s card)
 
 outlet-aside : {A : Type 0} {c d : Card} (f : Card → A) → ((card : Card) → f (withOutlet 0 card) ≡ f card) → SameButOutlet c d → f c ≡ f d
 outlet-aside {c} {d} f h same = sym (h c) ∙ ap f (same .rest) ∙ h d
 
 -- ---- reaches with the same card and the same forest
 
--- the sums of a forest are put together of what each feeder gives, and so the same forests have the same sums
+-- the sums of a forest are put together of what each feeder gives
+put-together : (card : Card) (up others : Feeders) → sumsOf (more card up others) ≡ gives card (sumsOf up) ⊕ sumsOf others
+unfolding fed flowOf massOf deepest demandSum demandAtHead oxygenSum oxygenAtHead oxygenAt criticalOxygen usedBy
+put-together card up others = rw or-assoc
+
+two-together : (c d : Card) (up up′ others : Feeders) → sumsOf (more c up (more d up′ others)) ≡ gives c (sumsOf up) ⊕ gives d (sumsOf up′) ⊕ sumsOf others
+two-together c d up up′ others =
+    put-together c up (more d up′ others) ∙ ap (λ (s : Sums). gives c (sumsOf up) ⊕ s) (put-together d up′ others)
+
+-- and so the same forests have the same sums
 same-sums : {f g : Feeders} → SameForest f g → sumsOf f ≡ sumsOf g
-unfolding fed flowOf massOf deepest demandSum demandAtHead oxygenSum
 same-sums bare = refl
-same-sums (alike {d} {up} card forest others) =
-    ap₂ _⊕_ (outlet-aside (λ c. gives c (sumsOf up)) (gives-any-outlet (sumsOf up)) card ∙ ap (gives d) (same-sums forest)) (same-sums others)
+same-sums (alike {c} {d} {up} {up′} {others} {others′} card forest rest) =
+    put-together c up others ∙
+    ap₂ _⊕_ (outlet-aside (λ c. gives c (sumsOf up)) (gives-any-outlet (sumsOf up)) card ∙ ap (gives d) (same-sums forest)) (same-sums rest) ∙
+    sym (put-together d up′ others′)
 same-sums (exchanged {c} {d} {up} {up′} {others}) =
-    any-order (gives c (sumsOf up)) (gives d (sumsOf up′)) (sumsOf others)
+    two-together c d up up′ others ∙ any-order (gives c (sumsOf up)) (gives d (sumsOf up′)) (sumsOf others) ∙ sym (two-together d c up′ up others)
 same-sums (chained p q) = same-sums p ∙ same-sums q
 
 -- THEOREM: reaches with the same card and the same forest above them, outlets and the order of feeders aside, have the same figures
@@ -146,16 +161,17 @@ numbered-anew a b c d e =
 
 -- ---- rivers that agree at the same numbers
 
+-- what lies above a reach lies above the one that it flows into
+pub down : {cards : List Card} {j k i : ℕ} → LiesAbove cards j k → (getD cards k blank) .outlet ≡ suc i → LiesAbove cards j i
+down (feeds p) q = through p (feeds q)
+down (through p l) q = through p (down l q)
+
 -- the reach at place k flows into the one at place i: agreement passes on to what lies above it
 passes-on : {here there : List Card} {k i : ℕ} → (getD here k blank) .outlet ≡ suc i → (getD there k blank) .outlet ≡ suc i → SameCard here there k → Agree here there i → Agree here there k
-passes-on {here} {there} {k} {i} e f same a = record { own = same; above-here = λ j l. a .above-here j (down l e); above-there = λ j l. a .above-there j (down l f) }
-  where
-    down : {cards : List Card} {j : ℕ} → LiesAbove cards j k → (getD cards k blank) .outlet ≡ suc i → LiesAbove cards j i
-    down (feeds p) q = through p (feeds q)
-    down (through p l) q = through p (down l q)
+passes-on e f same a = record { own = same; above-here = λ j l. a .above-here j (down l e); above-there = λ j l. a .above-there j (down l f) }
 
 -- the test for an outlet, as a fact
-flows-into : (cards : List Card) (n i : ℕ) → eqb ((getD cards n blank) .outlet) (suc i) ≡ true → (getD cards n blank) .outlet ≡ suc i
+pub flows-into : (cards : List Card) (n i : ℕ) → eqb ((getD cards n blank) .outlet) (suc i) ≡ true → (getD cards n blank) .outlet ≡ suc i
 flows-into cards n i e = eqb→eq ((getD cards n blank) .outlet) (suc i) (subst T (sym e) tt)
 
 -- one card does not have two outlets

@@ -1,15 +1,16 @@
--- Mean oxygen: what makes the exact one the mean of the oxygen formula, the ranges and ties of the program's, and that it is near the exact one.
-use mathlib.Core.Path.{_≡_, refl}
-use mathlib.Core.Bool.{Bool, true, false}
+-- Mean oxygen: what makes the exact one the mean of the oxygen formula, the ranges and ties of the program's as it is reported, and that it is near the
+-- exact one at status 0 and 1.
+use mathlib.Core.Path.{_≡_, refl, _∙_}
+use mathlib.Core.Bool.{Bool, true, false, cond}
 use mathlib.Core.List.{List}
 use Prim.Native.Nat.{ℕ, suc, _*_, _≤_, _<_}
 use native.Mathlib.Nat.{mul-zero}
 use native.Mathlib.Omega.{arith}
 use borrow.Author.Tests.{eqb-true, eqb-false, eq-eqb, ne-eqb}
 use lib.Dec.{eqb}
-use lib.IntN.{pos, negsuc}
+use lib.IntN.{ℤ, pos, negsuc}
 use lib.ListN.{length}
-use lib.Signed.{_≤ℤ_}
+use lib.Signed.{_≤ℤ_, leZ-yes}
 use Rattle.decay.specs.Fraction.{ofℕ, ofℤ, _≈_, _≼_, distance}
 use Rattle.decay.specs.Integral.{meanOf, allTerms, meanS, meanF}
 use Rattle.decay.specs.Mean.{meanFactorsOf}
@@ -23,12 +24,13 @@ use Rattle.river.specs.declared.source.Demand.the-variants.{Bod, Nitrogenous}
 use Rattle.river.specs.Source.{rateOf}
 use Rattle.river.specs.Flow.{Feeders, reachFlow, reachDepth, cardOf, above}
 use Rattle.report.specs.Bed.{bedOf, lossWith}
-use Rattle.report.specs.Program.{unitParts, demandAtHead, oxygenAtHead}
+use Rattle.report.specs.Program.{unitParts, demandAtHead, oxygenAtHead, criticalOxygen, usedAbove, statusOf}
 use Rattle.report.specs.Recurrence.{exactTurnedAlong, exactLoss, exactOxygenAlong, exactOxygenAtHead, exactOxygenAt}
 use Rattle.report.specs.Ties.{NoChange}
 use Rattle.report.specs.Distance.{stepUnits, allowanceAt, broughtAllowance, waterAllowance}
 use Rattle.report.specs.ExactMean.{exactMeanOxygenAlong, oxygenTermsAt, exactMeanOxygen, IsMean}
-use Rattle.report.specs.Mean.{middle, factorsMean, turnedMean, meanAlong, meanOxygen, meanAt}
+use Rattle.report.specs.Mean.{middle, factorsMean, turnedMean, meanAlong, meanOxygen, meanAt, countedVolumeAt}
+use Rattle.report.proofs.Statuses.{status-two, not-above}
 use Rattle.report.proofs.Forest.{AcceptedReach, AllAccepted, rates-pass, reach-shallow}
 use Rattle.report.proofs.Ties.{reach-step-sound, reach-mean-sound, reach-mean-stays}
 use Rattle.report.proofs.Facts.Formula.{lossBy, oxygen-is, value-linear, mean-linear}
@@ -98,6 +100,13 @@ mean-is-near N long {units} covers {card} {up} own above shallow head = by-volum
         within-by (≈-refl _) (≈-trans (exact-along N card up (eqb-false (card .volume) 0 e)) (oxygen-is (mean-linear N (omega arith)) N card Q _ _ _ _ _ _ (≈-refl _) (≈-refl _) (≈-refl _)))
         (oxygen-within (along-is-near N long covers own above shallow head bod (mean-factors long Nitrogenous own) (record { near = mean-demand-accuracy (unitParts * Ln) (nitrogenous-few own above shallow) long (rates-pass own Nitrogenous) .near }) (lossWith f (bedOf card Q) middle) loss))
 
+-- ---- as it is reported
+
+-- 0 is in the range of all oxygen
+in-range : (used : Bool) {z : ℤ} → (negsuc 1_640_000_383 ≤ℤ z) × (z ≤ℤ pos 20_000_128) → (negsuc 1_640_000_383 ≤ℤ cond used (pos 0) z) × (cond used (pos 0) z ≤ℤ pos 20_000_128)
+in-range true h = (leZ-yes tt, leZ-yes tt)
+in-range false h = h
+
 module _ {cards : List Card} (river : IsRiver cards) (i : ℕ) (l : i < length cards) where
   abbrev here : AcceptedReach (cardOf cards (suc i)) (above cards (suc i))
   here = own river i l
@@ -105,22 +114,40 @@ module _ {cards : List Card} (river : IsRiver cards) (i : ℕ) (l : i < length c
   abbrev upstream : AllAccepted (above cards (suc i))
   upstream = water river i l
 
-  -- THEOREM: mean oxygen of every reach of an accepted river lies within the distance allowed, which is that by depth
-  pub mean-within-allowance : (N : ℕ) → 40 ≤ N → distance (ofℤ (meanAt cards (suc i))) (exactMeanOxygen N (cardOf cards (suc i)) (above cards (suc i))) ≼ allowanceAt cards (suc i)
-  mean-within-allowance N long =
-      let covers = units-cover cards in
-      let shallow = reach-shallow cards (river .lawful) (river .flows) i l in
-      let head = head-is-near N long covers here upstream (feet-are-near N long covers upstream (omega arith)) in
-      within→distance (within-weaken (mean-is-near N long covers here upstream shallow head) (water-by-depth (stepUnits cards) here upstream))
+  module _ (status : statusOf (cardOf cards (suc i)) (above cards (suc i)) ≤ 1) where
+    as-it-is : meanAt cards (suc i) ≡ meanOxygen (cardOf cards (suc i)) (above cards (suc i))
+    unfolding statusOf
+    as-it-is =
+        rw (not-above (usedAbove (above cards (suc i))) (criticalOxygen (cardOf cards (suc i)) (above cards (suc i))) status)
 
-  -- THEOREM: oxygen that does not change has its head value for its mean
-  pub mean-tied : NoChange (cardOf cards (suc i)) → meanAt cards (suc i) ≡ oxygenAtHead (cardOf cards (suc i)) (above cards (suc i))
-  mean-tied h =
-      let card = cardOf cards (suc i) in
-      reach-mean-stays here (no-decay card h) (no-aeration card h) (no-demand card h)
+    -- THEOREM: its whole volume counts
+    pub volume-counts : countedVolumeAt cards (suc i) ≡ cardOf cards (suc i) .volume
+    unfolding statusOf
+    volume-counts =
+        rw (not-above (usedAbove (above cards (suc i))) (criticalOxygen (cardOf cards (suc i)) (above cards (suc i))) status)
 
-  -- THEOREM: mean oxygen is in the range of all oxygen
+    -- THEOREM: the mean of every reach of status 0 or 1 of an accepted river lies within the distance allowed, which is that by depth
+    pub mean-within-allowance : (N : ℕ) → 40 ≤ N → distance (ofℤ (meanAt cards (suc i))) (exactMeanOxygen N (cardOf cards (suc i)) (above cards (suc i))) ≼ allowanceAt cards (suc i)
+    mean-within-allowance N long =
+        let covers = units-cover cards in
+        let shallow = reach-shallow cards (river .lawful) (river .flows) i l in
+        let head = head-is-near N long covers here upstream (feet-are-near N long covers upstream (omega arith)) in
+        rw as-it-is (within→distance (within-weaken (mean-is-near N long covers here upstream shallow head) (water-by-depth (stepUnits cards) here upstream)))
+
+    -- THEOREM: oxygen that does not change has its head value for its mean there
+    pub mean-tied : NoChange (cardOf cards (suc i)) → meanAt cards (suc i) ≡ oxygenAtHead (cardOf cards (suc i)) (above cards (suc i))
+    mean-tied h =
+        let card = cardOf cards (suc i) in
+        as-it-is ∙ reach-mean-stays here (no-decay card h) (no-aeration card h) (no-demand card h)
+
+  -- THEOREM: a reach of status 2 has mean 0, and its volume does not count
+  pub mean-blank : statusOf (cardOf cards (suc i)) (above cards (suc i)) ≡ 2 → (meanAt cards (suc i) ≡ pos 0) × (countedVolumeAt cards (suc i) ≡ 0)
+  unfolding statusOf
+  mean-blank h =
+      rw (status-two (usedAbove (above cards (suc i))) (criticalOxygen (cardOf cards (suc i)) (above cards (suc i))) .0 h) (refl, refl)
+
+  -- THEOREM: at every status it is in the range of all oxygen
   pub mean-in-range : (negsuc 1_640_000_383 ≤ℤ meanAt cards (suc i)) × (meanAt cards (suc i) ≤ℤ pos 20_000_128)
   mean-in-range =
       let range = mean-oxygen-range here upstream (reach-shallow cards (river .lawful) (river .flows) i l) in
-      (range .oxygen-low, range .oxygen-high)
+      in-range (usedAbove (above cards (suc i))) (range .oxygen-low, range .oxygen-high)

@@ -20,6 +20,7 @@ use Rattle.river.specs.Saturation.{saturation, saturationThousandths, saturatio
 use Rattle.river.specs.Head.{floor, upstreamDemand, upstreamOxygen, belowDam, headDemand, headOxygen}
 use Rattle.report.specs.Bed.{bedBy, bedOf, lossWith}
 use Rattle.report.specs.Program.{oxygenWith, unitParts, factorsAlong, partsAlong, lossAlong, turnedAlong, oxygenAlong, demandSum, oxygenSum, demandAtHead, oxygenAtHead, oxygenAt}
+use Rattle.report.specs.Status.{usedBy}
 use Rattle.report.specs.Record.{nitrifies, isNitrified, hasNitrification}
 use Rattle.report.specs.Recurrence.{exactSaturation, exactMean, exactBelowDam, exactMixedDemand, exactMixedOxygen, exactHeadDemand, exactHeadOxygen, exactDemandSum, exactOxygenSum, exactDemandAtHead, exactOxygenAtHead}
 use Rattle.report.specs.Distance.{isGiven, hasBed, stepUnits, allowanceAt}
@@ -101,6 +102,7 @@ by-sums = refl
 
 -- THEOREM: the program's mean of the reach
 pub own-mean : meanAt two 1 ≡ pos 12_009_589
+unfolding feedersAmong usedBy
 own-mean = mean-by-sums (cardOf two 1) (above two 1) ∙ by-sums
 
 -- the exact mean lies further from that of the values than the distance allowed, rounded down or not, and within a unit of the program's

@@ -2,7 +2,7 @@
 use mathlib.Core.Path.{_≡_, refl, sym, ap, ap₂, _∙_, subst}
 use mathlib.Core.List.{List, _++_}
 use Prim.Native.Nat.{ℕ, zero, suc, _*_, _≤_, _<_}
-use native.Mathlib.Nat.{div-add-mod', le-refl, le-trans, mul-le-mul-right, suc-mul}
+use native.Mathlib.Nat.{div-add-mod', le-refl, le-trans, mul-le-mul-right}
 use native.Mathlib.Omega.{arith}
 use borrow.Author.Tests.{lt-ltb, le-ltb, le-leb, lt-leb, leb-true, ltb-true}
 use lib.IntN.{ℤ, pos, _+ℤ_, _*ℤ_}
@@ -15,40 +15,39 @@ use Rattle.river.specs.declared.accept.Acceptance.{Acceptance}
 use Rattle.river.specs.Bytes.{AreBytes, fourBytes, fourAt}
 use Rattle.river.specs.Card.{cardList}
 use Rattle.river.specs.Refusal.{Answer, accepted, refused, refuse, after as then, codeOf, outcomeOf}
-use Rattle.river.specs.Flow.{cardOf, above, Flows}
+use Rattle.river.specs.Flow.{cardOf, above}
 use Rattle.river.specs.Card.{Lawful}
-use Rattle.river.specs.Stored.{oxygenOf, storedLimit}
+use Rattle.river.specs.Stored.{oxygenOf}
 use Rattle.river.specs.Accept.{Accepts, acceptFile}
 use Rattle.river.proofs.Acceptance.{accepts-exactly}
 use Rattle.river.proofs.Answers.{never, passed, went, need-true, need-false, after-accepted, after-refused}
 use Rattle.report.specs.Record.{complement, fromComplement}
-use Rattle.report.specs.Report.{resultOf}
+use Rattle.report.specs.Report.{firstRows, resultOf}
 use Rattle.report.specs.Distance.{allowanceAt}
 use Rattle.report.specs.ExactMean.{exactMeanOxygen}
-use Rattle.report.specs.Program.{oxygenAtHead}
-use Rattle.report.specs.Mean.{meanAt, volumeAt, totalVolume, weightedSum, dividedBy, riverMean, meanBytes, meanRow, meansOf, meansSize, meanRoomAnswer, meanAnswer, bufferAveraged, meaningOf, Weighted, Averages, Averaged, meanRead, Means, volumeSum}
-use Rattle.report.specs.MeanLines.{volumeLimit, sumLimit, Weighs, Divisible, quotientOf}
+use Rattle.report.specs.Mean.{meanAt, countedVolumeAt, countedVolume, weightedSum, riverMean, meanBytes, meanRow, meansOf, meansSize, meanRoomAnswer, meanAnswer, bufferAveraged, meaningOf, Weighted, Averages, Averaged, meanRead, Means}
+use Rattle.report.specs.MeanLines.{volumeLimit, Weighs, Divisible, quotientOf, MeansTabled, AllAveraged, storedRow}
 use Rattle.report.specs.declared.mean.RiverMean.{RiverMean}
 use Rattle.report.specs.declared.mean.RiverMean.the-variants.{Refused, Weighed}
+use Rattle.report.specs.declared.mean.MeanTable.{MeanTable}
 use Rattle.report.specs.declared.mean.Weights.{Weights}
 use Rattle.report.specs.declared.mean.Quotient.{Quotient}
-use Rattle.report.proofs.Forest.{reach-accepted}
 use Rattle.report.proofs.River.{IsRiver, river-of-file}
-use Rattle.report.proofs.MeanOxygen.{is-mean, mean-within-allowance, mean-tied, mean-in-range}
+use Rattle.report.proofs.MeanOxygen.{is-mean, mean-within-allowance, mean-tied, mean-blank, volume-counts, mean-in-range}
 use Rattle.report.proofs.Entry.{complement-in-range, file-accepted}
 use Rattle.report.proofs.Entry.Numbers.{Numbered, read-refusal, means-numbered}
-use Rattle.report.proofs.record.Rows.{Begins, stands}
+use Rattle.report.proofs.record.Rows.{Begins, stands, same-rows}
 use Rattle.report.proofs.mean.Weighing.{stored-quotient, divided-back, rest-below}
 
 -- ---- the answer for a file
 
--- an accepted river with volume whose means the buffer can hold is what the call answers
+-- an accepted river with volume of status 0 or 1 whose means the buffer can hold is what the call answers
 pub averaged : (file : List ℕ) {room : ℕ} (river : Averaged file room) → meanAnswer file room ≡ accepted (river .cards)
 unfolding meanAnswer meanRoomAnswer
 averaged file {room} river =
     after-accepted (acceptFile file) _ (river .passes)
     ∙ need-true _ 12 0 _ (le-leb (meansSize (river .cards)) room (river .holds))
-    ∙ need-true _ 16 0 _ (lt-ltb 0 (totalVolume (river .cards)) (river .volume))
+    ∙ need-true _ 16 0 _ (lt-ltb 0 (countedVolume (river .cards)) (river .volume))
 
 answered : (file : List ℕ) (room : ℕ) (x : Answer (List Card)) → meanAnswer file room ≡ x → Numbered x → resultOf x ≡ 0 → Averaged file room
 unfolding meanAnswer meanRoomAnswer resultOf
@@ -70,14 +69,14 @@ module _ {file : List ℕ} {r : Acceptance} (h : Accepts file r) where
     unfolding meanAnswer meanRoomAnswer
     means-short l = after-accepted (acceptFile file) _ (file-accepted h ok) ∙ need-false _ 12 0 _ (lt-leb (meansSize (cardList (r .cards))) room l)
 
-    pub means-empty : meansSize (cardList (r .cards)) ≤ room → totalVolume (cardList (r .cards)) ≡ 0 → meanAnswer file room ≡ refused (refuse 16 0)
+    pub means-empty : meansSize (cardList (r .cards)) ≤ room → countedVolume (cardList (r .cards)) ≡ 0 → meanAnswer file room ≡ refused (refuse 16 0)
     unfolding meanAnswer meanRoomAnswer
     means-empty l z =
         after-accepted (acceptFile file) _ (file-accepted h ok)
         ∙ need-true _ 12 0 _ (le-leb (meansSize (cardList (r .cards))) room l)
-        ∙ need-false _ 16 0 _ (le-ltb 0 (totalVolume (cardList (r .cards))) (omega arith))
+        ∙ need-false _ 16 0 _ (le-ltb 0 (countedVolume (cardList (r .cards))) (omega arith))
 
-    pub means-held : meansSize (cardList (r .cards)) ≤ room → 0 < totalVolume (cardList (r .cards)) → meanAnswer file room ≡ accepted (cardList (r .cards))
+    pub means-held : meansSize (cardList (r .cards)) ≤ room → 0 < countedVolume (cardList (r .cards)) → meanAnswer file room ≡ accepted (cardList (r .cards))
     means-held l v = averaged file (record { cards = cardList (r .cards); passes = file-accepted h ok; holds = l; volume = v })
 
 -- ---- the call
@@ -91,40 +90,38 @@ averages-refusal {file} {before} e s =
       buffer = sym (ap (λ (a : Answer (List Card)). bufferAveraged a before) e);
     }
 
--- the volumes of an accepted river are few
-volumes-few : (cards : List Card) → Lawful cards → Flows cards → (n : ℕ) → n ≤ length cards → volumeSum (λ i. volumeAt cards (suc i)) n ≤ n * volumeLimit
-unfolding volumeSum
-volumes-few cards lawful flows zero l = omega arith
-volumes-few cards lawful flows (suc n) l =
-    omega (arith, volumes-few cards lawful flows n (omega arith), reach-accepted cards lawful flows n l .fields .volume, suc-mul n volumeLimit)
-
-pub divisible : {cards : List Card} {w : Weights} → Lawful cards → Flows cards → Weighs cards (length cards) w → 0 < totalVolume cards → Divisible w (totalVolume cards)
-divisible {cards} lawful flows h v =
-    let few : length cards ≤ 128 = lawful .few in
+-- the sums of a river with volume that counts can be divided
+pub divisible : {cards : List Card} {w : Weights} → Lawful cards → Weighs cards (length cards) w → 0 < w .volume → Divisible w
+divisible lawful h v =
     record {
       some = v;
-      volume-range = le-trans (volumes-few cards lawful flows (length cards) (omega arith)) (mul-le-mul-right volumeLimit few);
-      low = le-trans (h .low) (mul-le-mul-right (65_535 * volumeLimit) few);
-      fits = h .fits;
+      volume-range = le-trans (h .few) (mul-le-mul-right volumeLimit (lawful .few));
+      low = le-trans (h .low) (mul-le-mul-right (65_535 * volumeLimit) (lawful .few));
+      fits = rw (h .volume) (h .fits);
     }
+
+-- the bytes of the table of means are those of the means
+tabled-bytes : {cards : List Card} {means : List ℕ} → MeansTabled cards (length cards) means → firstRows (storedRow means) (length cards) ≡ meansOf cards
+tabled-bytes {cards} t = same-rows (length cards) (λ i l. ap (λ (z : ℤ). fourBytes (complement z)) (t .mean i l))
 
 -- the river's mean
 pub averages-river :
-    {file before after : List ℕ} {cards : List Card} {w : Weights} (q : Quotient) →
+    {file before after : List ℕ} {cards : List Card} {count : ℕ} {t : MeanTable} (q : Quotient) →
     meanAnswer file (length before) ≡ accepted cards →
-    after ≡ meansOf cards ++ drop (meansSize cards) before →
-    Weighs cards (length cards) w →
-    0 < totalVolume cards →
-    q ≡ quotientOf w (totalVolume cards) →
+    count ≡ length cards →
+    after ≡ firstRows (storedRow (t .mean)) count ++ drop (meanBytes * count) before →
+    AllAveraged cards t →
+    0 < t .weights .volume →
+    q ≡ quotientOf (t .weights) →
     Averages file before after (Weighed (q .units) (q .remainder))
 unfolding bufferAveraged riverMean
-averages-river {file} {before} {after} {cards} {w} q e b h v is =
+averages-river {file} {before} {after} {cards} {count} {t} q e n b h v is =
     record {
       answer =
           ap (λ (x : Quotient). accepted (record { units = oxygenOf (x .units); remainder = x .remainder })) is
-          ∙ ap accepted (stored-quotient _ (totalVolume cards) v ∙ ap (λ (z : ℤ). dividedBy z (totalVolume cards)) (h .sum))
+          ∙ ap accepted (stored-quotient _ (t .weights .volume) v ∙ rw (h .weighed .volume, h .weighed .sum))
           ∙ sym (after-accepted (meanAnswer file (length before)) _ e);
-      buffer = b ∙ sym (ap (λ (a : Answer (List Card)). bufferAveraged a before) e);
+      buffer = (rw (n, tabled-bytes (h .tabled)) at b) ∙ sym (ap (λ (a : Answer (List Card)). bufferAveraged a before) e);
     }
 
 -- ---- the entry
@@ -152,10 +149,10 @@ module _ (file before : List ℕ) (bytes : AreBytes file) {after : List ℕ} (bu
       ap (λ (x : List ℕ). fromComplement (fourAt x 0)) (s .is) ∙ mean-back (meanAt (river .cards) (suc i)) (s .rest) (complement-in-range _ (r .0) (r .1))
 
   -- so that the means in the bytes weigh what those of the reaches do
-  weighs-read : (n : ℕ) → n ≤ length (river .cards) → weightedSum (λ i. volumeAt (river .cards) (suc i)) (meanRead after) n ≡ weightedSum (λ i. volumeAt (river .cards) (suc i)) (λ i. meanAt (river .cards) (suc i)) n
+  weighs-read : (n : ℕ) → n ≤ length (river .cards) → weightedSum (λ i. countedVolumeAt (river .cards) (suc i)) (meanRead after) n ≡ weightedSum (λ i. countedVolumeAt (river .cards) (suc i)) (λ i. meanAt (river .cards) (suc i)) n
   unfolding weightedSum
   weighs-read zero l = refl
-  weighs-read (suc n) l = ap₂ _+ℤ_ (weighs-read n (omega arith)) (ap (λ (z : ℤ). pos (volumeAt (river .cards) (suc n)) *ℤ z) (mean-read n l))
+  weighs-read (suc n) l = ap₂ _+ℤ_ (weighs-read n (omega arith)) (ap (λ (z : ℤ). pos (countedVolumeAt (river .cards) (suc n)) *ℤ z) (mean-read n l))
 
 -- THEOREM: what the entry returns and leaves behind is all that the river file paper says of mean oxygen, the promised distance included
 pub means-of :
@@ -177,15 +174,20 @@ means-of file before after units₀ units remainder₀ remainder result bytes an
       buffer = buffer;
       untouched = λ h. (buffer ∙ left-alone (meanAnswer file (length before)) before (λ z. h (answer ∙ z)), kept h .0, kept h .1);
       means = λ river i l. mean-read file before bytes buffer river i l;
+      used-up-above =
+          λ river i l s.
+          let blank = mean-blank (is-river file before bytes buffer river) i l s in
+          (mean-read file before bytes buffer river i l ∙ blank .0, blank .1);
+      counted = λ river i l s. volume-counts (is-river file before bytes buffer river) i l s;
       river-mean = told;
       weighted =
           λ river.
-          ap (λ (w : Weighted). w .units *ℤ pos (totalVolume (river .cards)) +ℤ pos (w .remainder)) (told river)
-          ∙ divided-back _ (totalVolume (river .cards)) (river .volume)
+          ap (λ (w : Weighted). w .units *ℤ pos (countedVolume (river .cards)) +ℤ pos (w .remainder)) (told river)
+          ∙ divided-back _ (countedVolume (river .cards)) (river .volume)
           ∙ sym (weighs-read file before bytes buffer river (length (river .cards)) (le-refl _));
-      remains = λ river. subst (λ (w : Weighted). w .remainder < totalVolume (river .cards)) (sym (told river)) (rest-below _ (totalVolume (river .cards)) (river .volume));
-      constant = λ river i l h. mean-read file before bytes buffer river i l ∙ mean-tied (is-river file before bytes buffer river) i l h;
-      within = λ river i l N long. subst (λ (z : ℤ). distance (ofℤ z) (exactMeanOxygen N (cardOf (river .cards) (suc i)) (above (river .cards) (suc i))) ≼ allowanceAt (river .cards) (suc i)) (sym (mean-read file before bytes buffer river i l)) (mean-within-allowance (is-river file before bytes buffer river) i l N long);
+      remains = λ river. subst (λ (w : Weighted). w .remainder < countedVolume (river .cards)) (sym (told river)) (rest-below _ (countedVolume (river .cards)) (river .volume));
+      constant = λ river i l s h. mean-read file before bytes buffer river i l ∙ mean-tied (is-river file before bytes buffer river) i l s h;
+      within = λ river i l s N long. subst (λ (z : ℤ). distance (ofℤ z) (exactMeanOxygen N (cardOf (river .cards) (suc i)) (above (river .cards) (suc i))) ≼ allowanceAt (river .cards) (suc i)) (sym (mean-read file before bytes buffer river i l)) (mean-within-allowance (is-river file before bytes buffer river) i l s N long);
       exact = λ river i l N long. is-mean N (omega arith) _ _;
     }
 

@@ -2,10 +2,10 @@
 -- at N = 40, by computing its exact figures.
 use mathlib.Core.Path.{_≡_, refl}
 use mathlib.Core.List.{List, [], _∷_}
-use Prim.Native.Nat.{ℕ}
-use Rattle.decay.specs.Fraction.{Fraction, _≼_, ofℤ, _+ᶠ_, -ᶠ_, _-ᶠ_, _*ᶠ_, _÷_, over, distance}
+use Prim.Native.Nat.{ℕ, _≤_}
+use Rattle.decay.specs.Fraction.{Fraction, _≼_, ofℤ, _+ᶠ_, -ᶠ_, _-ᶠ_, _*ᶠ_, _÷_, over}
 use Rattle.decay.specs.Exact.{foot, exponent, power, factorial, term, sum, S, F}
-use Rattle.decay.proofs.Algebra.{Nonneg, quote, certify, slack, _⊞_, Within, small, bound-nonneg, within-distance, distance→within, within-sym, within-trans}
+use Rattle.decay.proofs.Algebra.{Within, within-sym, within-trans}
 use Rattle.river.specs.declared.card.Card.{Card}
 use Rattle.river.specs.declared.card.Dam.the-variants.{Absent}
 use Rattle.river.specs.declared.card.Nitrification.the-variants.{Idle}
@@ -25,6 +25,7 @@ use Rattle.river.specs.declared.source.Demand.the-variants.{Bod}
 use Rattle.report.specs.Record.{nitrifies, isNitrified, hasNitrification, Figures}
 use Rattle.report.specs.Recurrence.{exactSaturation, exactMean, exactBelowDam, exactMixedDemand, exactMixedOxygen, exactHeadDemand, exactHeadOxygen, exactDemandAlong, exactTurnedAlong, exactLoss, exactOxygenAlong, exactDemandSum, exactDemandAtHead, exactOxygenAtHead, exactDemandAt, exactOxygenAt}
 use Rattle.report.specs.Distance.{isGiven, hasBed, stepUnits, allowanceAt, WithinAllowance}
+use Rattle.report.proofs.Distances.{first-of-two, last-of-three}
 
 -- the reach of the river file paper's bench values, by outlet and inflow
 abbrev reach : (outlet inflow : ℕ) → Card
@@ -75,26 +76,20 @@ apart : Apart
 unfolding ofℤ _+ᶠ_ -ᶠ_ _*ᶠ_ _÷_ over exponent power factorial term sum S F feedersAmong joinedIf fed flowOf deepest nitrifies isNitrified hasNitrification isGiven hasBed stepUnits saturationThousandths exactSaturation exactMean exactBelowDam exactMixedDemand exactMixedOxygen exactHeadDemand exactHeadOxygen exactDemandAlong exactTurnedAlong exactLoss exactOxygenAlong exactDemandSum exactDemandAtHead exactOxygenAtHead exactDemandAt exactOxygenAt
 apart = record { head-foot-bod = λ h. h .across .le; head-foot-oxygen = λ h. h .across .le; heads = λ h. h .across .le }
 
--- of three distances that together are at most e, the first and the last are
-each : {a b c d e : Fraction} (n m : Fraction) → distance a b +ᶠ distance n m +ᶠ distance c d ≼ e → Within a b e × Within c d e
-each {a} {b} {c} {d} {e} n m h =
-    (distance→within (certify (distance a b ∷ distance n m ∷ distance c d ∷ e ∷ []) (slack h ⊞ other n m ⊞ other c d) (search quote depth 40 fits 9999) tt), distance→within (certify (distance a b ∷ distance n m ∷ distance c d ∷ e ∷ []) (slack h ⊞ other n m ⊞ other a b) (search quote depth 40 fits 9999) tt))
-  where
-    other : (x y : Fraction) → Nonneg (distance x y)
-    other x y = bound-nonneg (small (within-distance x y))
-
 -- values that are near one figure are no further apart than the allowances together
 between : {x a b e f : Fraction} → Within x a e → Within x b f → a -ᶠ b ≼ e +ᶠ f
 between v w = within-trans (within-sym v) w .high
 
 -- THEOREM: no report that copies head BOD to the foot is within the allowance
 pub copied-bod : (f : Figures) → f .foot-bod ≡ f .head-bod → NearReach 1 f → ⊥
-copied-bod f e w = apart .head-foot-bod (between (each _ _ (w .at-head) .0) (rw e at (each _ _ (w .at-foot) .0)))
+copied-bod f e w = apart .head-foot-bod (between (first-of-two _ _ (w .demands-at-head)) (rw e at (first-of-two _ _ (w .demands-at-foot))))
 
--- THEOREM: none that copies head oxygen to the foot
-pub copied-oxygen : (f : Figures) → f .foot-oxygen ≡ f .head-oxygen → NearReach 1 f → ⊥
-copied-oxygen f e w = apart .head-foot-oxygen (between (each _ _ (w .at-head) .1) (rw e at (each _ _ (w .at-foot) .1)))
+-- THEOREM: none of status 0 or 1 that copies head oxygen to the foot
+pub copied-oxygen : (f : Figures) → f .status ≤ 1 → f .foot-oxygen ≡ f .head-oxygen → NearReach 1 f → ⊥
+copied-oxygen f s e w =
+    let o = w .oxygen s in
+    apart .head-foot-oxygen (between (last-of-three _ _ _ _ (o .at-head)) (rw e at (last-of-three _ _ _ _ (o .at-foot))))
 
 -- THEOREM: none that works the first reach and repeats it
 pub repeated : (f : Figures) → NearReach 1 f → NearReach 2 f → ⊥
-repeated f v w = apart .heads (between (each _ _ (v .at-head) .0) (each _ _ (w .at-head) .0))
+repeated f v w = apart .heads (between (first-of-two _ _ (v .demands-at-head)) (first-of-two _ _ (w .demands-at-head)))

@@ -1,4 +1,4 @@
--- Locality: a record depends only on its reach, the reaches above it and the rate factors, and its size on whether its river has nitrification.
+-- Locality: a record, its status included, depends only on its reach, the reaches above it and the rate factors, and its size on whether its river has nitrification.
 use mathlib.Core.Path.{_≡_, sym, ap, ap₂, _∙_}
 use mathlib.Core.List.{List, map}
 use Prim.Native.Nat.{ℕ, suc, _<_}
@@ -9,7 +9,8 @@ use Rattle.river.specs.Refusal.{accepted}
 use Rattle.river.specs.River.{River}
 use Rattle.river.specs.Rates.{cardInForce}
 use Rattle.river.specs.Read.{readFile}
-use Rattle.report.specs.Program.{figuresAt}
+use Rattle.report.specs.Status.{reported}
+use Rattle.report.specs.Program.{reportedAt}
 use Rattle.report.specs.Record.{hasNitrification, plainBytes, encodePlain, encodeRecord, recordSize}
 use Rattle.report.specs.Locality.{SameReach, Agree}
 use Rattle.report.specs.Report.{recordOf, bytesRead, Accepted, Reports}
@@ -24,7 +25,7 @@ module _ {file before after : List ℕ} {result : ℕ} (call : Reports file befo
   pub record-bytes : bytesRead (river .cards) after i ≡ recordOf (river .cards) i
   record-bytes =
       let s = record-stands file before (call .buffer) river i l in
-      ap (take (recordSize (river .cards))) (s .is) ∙ take-at (recordOf (river .cards) i) (s .rest) (recordSize (river .cards)) (record-length (hasNitrification (river .cards)) (figuresAt (river .cards) (suc i)))
+      ap (take (recordSize (river .cards))) (s .is) ∙ take-at (recordOf (river .cards) i) (s .rest) (recordSize (river .cards)) (record-length (hasNitrification (river .cards)) (reportedAt (river .cards) (suc i)))
 
 -- two calls, and reaches with the same card and the same forest above them, outlets and the order of feeders aside
 module _
@@ -33,18 +34,21 @@ module _
     (here : Accepted file (length before)) (there : Accepted file′ (length before′))
     (l : i < length (here .cards)) (l′ : j < length (there .cards))
     (same : SameReach (here .cards) i (there .cards) j) where
+  same-reported : reportedAt (here .cards) (suc i) ≡ reportedAt (there .cards) (suc j)
+  same-reported = ap reported (same-figures (same .card) (same .forest))
+
   -- THEOREM: the bytes of the reaches are the same, if both rivers have nitrification or neither has
   pub same-record-anew : hasNitrification (here .cards) ≡ hasNitrification (there .cards) → bytesRead (here .cards) after i ≡ bytesRead (there .cards) after′ j
   same-record-anew alike =
-      record-bytes call here i l ∙ ap₂ encodeRecord alike (same-figures (same .card) (same .forest)) ∙ sym (record-bytes call′ there j l′)
+      record-bytes call here i l ∙ ap₂ encodeRecord alike same-reported ∙ sym (record-bytes call′ there j l′)
 
   -- THEOREM: and those of their `RP` records are the same in any case
   pub same-plain-anew : take plainBytes (bytesRead (here .cards) after i) ≡ take plainBytes (bytesRead (there .cards) after′ j)
   same-plain-anew =
       ap (take plainBytes) (record-bytes call here i l)
-      ∙ plain-first (hasNitrification (here .cards)) (figuresAt (here .cards) (suc i))
-      ∙ ap encodePlain (same-figures (same .card) (same .forest))
-      ∙ sym (ap (take plainBytes) (record-bytes call′ there j l′) ∙ plain-first (hasNitrification (there .cards)) (figuresAt (there .cards) (suc j)))
+      ∙ plain-first (hasNitrification (here .cards)) (reportedAt (here .cards) (suc i))
+      ∙ ap encodePlain same-reported
+      ∙ sym (ap (take plainBytes) (record-bytes call′ there j l′) ∙ plain-first (hasNitrification (there .cards)) (reportedAt (there .cards) (suc j)))
 
 -- THEOREM: in particular where the rivers agree on a reach and on the reaches above it
 pub same-record :

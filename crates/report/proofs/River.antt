@@ -5,9 +5,10 @@ use mathlib.Core.Logic.{_⊎_, inl, inr}
 use mathlib.Core.List.{List}
 use Prim.Native.Nat.{ℕ, suc, _*_, _≤_, _<_, zero-le}
 use native.Mathlib.Nat.{le-of-lt, le-refl, zero-mul, mul-zero}
+use native.Mathlib.Omega.{arith}
 use lib.ListN.{length}
-use lib.IntN.{ℤ}
-use lib.Signed.{_≤ℤ_}
+use lib.IntN.{ℤ, pos}
+use lib.Signed.{_≤ℤ_, _<ℤ_}
 use Rattle.river.specs.declared.card.Card.{Card}
 use Rattle.river.specs.Bytes.{AreBytes}
 use Rattle.river.specs.Card.{Lawful}
@@ -22,13 +23,16 @@ use Rattle.river.specs.Flow.{cardOf, above, sludgeOf, Flows, flowCheck}
 use Rattle.river.proofs.Answers.{after-accepted}
 use Rattle.river.proofs.flow.FlowCheck.{flows-of-accepted, accepted-of-flows}
 use Rattle.river.proofs.Acceptance.{accepts-exactly, accepted-lawful}
-use Rattle.report.specs.Program.{oxygenAtHead, demandAt, oxygenAt, figuresAt, figuresOf, lowest, foot}
+use Rattle.report.specs.Program.{oxygenAtHead, demandAt, oxygenAt, usedAbove, figuresAt, figuresOf, reportedAt, lowest, foot}
 use Rattle.report.specs.Distance.{allowanceAt, WithinAllowance}
-use Rattle.report.specs.Ties.{NoDecay, NoChange, headFigure, footFigure, Tied}
+use Rattle.report.specs.Record.{Figures}
+use Rattle.report.specs.Ties.{NoDecay, NoChange, headFigure, footFigure, OxygenTied, Tied}
 use Rattle.report.proofs.Forest.{AcceptedReach, AllAccepted, reach-accepted, above-accepted, reach-shallow}
 use Rattle.report.proofs.Bounds.{demandsAtHead, demandsAt, Range, head-range, instant-range}
 use Rattle.report.proofs.Ties.{demand-at-most-head, reach-demand-stays, reach-oxygen-stays, oxygen-at-head}
 use Rattle.report.proofs.Lowest.{lowest-first}
+use Rattle.report.proofs.Statuses.{reported-same, reported-blank, status-at-most, status-zero, status-one}
+use Rattle.report.proofs.Distances.{without-last}
 use Rattle.report.proofs.Demand3.{demand-3}
 use Rattle.river.specs.Accept.{acceptFile}
 
@@ -83,28 +87,26 @@ module _ {cards : List Card} (river : IsRiver cards) (i : ℕ) (l : i < length c
   pub instant-in-range : (m : ℕ) → m ≤ foot → Range (demandsAt (cardOf cards (suc i)) (above cards (suc i)) m) (oxygenAt (cardOf cards (suc i)) (above cards (suc i)) m)
   instant-in-range m h = instant-range own water (reach-shallow cards (river .lawful) (river .flows) i l) m h
 
-  -- each demand at the foot
-  falls : (d : Demand) → footFigure d (figuresAt cards (suc i)) ≤ headFigure d (figuresAt cards (suc i))
+  -- each demand at the foot, as it is reported
+  pub falls : (d : Demand) → footFigure d (reportedAt cards (suc i)) ≤ headFigure d (reportedAt cards (suc i))
   unfolding figuresOf demandAt
   falls Bod = demand-at-most-head own Bod foot
   falls Nitrogenous = demand-at-most-head own Nitrogenous foot
 
-  kept : (d : Demand) → NoDecay d (cardOf cards (suc i)) → footFigure d (figuresAt cards (suc i)) ≡ headFigure d (figuresAt cards (suc i))
+  kept : (d : Demand) → NoDecay d (cardOf cards (suc i)) → footFigure d (reportedAt cards (suc i)) ≡ headFigure d (reportedAt cards (suc i))
   unfolding figuresOf demandAt
   kept Bod h = reach-demand-stays own Bod (no-rate h) foot
   kept Nitrogenous h = reach-demand-stays own Nitrogenous (no-rate h) foot
 
-  -- the ties and the critical point
-  pub reach-tied : Tied (cardOf cards (suc i)) (oxygenAt (cardOf cards (suc i)) (above cards (suc i))) (figuresAt cards (suc i))
-  unfolding figuresOf demandAt oxygenAt
-  reach-tied =
+  -- the ties of oxygen and the critical point, at every status
+  oxygen-tied : OxygenTied (cardOf cards (suc i)) (oxygenAt (cardOf cards (suc i)) (above cards (suc i))) (figuresAt cards (suc i))
+  unfolding figuresOf oxygenAt
+  oxygen-tied =
       let card = cardOf cards (suc i) in
       let up = above cards (suc i) in
       let c = lowest-first (oxygenAt card up) foot in
       let head = oxygen-at-head card up in
       record {
-        foot-demand = falls;
-        demand-kept = kept;
         oxygen-kept = λ h m l. reach-oxygen-stays own (no-decay card h) (no-aeration card h) (no-demand card h) m;
         at-head = head;
         at-foot = refl;
@@ -113,6 +115,28 @@ module _ {cards : List Card} (river : IsRiver cards) (i : ℕ) (l : i < length c
         at-most-foot = c .least foot (le-refl foot);
       }
 
+  -- the ties, the critical point and the status of what is reported
+  pub reach-tied : Tied (cardOf cards (suc i)) (oxygenAt (cardOf cards (suc i)) (above cards (suc i))) (reportedAt cards (suc i))
+  unfolding figuresOf
+  reach-tied =
+      let f = figuresAt cards (suc i) in
+      let used = usedAbove (above cards (suc i)) in
+      record {
+        demands = record { foot-demand = falls; demand-kept = kept };
+        at-most-two = status-at-most used (f .critical-oxygen);
+        ordinary = λ e. subst (λ (g : Figures). pos 0 ≤ℤ g .critical-oxygen) (sym (reported-same f (omega arith))) (status-zero used (f .critical-oxygen) e);
+        used-up = λ e. subst (λ (g : Figures). g .critical-oxygen <ℤ pos 0) (sym (reported-same f (omega arith))) (status-one used (f .critical-oxygen) e);
+        oxygen-tied = λ h. rw (reported-same f h) oxygen-tied;
+        used-up-above = reported-blank f;
+      }
+
   -- demand 3
-  pub reach-within-allowance : (N : ℕ) → 40 ≤ N → WithinAllowance N (cardOf cards (suc i)) (above cards (suc i)) (figuresAt cards (suc i)) (allowanceAt cards (suc i))
-  reach-within-allowance N long = demand-3 N long cards (river .lawful) (river .flows) i l
+  pub reach-within-allowance : (N : ℕ) → 40 ≤ N → WithinAllowance N (cardOf cards (suc i)) (above cards (suc i)) (reportedAt cards (suc i)) (allowanceAt cards (suc i))
+  reach-within-allowance N long =
+      let f = figuresAt cards (suc i) in
+      let w = demand-3 N long cards (river .lawful) (river .flows) i l in
+      record {
+        demands-at-head = without-last _ _ (w .at-head);
+        demands-at-foot = without-last _ _ (w .at-foot);
+        oxygen = λ h. rw (reported-same f h) w;
+      }

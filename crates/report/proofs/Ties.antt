@@ -23,7 +23,8 @@ use Rattle.river.specs.Source.{rateOf}
 use Rattle.river.specs.Saturation.{saturationOf}
 use Rattle.report.specs.Bed.{bedOf, lossLimit, LossInRange}
 use Rattle.report.specs.Mean.{middle, factorsMean, turnedMean, meanAlong, meanOxygen}
-use Rattle.report.specs.Program.{unitParts, oxygenWith, factorsAlong, partsAlong, demandAlong, turnedAlong, lossAlong, oxygenAlong, demandAt, oxygenAt, demandAtHead, oxygenAtHead, figuresOf, foot}
+use Rattle.report.specs.Program.{unitParts, oxygenWith, factorsAlong, partsAlong, demandAlong, turnedAlong, lossAlong, oxygenAlong, demandAt, oxygenAt, demandAtHead, oxygenAtHead, Critical, criticalOxygen, usedAbove, figuresOf, foot}
+use Rattle.report.specs.Status.{statusBy}
 use Rattle.report.proofs.NitrificationRows
 use Rattle.report.proofs.Lowest.{lowest-constant}
 use Rattle.report.proofs.Forest.{AcceptedReach, rates-pass, bed-passes}
@@ -135,6 +136,11 @@ module _ {card : Card} {up : Feeders} (a : AcceptedReach card up) where
         let kept = deficit-stays k m in
         nothing-taken _ (saturationOf card) (demandAtHead Bod card up) (oxygenAtHead card up) (nothing-turned (h Bod) m) kept (nothing-nitrified (h Nitrogenous) m) (tied-loss card (reachFlow card up) _ m kept s)
 
+    -- so that head oxygen is critical
+    pub reach-critical-stays : criticalOxygen card up ≡ oxygenAtHead card up
+    unfolding criticalOxygen
+    reach-critical-stays = ap (λ (c : Critical). c .oxygen) (lowest-constant (oxygenAt card up) (oxygenAtHead card up) foot (λ m l. reach-oxygen-stays m))
+
     -- and on average too
     pub reach-mean-stays : meanOxygen card up ≡ oxygenAtHead card up
     unfolding meanOxygen meanAlong factorsMean turnedMean
@@ -161,6 +167,7 @@ module _ {card : Card} {up : Feeders} (a : AcceptedReach card up) where
           critical-instant = 0;
           critical-oxygen = oxygenAtHead card up;
           foot-oxygen = oxygenAtHead card up;
+          status = statusBy (usedAbove up) (oxygenAtHead card up);
           head-nitrogenous = demandAtHead Nitrogenous card up;
           foot-nitrogenous = demandAtHead Nitrogenous card up;
         }

@@ -36,8 +36,8 @@ allowance units up = ofℕ (units * reachDepth up)
 abbrev pub allowanceAt : List Card → ℕ → Fraction
 allowanceAt cards i = allowance (stepUnits cards) (above cards i)
 
--- the figures of a reach lie within a distance of the exact recurrence
-pub record WithinAllowance (N : ℕ) (card : Card) (up : Feeders) (f : Figures) (allowed : Fraction) : Type 0 where
+-- the figures of a reach, oxygen too, lie within a distance of the exact recurrence
+pub record OxygenWithin (N : ℕ) (card : Card) (up : Feeders) (f : Figures) (allowed : Fraction) : Type 0 where
   -- at the head, the errors of BOD, of nitrogenous BOD and of oxygen, added together
   pub at-head :
       distance (ofℕ (f .head-bod)) (exactDemandAtHead N Bod card up) +ᶠ
@@ -55,6 +55,20 @@ pub record WithinAllowance (N : ℕ) (card : Card) (up : Feeders) (f : Figures) 
   pub at-critical : distance (ofℤ (f .critical-oxygen)) (exactOxygenAt N card up (f .critical-instant)) ≼ allowed
   -- at no instant is exact oxygen lower than critical oxygen by more than the distance
   pub nowhere-lower : (m : ℕ) → m ≤ foot → ofℤ (f .critical-oxygen) -ᶠ allowed ≼ exactOxygenAt N card up m
+
+-- the reported figures of a reach lie within a distance of the exact recurrence: the demands at every status, and oxygen at status 0 and 1
+pub record WithinAllowance (N : ℕ) (card : Card) (up : Feeders) (f : Figures) (allowed : Fraction) : Type 0 where
+  -- at the head and at the foot, the errors of BOD and of nitrogenous BOD, added together
+  pub demands-at-head :
+      distance (ofℕ (f .head-bod)) (exactDemandAtHead N Bod card up) +ᶠ
+      distance (ofℕ (f .head-nitrogenous)) (exactDemandAtHead N Nitrogenous card up) ≼
+      allowed
+  pub demands-at-foot :
+      distance (ofℕ (f .foot-bod)) (exactDemandAt N Bod card up foot) +ᶠ
+      distance (ofℕ (f .foot-nitrogenous)) (exactDemandAt N Nitrogenous card up foot) ≼
+      allowed
+  -- and with the error of oxygen
+  pub oxygen : f .status ≤ 1 → OxygenWithin N card up f allowed
 
 -- How near the exact loss to a bed the program's is: 2 units of rounding, and 2^-31 of the loss in the end, by which the share of the deficit
 -- left may be off. That loss is 1,000,000 × demand / k2, so that a small k2 costs digits: 32.52 units at most at k2 = 1, 8.11 at 5, 2.07 at 500.

@@ -1,4 +1,5 @@
 pub mod Bed
+pub mod Status
 pub mod Program
 pub mod Recurrence
 pub mod ExactMean

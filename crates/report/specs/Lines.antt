@@ -1,6 +1,6 @@
--- What the program holds between the reaches of an accepted river: what the feet of the reaches reported so far bring. A function that
--- reports a reach is handed its card, its flow and depth and what its feeders bring, and no table, which would be copied for each reach; what it
--- promises holds for every river and tables that these may be of.
+-- What the program holds between the reaches of an accepted river: what the feet of the reaches reported so far bring. A function that reports a
+-- reach is handed its card, its flow and depth, what its feeders bring and whether oxygen is used up above, and no table, which would be copied for
+-- each reach; what it promises holds for every river and tables that these may be of.
 use mathlib.Core.Path.{_≡_}
 use mathlib.Core.Bool.{Bool}
 use mathlib.Core.List.{List}
@@ -23,10 +23,12 @@ use Rattle.river.specs.FlowTable.{Tabled}
 use Rattle.river.specs.HeadTable.{demandLimit, footOf, broughtTo, FootWithin, Carried}
 use Rattle.river.specs.Stored.{oxygenOf, storedOf}
 use Rattle.report.specs.Bed.{BedPasses, lossLimit}
-use Rattle.report.specs.Program.{demandAtHead, oxygenAtHead, figuresAt}
+use Rattle.report.specs.Program.{demandAtHead, oxygenAtHead, usedAbove, figuresAt}
+use Rattle.report.specs.Status.{isUsed}
 use Rattle.report.specs.Record.{hasNitrification, Figures, figuresIn, recordSize}
 use Rattle.report.specs.Report.{recordOf}
 use Rattle.report.specs.declared.record.Line.{Line}
+use Rattle.report.specs.declared.lines.HandedOn.{HandedOn}
 
 -- what the figures along a reach ask of its card and flow
 pub record LineReady (card : Card) (flow : ℕ) : Type 0 where
@@ -88,23 +90,29 @@ pub record HeadOfReach (cards : List Card) (i : ℕ) (head : Head) : Type 0 wher
 abbrev pub HeadBy : Card → (flow depth : ℕ) → Brought → Head → Type 0
 HeadBy card flow depth sums head = (here : LineAt card flow depth sums) → HeadOfReach (here .cards) (here .i) head
 
--- for every such river the line is that of this reach
-abbrev pub LineBy : Card → (flow depth : ℕ) → Brought → Line → Type 0
-LineBy card flow depth sums line = (here : LineAt card flow depth sums) → LineOf (here .cards) (here .i) line
+-- whether oxygen is used up above this reach
+abbrev pub UsedAt : {card : Card} {flow depth : ℕ} {sums : Brought} → LineAt card flow depth sums → Bool → Type 0
+UsedAt here used = used ≡ usedAbove (above (here .cards) (suc (here .i)))
 
--- what its record needs too: whether the river has nitrification, and room at a place of a report of some length
-pub record PlacedAt (card : Card) (flow depth : ℕ) (sums : Brought) (nitrified : Bool) (at long : ℕ) : Type 0 where
+-- for every such river the line is that of this reach
+abbrev pub LineBy : Card → (flow depth : ℕ) → Brought → (used : Bool) → Line → Type 0
+LineBy card flow depth sums used line = (here : LineAt card flow depth sums) → UsedAt here used → LineOf (here .cards) (here .i) line
+
+-- what its record needs too: whether oxygen is used up above, whether the river has nitrification, and room at a place of a report of some length
+pub record PlacedAt (card : Card) (flow depth : ℕ) (sums : Brought) (used nitrified : Bool) (at long : ℕ) : Type 0 where
   pub line : LineAt card flow depth sums
+  pub used-above : UsedAt line used
   pub nitrification : nitrified ≡ hasNitrification (line .cards)
   pub room : at + recordSize (line .cards) ≤ long
 
--- what the foot of reach i + 1 brings, and the report with its record at a place
-pub record ReachReported (cards : List Card) (i at : ℕ) (before after : List ℕ) (foot : Brought) : Type 0 where
-  pub brings : foot ≡ footBy (flowAt cards (suc i)) (figuresAt cards (suc i))
-  pub within : FootWithin cards i foot
+-- what the foot of reach i + 1 brings, whether its status is 1 or 2, and the report with its record at a place
+pub record ReachReported (cards : List Card) (i at : ℕ) (before after : List ℕ) (r : HandedOn) : Type 0 where
+  pub brings : r .foot ≡ footBy (flowAt cards (suc i)) (figuresAt cards (suc i))
+  pub within : FootWithin cards i (r .foot)
+  pub used : r .used ≡ isUsed (figuresAt cards (suc i) .status)
   pub report : after ≡ sets before at (recordOf cards i)
 
--- for every such river the call tells the foot and leaves the report so
-abbrev pub ReportedBy : Card → (flow depth : ℕ) → Brought → (nitrified : Bool) (at : ℕ) (before after : List ℕ) → Brought → Type 0
-ReportedBy card flow depth sums nitrified at before after foot =
-    (here : PlacedAt card flow depth sums nitrified at (length before)) → ReachReported (here .line .cards) (here .line .i) at before after foot
+-- for every such river the call tells this and leaves the report so
+abbrev pub ReportedBy : Card → (flow depth : ℕ) → Brought → (used nitrified : Bool) (at : ℕ) (before after : List ℕ) → HandedOn → Type 0
+ReportedBy card flow depth sums used nitrified at before after r =
+    (here : PlacedAt card flow depth sums used nitrified at (length before)) → ReachReported (here .line .cards) (here .line .i) at before after r

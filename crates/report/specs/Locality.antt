@@ -1,4 +1,4 @@
--- When a reach and the reaches above it are the same in two rivers: numbered anew, or at the same numbers.
+-- Which reaches lie above a reach, and when a reach and the reaches above it are the same in two rivers: numbered anew, or at the same numbers.
 -- Reaches are counted by their place in the list here: place i holds reach number i + 1.
 use mathlib.Core.Path.{_≡_}
 use mathlib.Core.List.{List}

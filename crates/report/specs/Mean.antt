@@ -2,6 +2,7 @@
 -- returns and leaves in the buffer.
 use mathlib.Core.Path.{_≡_}
 use mathlib.Core.Logic.{_↔_}
+use mathlib.Core.Bool.{cond}
 use mathlib.Core.List.{List, _++_}
 use Prim.Native.Nat.{ℕ, zero, suc, _+_, _-_, _*_, _/_, _%_, _≤_, _<_}
 use lib.Dec.{leb, ltb}
@@ -22,7 +23,7 @@ use Rattle.river.specs.Stored.{oxygenOf}
 use Rattle.river.specs.Refusal.{Answer, accepted, refused, refuse, need, after as then}
 use Rattle.river.specs.Accept.{acceptFile, AcceptedFile}
 use Rattle.report.specs.Bed.{bedOf, lossWith}
-use Rattle.report.specs.Program.{oxygenWith, unitParts, demandAtHead, oxygenAtHead}
+use Rattle.report.specs.Program.{oxygenWith, unitParts, demandAtHead, oxygenAtHead, usedAbove, statusOf}
 use Rattle.report.specs.Record.{complement, fromComplement}
 use Rattle.report.specs.Distance.{allowanceAt}
 use Rattle.report.specs.Ties.{NoChange}
@@ -47,24 +48,25 @@ unfoldable pub meanAlong : Card → (Q L Ln : ℕ) (C : ℤ) → ℤ
 meanAlong card Q L Ln C =
     oxygenWith (factorsMean card Q) (saturationOf card) L C -ℤ pos (turnedMean card Q Ln) -ℤ pos (lossWith (factorsMean card Q) (bedOf card Q) middle)
 
--- mean oxygen of a reach, and of reach i of a river
+-- mean oxygen of a reach
 unfoldable pub meanOxygen : Card → Feeders → ℤ
 meanOxygen card up = meanAlong card (reachFlow card up) (demandAtHead Bod card up) (demandAtHead Nitrogenous card up) (oxygenAtHead card up)
 
+-- the mean of reach i of a river: 0 at status 2, where oxygen is used up above
 abbrev pub meanAt : List Card → ℕ → ℤ
-meanAt cards i = meanOxygen (cardOf cards i) (above cards i)
+meanAt cards i = cond (usedAbove (above cards i)) (pos 0) (meanOxygen (cardOf cards i) (above cards i))
 
 -- the sum of the volumes of the first n of some reaches
 unfoldable pub volumeSum : (volume : ℕ → ℕ) → ℕ → ℕ
 volumeSum volume zero = 0
 volumeSum volume (suc n) = volumeSum volume n + volume n
 
--- the volume of reach i of a river, and of its reaches together
-abbrev pub volumeAt : List Card → ℕ → ℕ
-volumeAt cards i = cardOf cards i .volume
+-- the volume of reach i of a river that counts, which is none at status 2, and that of its reaches of status 0 and 1 together
+abbrev pub countedVolumeAt : List Card → ℕ → ℕ
+countedVolumeAt cards i = cond (usedAbove (above cards i)) 0 (cardOf cards i .volume)
 
-abbrev pub totalVolume : List Card → ℕ
-totalVolume cards = volumeSum (λ i. volumeAt cards (suc i)) (length cards)
+abbrev pub countedVolume : List Card → ℕ
+countedVolume cards = volumeSum (λ i. countedVolumeAt cards (suc i)) (length cards)
 
 -- the sum of volume × mean of the first n of some reaches
 unfoldable pub weightedSum : (volume : ℕ → ℕ) (mean : ℕ → ℤ) → ℕ → ℤ
@@ -81,7 +83,7 @@ unfoldable pub restOf : ℤ → ℕ → ℕ
 restOf (pos n) d = n % d
 restOf (negsuc n) d = d - 1 - n % d
 
--- a weighted sum divided by the total volume, rounded down
+-- a weighted sum divided by a volume, rounded down
 unfoldable pub dividedBy : ℤ → ℕ → Weighted
 dividedBy sum volume = record { units = floor sum volume; remainder = restOf sum volume }
 
@@ -91,7 +93,7 @@ weightedMean volume mean n = dividedBy (weightedSum volume mean n) (volumeSum vo
 
 -- the mean oxygen of a river
 unfoldable pub riverMean : List Card → Weighted
-riverMean cards = weightedMean (λ i. volumeAt cards (suc i)) (λ i. meanAt cards (suc i)) (length cards)
+riverMean cards = weightedMean (λ i. countedVolumeAt cards (suc i)) (λ i. meanAt cards (suc i)) (length cards)
 
 -- the bytes of a mean: four, in two's complement
 abbrev pub meanBytes : ℕ
@@ -107,9 +109,9 @@ meansOf cards = firstRows (meanRow cards) (length cards)
 abbrev pub meansSize : List Card → ℕ
 meansSize cards = meanBytes * length cards
 
--- 12 with reach 0 for a buffer that is shorter than the means, then 16 with reach 0 for total volume 0
+-- 12 with reach 0 for a buffer that is shorter than the means, then 16 with reach 0 where no volume has status 0 or 1
 unfoldable pub meanRoomAnswer : (room : ℕ) → List Card → Answer (List Card)
-meanRoomAnswer room cards = need (leb (meansSize cards) room) 12 0 (need (ltb 0 (totalVolume cards)) 16 0 (accepted cards))
+meanRoomAnswer room cards = need (leb (meansSize cards) room) 12 0 (need (ltb 0 (countedVolume cards)) 16 0 (accepted cards))
 
 -- the call refuses as reading, then as the flow check, then for want of room, then for want of volume
 unfoldable pub meanAnswer : (file : List ℕ) (room : ℕ) → Answer (List Card)
@@ -130,12 +132,12 @@ pub record Averages (file before after : List ℕ) (result : RiverMean) : Type 0
   pub answer : meaningOf result ≡ then (meanAnswer file (length before)) (λ cards. accepted (riverMean cards))
   pub buffer : after ≡ bufferAveraged (meanAnswer file (length before)) before
 
--- the file's river is accepted and has volume, and a buffer of so many bytes can hold its means
+-- the file's river is accepted and has volume of status 0 or 1, and a buffer of so many bytes can hold its means
 pub record Averaged (file : List ℕ) (room : ℕ) : Type 0 where
   pub cards : List Card
   pub passes : acceptFile file ≡ accepted cards
   pub holds : meansSize cards ≤ room
-  pub volume : 0 < totalVolume cards
+  pub volume : 0 < countedVolume cards
 
 -- the mean read back from the bytes of reach i + 1
 unfoldable pub meanRead : (buffer : List ℕ) → ℕ → ℤ
@@ -149,32 +151,45 @@ pub record Means (file before after : List ℕ) (units₀ units : ℤ) (remainde
   pub refuses : (result ≡ 0 → ⊥) → meanAnswer file (length before) ≡ refused (refuse (result % 256) (result / 256))
   -- a file is accepted exactly if it is the file of a lawful river whose cards, with the rates in force, pass the flow rules
   pub lawful : (cards : List Card) → (acceptFile file ≡ accepted cards) ↔ AcceptedFile file cards
-  -- the result is 0 exactly for an accepted river with volume whose means the buffer can hold
+  -- the result is 0 exactly for an accepted river with volume of status 0 or 1 whose means the buffer can hold
   pub accepts : result ≡ 0 → Averaged file (length before)
   pub zero : Averaged file (length before) → result ≡ 0
   -- the whole buffer: untouched by a refusal, else each reach's mean, and past the means what stood there
   pub buffer : after ≡ bufferAveraged (meanAnswer file (length before)) before
   -- a refused call writes no byte and neither number
   pub untouched : (result ≡ 0 → ⊥) → (after ≡ before) × (units ≡ units₀) × (remainder ≡ remainder₀)
-  -- the mean of each reach, read back from its bytes
+  -- the mean of each reach, read back from its bytes, which is 0 at status 2
   pub means : (river : Averaged file (length before)) (i : ℕ) → i < length (river .cards) → meanRead after i ≡ meanAt (river .cards) (suc i)
+  pub used-up-above :
+      (river : Averaged file (length before)) (i : ℕ) →
+      i < length (river .cards) →
+      statusOf (cardOf (river .cards) (suc i)) (above (river .cards) (suc i)) ≡ 2 →
+      (meanRead after i ≡ pos 0) × (countedVolumeAt (river .cards) (suc i) ≡ 0)
+  -- at status 0 and 1 the whole volume counts
+  pub counted :
+      (river : Averaged file (length before)) (i : ℕ) →
+      i < length (river .cards) →
+      statusOf (cardOf (river .cards) (suc i)) (above (river .cards) (suc i)) ≤ 1 →
+      countedVolumeAt (river .cards) (suc i) ≡ cardOf (river .cards) (suc i) .volume
   -- the two numbers are the river's mean
   pub river-mean : (river : Averaged file (length before)) → record { units = units; remainder = remainder } ≡ riverMean (river .cards)
-  -- of the means in the bytes: units × total volume + remainder is the sum of volume × mean, also below zero
+  -- of the means in the bytes: units × the volume that counts + remainder is the sum of volume × mean, also below zero
   pub weighted :
       (river : Averaged file (length before)) →
-      units *ℤ pos (totalVolume (river .cards)) +ℤ pos remainder ≡ weightedSum (λ i. volumeAt (river .cards) (suc i)) (meanRead after) (length (river .cards))
-  pub remains : (river : Averaged file (length before)) → remainder < totalVolume (river .cards)
-  -- oxygen that does not change along a reach has its head value for its mean, to the unit
+      units *ℤ pos (countedVolume (river .cards)) +ℤ pos remainder ≡ weightedSum (λ i. countedVolumeAt (river .cards) (suc i)) (meanRead after) (length (river .cards))
+  pub remains : (river : Averaged file (length before)) → remainder < countedVolume (river .cards)
+  -- oxygen that does not change along a reach of status 0 or 1 has its head value for its mean, to the unit
   pub constant :
       (river : Averaged file (length before)) (i : ℕ) →
       i < length (river .cards) →
+      statusOf (cardOf (river .cards) (suc i)) (above (river .cards) (suc i)) ≤ 1 →
       NoChange (cardOf (river .cards) (suc i)) →
       meanRead after i ≡ oxygenAtHead (cardOf (river .cards) (suc i)) (above (river .cards) (suc i))
-  -- the promised distance: at every reach, and for every series length from 40 on, the mean in the bytes is near the exact one
+  -- the promised distance: at every reach of status 0 or 1, and for every series length from 40 on, the mean in the bytes is near the exact one
   pub within :
       (river : Averaged file (length before)) (i : ℕ) →
       i < length (river .cards) →
+      statusOf (cardOf (river .cards) (suc i)) (above (river .cards) (suc i)) ≤ 1 →
       (N : ℕ) →
       40 ≤ N →
       distance (ofℤ (meanRead after i)) (exactMeanOxygen N (cardOf (river .cards) (suc i)) (above (river .cards) (suc i))) ≼ allowanceAt (river .cards) (suc i)

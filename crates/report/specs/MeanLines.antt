@@ -1,11 +1,12 @@
--- What the program holds on the way to the means: what a reach hands on, and the sum of volume × mean, which may need more than eight bytes, in
--- two parts.
+-- What the program holds on the way to the means: what a reach hands on, a table of the means, and the volume that counts with the sum of volume × mean,
+-- which may need more than eight bytes, in two parts.
 use mathlib.Core.Path.{_≡_}
+use mathlib.Core.Bool.{Bool, true}
 use mathlib.Core.List.{List}
 use Prim.Native.Nat.{ℕ, suc, _+_, _*_, _/_, _%_, _≤_, _<_}
-use lib.IntN.{ℤ}
-use lib.ListN.{length}
-use lib.Seq.{sets}
+use lib.IntN.{ℤ, pos}
+use lib.ListN.{length, getD}
+use lib.Signed.{_≤ℤ_}
 use Rattle.decay.specs.Exact.{foot}
 use Rattle.decay.specs.Fixed.{product}
 use Rattle.decay.specs.Mean.{meanDemandOf, meanFactors}
@@ -15,7 +16,8 @@ use Rattle.river.specs.declared.card.Card.{Card}
 use Rattle.river.specs.declared.head.Brought.{Brought}
 use Rattle.river.specs.declared.source.Demand.the-variants.{Bod, Nitrogenous}
 use Rattle.river.specs.Source.{rateOf}
-use Rattle.river.specs.Flow.{flowAt}
+use Rattle.river.specs.Bytes.{fourBytes}
+use Rattle.river.specs.Flow.{flowAt, cardOf, above}
 use Rattle.river.specs.HeadTable.{footOf, FootWithin}
 use Rattle.river.specs.Stored.{storedLimit, oxygenOf, oxygenSumOf}
 use Rattle.decay.specs.declared.step.Step.{Step}
@@ -24,11 +26,14 @@ use Rattle.report.specs.Profile.{StartInRange, startParts, oxygenOver}
 use Rattle.report.specs.declared.bed.Bed.{Bed}
 use Rattle.report.specs.declared.profile.Start.{Start}
 use Rattle.report.specs.Program.{unitParts, demandAlong, oxygenAlong, figuresAt}
-use Rattle.report.specs.Lines.{footBy, LineAt}
-use Rattle.report.specs.Mean.{middle, meanAlong, meanAt, volumeAt, volumeSum, weightedSum, meanRow}
+use Rattle.report.specs.Record.{complement}
+use Rattle.report.specs.Status.{isUsed}
+use Rattle.report.specs.Lines.{footBy, LineAt, UsedAt}
+use Rattle.report.specs.Mean.{middle, meanAlong, meanOxygen, meanAt, countedVolumeAt, volumeSum, weightedSum}
 use Rattle.report.specs.declared.mean.DemandAlong.{DemandAlong}
 use Rattle.report.specs.declared.mean.Passage.{Passage}
 use Rattle.report.specs.declared.mean.Passed.{Passed}
+use Rattle.report.specs.declared.mean.MeanTable.{MeanTable}
 use Rattle.report.specs.declared.mean.Weights.{Weights}
 use Rattle.report.specs.declared.mean.Quotient.{Quotient}
 
@@ -64,25 +69,20 @@ pub record PassageBelow (card : Card) (Q L Ln : ℕ) (C : ℤ) (p : Passage) : T
   pub foot-oxygen : oxygenOf (p .«foot_oxygen») ≡ oxygenAlong card Q L Ln C foot
   pub mean : oxygenOf (p .mean) ≡ meanAlong card Q L Ln C
 
--- what reach i + 1 hands on: its foot brings what its figures say, in bounds, and its mean
-pub record PassageOf (cards : List Card) (i : ℕ) (p : Passage) : Type 0 where
-  pub brings : footOf (flowAt cards (suc i)) (p .«foot_bod») (p .«foot_nitrogenous») (p .«foot_oxygen») ≡ footBy (flowAt cards (suc i)) (figuresAt cards (suc i))
-  pub within : FootWithin cards i (footBy (flowAt cards (suc i)) (figuresAt cards (suc i)))
-  pub mean : oxygenOf (p .mean) ≡ meanAt cards (suc i)
+-- what a test tells: where it is true, oxygen is nowhere below zero along a reach with flow Q, head BOD L, head nitrogenous BOD Ln and head oxygen C
+abbrev pub TellsNeverBelow : Card → (Q L Ln : ℕ) (C : ℤ) → (told : Bool) → Type 0
+TellsNeverBelow card Q L Ln C told = told ≡ true → (m : ℕ) → m ≤ foot → pos 0 ≤ℤ oxygenAlong card Q L Ln C m
 
--- for every river that the card, flow, depth and what is brought may be of
-abbrev pub PassageBy : Card → (flow depth : ℕ) → Brought → Passage → Type 0
-PassageBy card flow depth sums p = (here : LineAt card flow depth sums) → PassageOf (here .cards) (here .i) p
-
--- what the foot of reach i + 1 brings and its mean, and the buffer with the bytes of the mean at a place
-pub record ReachAveraged (cards : List Card) (i at : ℕ) (before after : List ℕ) (p : Passed) : Type 0 where
+-- what the foot of reach i + 1 brings, its mean as it is reported, and whether its status is 1 or 2
+pub record ReachAveraged (cards : List Card) (i : ℕ) (p : Passed) : Type 0 where
   pub brings : p .foot ≡ footBy (flowAt cards (suc i)) (figuresAt cards (suc i))
   pub within : FootWithin cards i (p .foot)
   pub mean : oxygenOf (p .mean) ≡ meanAt cards (suc i)
-  pub bytes : after ≡ sets before at (meanRow cards i)
+  pub used : p .used ≡ isUsed (figuresAt cards (suc i) .status)
 
-abbrev pub AveragedBy : Card → (flow depth : ℕ) → Brought → (at : ℕ) (before after : List ℕ) → Passed → Type 0
-AveragedBy card flow depth sums at before after p = (here : LineAt card flow depth sums) → ReachAveraged (here .cards) (here .i) at before after p
+-- for every river that the card, flow, depth and what is brought may be of
+abbrev pub AveragedBy : Card → (flow depth : ℕ) → Brought → (used : Bool) → Passed → Type 0
+AveragedBy card flow depth sums used p = (here : LineAt card flow depth sums) → UsedAt here used → ReachAveraged (here .cards) (here .i) p
 
 -- the upper and lower 16 bits of a stored mean are weighed apart
 abbrev pub chunk : ℕ
@@ -90,7 +90,8 @@ chunk = 65_536
 
 -- the sums with one more mean
 abbrev pub weighedWith : Weights → (volume mean : ℕ) → Weights
-weighedWith w volume mean = record { high = w .high + volume * (mean / chunk); low = w .low + volume * (mean % chunk) }
+weighedWith w volume mean =
+    record { high = w .high + volume * (mean / chunk); low = w .low + volume * (mean % chunk); volume = w .volume + volume }
 
 -- the number that the two sums make
 abbrev pub wholeSum : Weights → ℕ
@@ -104,26 +105,43 @@ volumeLimit = 1_000_000_000
 abbrev pub sumLimit : ℕ → ℕ
 sumLimit n = n * (65_535 * volumeLimit)
 
--- the sums of the first n reaches stand for the sum of volume × mean, and a mean of these fits four bytes
+-- the sums of the first n reaches stand for the sum of volume × mean, with the volume that counts, and a mean of these fits four bytes
 pub record Weighs (cards : List Card) (n : ℕ) (w : Weights) : Type 0 where
-  pub sum : oxygenSumOf (volumeSum (λ i. volumeAt cards (suc i)) n) (wholeSum w) ≡ weightedSum (λ i. volumeAt cards (suc i)) (λ i. meanAt cards (suc i)) n
-  pub fits : wholeSum w ≤ storedLimit * volumeSum (λ i. volumeAt cards (suc i)) n
+  pub sum : oxygenSumOf (volumeSum (λ i. countedVolumeAt cards (suc i)) n) (wholeSum w) ≡ weightedSum (λ i. countedVolumeAt cards (suc i)) (λ i. meanAt cards (suc i)) n
+  pub fits : wholeSum w ≤ storedLimit * volumeSum (λ i. countedVolumeAt cards (suc i)) n
   pub high : w .high ≤ sumLimit n
   pub low : w .low ≤ sumLimit n
+  pub volume : w .volume ≡ volumeSum (λ i. countedVolumeAt cards (suc i)) n
+  pub few : w .volume ≤ n * volumeLimit
 
 -- what one more mean needs
 pub record RoomToWeigh (w : Weights) (volume : ℕ) : Type 0 where
   pub volume-range : volume ≤ volumeLimit
   pub high : w .high ≤ sumLimit 128
   pub low : w .low ≤ sumLimit 128
+  pub sum : w .volume ≤ 128 * volumeLimit
 
--- what a division by the total volume needs: some volume, sums in range, and a mean that fits four bytes
-pub record Divisible (w : Weights) (volume : ℕ) : Type 0 where
-  pub some : 0 < volume
-  pub volume-range : volume ≤ 128 * volumeLimit
+-- what a division by the volume needs: some volume, sums in range, and a mean that fits four bytes
+pub record Divisible (w : Weights) : Type 0 where
+  pub some : 0 < w .volume
+  pub volume-range : w .volume ≤ 128 * volumeLimit
   pub low : w .low ≤ sumLimit 128
-  pub fits : wholeSum w ≤ storedLimit * volume
+  pub fits : wholeSum w ≤ storedLimit * w .volume
 
 -- the mean and what is left
-abbrev pub quotientOf : Weights → (volume : ℕ) → Quotient
-quotientOf w volume = record { units = wholeSum w / volume; remainder = wholeSum w % volume }
+abbrev pub quotientOf : Weights → Quotient
+quotientOf w = record { units = wholeSum w / w .volume; remainder = wholeSum w % w .volume }
+
+-- the means of the first n reaches in a table
+pub record MeansTabled (cards : List Card) (n : ℕ) (means : List ℕ) : Type 0 where
+  pub full : length means ≡ 128
+  pub mean : (j : ℕ) → j < n → oxygenOf (getD means j 0) ≡ meanAt cards (suc j)
+
+-- what the means of a river are to be: a table of them, and their sums
+pub record AllAveraged (cards : List Card) (t : MeanTable) : Type 0 where
+  pub tabled : MeansTabled cards (length cards) (t .mean)
+  pub weighed : Weighs cards (length cards) (t .weights)
+
+-- the bytes of a stored mean in a table
+abbrev pub storedRow : (means : List ℕ) → ℕ → List ℕ
+storedRow means i = fourBytes (complement (oxygenOf (getD means i 0)))

@@ -1,7 +1,7 @@
 -- What the program computes for a reach: its two demands, BOD and nitrogenous BOD, and oxygen along it, its critical point, and the figures of
 -- its record.
 -- A reach is a card with what flows into it, the forest of its feeders. Concentrations are in units; oxygen is signed.
-use mathlib.Core.Bool.{cond}
+use mathlib.Core.Bool.{Bool, cond}
 use mathlib.Core.List.{List}
 use Prim.Native.Nat.{ℕ, zero, suc, _+_, _*_, _/_}
 use lib.IntN.{ℤ, pos, _+ℤ_, _-ℤ_, _*ℤ_}
@@ -22,6 +22,7 @@ use Rattle.river.specs.Source.{sourceOf, rateOf}
 use Rattle.river.specs.Head.{floor, headDemand, headOxygen}
 use Rattle.report.specs.Bed.{bedOf, lossWith}
 use Rattle.report.specs.Record.{Figures}
+use Rattle.report.specs.Status.{statusBy, usedBy, reported}
 
 -- oxygen where these factors of BOD hold, with saturation Cs, head BOD L and head oxygen C, if nothing else takes any: Cs less the share of
 -- L that has turned to deficit and the share kept of the head deficit, each rounded down
@@ -105,9 +106,20 @@ unfoldable pub lowest : (ℕ → ℤ) → ℕ → Critical
 lowest at zero = record { instant = 0; oxygen = at 0 }
 lowest at (suc m) = lower (lowest at m) (suc m) (at (suc m))
 
--- the figures of a reach with this depth, flow Q, head BOD L, head nitrogenous BOD Ln and head oxygen C
-abbrev pub figuresBelow : Card → (depth Q L Ln : ℕ) (C : ℤ) → Figures
-figuresBelow card depth Q L Ln C =
+-- critical oxygen of a reach
+unfoldable pub criticalOxygen : Card → Feeders → ℤ
+criticalOxygen card up = lowest (oxygenAt card up) foot .oxygen
+
+-- whether oxygen is used up at any reach of a forest, and the status of a reach; oxygen is that of the program, which is carried on below zero
+abbrev pub usedAbove : Feeders → Bool
+usedAbove up = usedBy criticalOxygen up
+
+unfoldable pub statusOf : Card → Feeders → ℕ
+statusOf card up = statusBy (usedAbove up) (criticalOxygen card up)
+
+-- the figures of a reach with this depth, flow Q, head BOD L, head nitrogenous BOD Ln and head oxygen C, by whether oxygen is used up above
+abbrev pub figuresBelow : (used : Bool) → Card → (depth Q L Ln : ℕ) (C : ℤ) → Figures
+figuresBelow used card depth Q L Ln C =
     record {
       depth = depth;
       flow = Q;
@@ -117,15 +129,19 @@ figuresBelow card depth Q L Ln C =
       critical-instant = lowest (oxygenAlong card Q L Ln C) foot .instant;
       critical-oxygen = lowest (oxygenAlong card Q L Ln C) foot .oxygen;
       foot-oxygen = oxygenAlong card Q L Ln C foot;
+      status = statusBy used (lowest (oxygenAlong card Q L Ln C) foot .oxygen);
       head-nitrogenous = Ln;
       foot-nitrogenous = demandAlong Nitrogenous card Q Ln foot;
     }
 
--- the figures of a reach
+-- the program's own figures of a reach, with oxygen as it is carried on, whatever the status
 unfoldable pub figuresOf : Card → Feeders → Figures
 figuresOf card up =
-    figuresBelow card (reachDepth up) (reachFlow card up) (demandAtHead Bod card up) (demandAtHead Nitrogenous card up) (oxygenAtHead card up)
+    figuresBelow (usedAbove up) card (reachDepth up) (reachFlow card up) (demandAtHead Bod card up) (demandAtHead Nitrogenous card up) (oxygenAtHead card up)
 
--- the figures of reach i of a river
+-- those of reach i of a river, and as they are reported
 abbrev pub figuresAt : List Card → ℕ → Figures
 figuresAt cards i = figuresOf (cardOf cards i) (above cards i)
+
+abbrev pub reportedAt : List Card → ℕ → Figures
+reportedAt cards i = reported (figuresAt cards i)

@@ -37,6 +37,7 @@ pub record Figures : Type 0 where
   pub critical-instant : ℕ
   pub critical-oxygen : ℤ
   pub foot-oxygen : ℤ
+  pub status : ℕ
   pub head-nitrogenous : ℕ
   pub foot-nitrogenous : ℕ
 
@@ -52,6 +53,7 @@ figuresIn l =
       critical-instant = l .«critical_instant»;
       critical-oxygen = oxygenOf (l .«critical_oxygen»);
       foot-oxygen = oxygenOf (l .«foot_oxygen»);
+      status = l .status;
       head-nitrogenous = l .«head_nitrogenous»;
       foot-nitrogenous = l .«foot_nitrogenous»;
     }
@@ -72,12 +74,12 @@ abbrev pub RN : Mark
 RN = mark (code "R") (code "N")
 
 abbrev pub plainBytes : ℕ
-plainBytes = 29
+plainBytes = 30
 
 abbrev pub nitrogenousBytes : ℕ
 nitrogenousBytes = 10
 
--- the bytes of an `RP` record: mark; depth; Q; head BOD; foot BOD; head oxygen; critical instant; critical oxygen; foot oxygen
+-- the bytes of an `RP` record: mark; depth; Q; head BOD; foot BOD; head oxygen; critical instant; critical oxygen; foot oxygen; status
 unfoldable pub encodePlain : Figures → List ℕ
 encodePlain f =
     markBytes RP ++
@@ -86,7 +88,8 @@ encodePlain f =
     fourBytes (f .head-bod) ++
     fourBytes (f .foot-bod) ++
     fourBytes (complement (f .head-oxygen)) ++
-    twoBytes (f .critical-instant) ++ fourBytes (complement (f .critical-oxygen)) ++ fourBytes (complement (f .foot-oxygen))
+    twoBytes (f .critical-instant) ++
+    fourBytes (complement (f .critical-oxygen)) ++ fourBytes (complement (f .foot-oxygen)) ++ f .status ∷ []
 
 -- the bytes of an `RN` record: mark; head and foot nitrogenous BOD
 unfoldable pub encodeNitrogenous : Figures → List ℕ
@@ -124,6 +127,7 @@ readRecord nitrified s =
       critical-instant = twoAt s 19;
       critical-oxygen = fromComplement (fourAt s 21);
       foot-oxygen = fromComplement (fourAt s 25);
-      head-nitrogenous = nitrogenousAt nitrified s 31;
-      foot-nitrogenous = nitrogenousAt nitrified s 35;
+      status = byteAt s 29;
+      head-nitrogenous = nitrogenousAt nitrified s 32;
+      foot-nitrogenous = nitrogenousAt nitrified s 36;
     }

@@ -12,9 +12,10 @@ use Rattle.river.specs.declared.refusal.Refusal.{Refusal}
 use Rattle.river.specs.River.{River}
 use Rattle.river.specs.Read.{readFile}
 use Rattle.river.specs.Flow.{cardOf, above, depthAt, flowAt}
-use Rattle.report.specs.Program.{oxygenAt, figuresAt}
+use Rattle.report.specs.Program.{oxygenAt, statusOf, figuresAt, reportedAt}
 use Rattle.report.specs.Distance.{allowanceAt, WithinAllowance}
 use Rattle.report.specs.Ties.{Tied}
+use Rattle.report.specs.Locality.{LiesAbove}
 use Rattle.report.specs.Record.{hasNitrification, Figures, encodeRecord, recordSize, recordAt, readRecord}
 use Rattle.river.specs.Accept.{acceptFile, AcceptedFile}
 
@@ -25,7 +26,7 @@ firstRows row (suc n) = firstRows row n ++ row n
 
 -- the record of the reach at place i
 abbrev pub recordOf : List Card → ℕ → List ℕ
-recordOf cards i = encodeRecord (hasNitrification cards) (figuresAt cards (suc i))
+recordOf cards i = encodeRecord (hasNitrification cards) (reportedAt cards (suc i))
 
 -- the report of a river: the records of its reaches, and how many bytes they have together
 abbrev pub reportOf : List Card → List ℕ
@@ -66,6 +67,13 @@ figuresRead cards buffer i = readRecord (hasNitrification cards) (recordAt (reco
 abbrev pub bytesRead : List Card → (buffer : List ℕ) → ℕ → List ℕ
 bytesRead cards buffer i = take (recordSize cards) (recordAt (recordSize cards) buffer i)
 
+-- the bytes say that a reach which lies above reach i + 1, through all above, has status 1 or 2
+pub record UsedUpAbove (cards : List Card) (buffer : List ℕ) (i : ℕ) : Type 0 where
+  pub place : ℕ
+  pub within : place < length cards
+  pub lies-above : LiesAbove cards place i
+  pub used-up : 1 ≤ figuresRead cards buffer place .status
+
 -- a call on a file, with the report buffer before and after, that returns the result
 pub record Reports (file before after : List ℕ) (result : ℕ) : Type 0 where
   -- the result, by the order of refusals
@@ -81,10 +89,16 @@ pub record Reports (file before after : List ℕ) (result : ℕ) : Type 0 where
   pub buffer : after ≡ bufferReported (reportAnswer file (length before)) before
   -- in short: a refused call writes no byte
   pub untouched : (result ≡ 0 → ⊥) → after ≡ before
-  -- the record of each reach, read back from its bytes: the head by "Head of a reach", foot and critical point by the program's own factors
+  -- the record of each reach, read back from its bytes: what "Oxygen used up" reports of the program's own figures
   pub figures :
       (river : Accepted file (length before)) (i : ℕ) →
       i < length (river .cards) →
+      figuresRead (river .cards) after i ≡ reportedAt (river .cards) (suc i)
+  -- which at status 0 and 1 are these figures themselves: the head by "Head of a reach", foot and critical point by the program's own factors
+  pub whole :
+      (river : Accepted file (length before)) (i : ℕ) →
+      i < length (river .cards) →
+      figuresRead (river .cards) after i .status ≤ 1 →
       figuresRead (river .cards) after i ≡ figuresAt (river .cards) (suc i)
   -- the named counts: depth and flow in the bytes are those of "Flows and depth"
   pub depth :
@@ -95,12 +109,21 @@ pub record Reports (file before after : List ℕ) (result : ℕ) : Type 0 where
       (river : Accepted file (length before)) (i : ℕ) →
       i < length (river .cards) →
       figuresRead (river .cards) after i .flow ≡ flowAt (river .cards) (suc i)
-  -- the ties and the critical point, on the figures in the bytes and the program's oxygen at each instant
+  -- the status in the bytes: that of the definition, and 2 exactly where a reach above has status 1 or 2 in the bytes
+  pub status :
+      (river : Accepted file (length before)) (i : ℕ) →
+      i < length (river .cards) →
+      figuresRead (river .cards) after i .status ≡ statusOf (cardOf (river .cards) (suc i)) (above (river .cards) (suc i))
+  pub used-up-above :
+      (river : Accepted file (length before)) (i : ℕ) →
+      i < length (river .cards) →
+      (figuresRead (river .cards) after i .status ≡ 2) ↔ UsedUpAbove (river .cards) after i
+  -- the ties, the critical point and what the status says of them, on the figures in the bytes and the program's oxygen at each instant
   pub tied :
       (river : Accepted file (length before)) (i : ℕ) →
       i < length (river .cards) →
       Tied (cardOf (river .cards) (suc i)) (oxygenAt (cardOf (river .cards) (suc i)) (above (river .cards) (suc i))) (figuresRead (river .cards) after i)
-  -- demand 3: at every reach, and for every series length from 40 on, the concentrations in the bytes are near the exact ones
+  -- demand 3: at every reach, and for every series length from 40 on, the demands in the bytes are near the exact ones, and oxygen at status 0 and 1
   pub within :
       (river : Accepted file (length before)) (i : ℕ) →
       i < length (river .cards) →

@@ -1,9 +1,9 @@
--- The ties of "Along a reach", and its critical point, on the figures of a record. `oxygen` gives the program's own oxygen at each instant.
+-- The ties of "Along a reach", its critical point and its status, on the figures of a record. `oxygen` gives the program's own oxygen at each instant.
 -- The rates of a card are those in force.
 use mathlib.Core.Path.{_≡_}
 use mathlib.Core.Logic.{_⊎_}
 use Prim.Native.Nat.{ℕ, _≤_, _<_}
-use lib.IntN.{ℤ}
+use lib.IntN.{ℤ, pos}
 use lib.Signed.{_≤ℤ_, _<ℤ_}
 use Rattle.decay.specs.Exact.{foot}
 use Rattle.river.specs.declared.card.Card.{Card}
@@ -38,12 +38,15 @@ abbrev pub footFigure : Demand → Figures → ℕ
 footFigure Bod f = f .foot-bod
 footFigure Nitrogenous f = f .foot-nitrogenous
 
--- how the figures of a reach with this card are tied
-pub record Tied (card : Card) (oxygen : ℕ → ℤ) (f : Figures) : Type 0 where
+-- how the demands among the figures of a reach with this card are tied
+pub record DemandsTied (card : Card) (f : Figures) : Type 0 where
   -- foot BOD lies from 0 to head BOD, and nitrogenous BOD likewise
   pub foot-demand : (d : Demand) → footFigure d f ≤ headFigure d f
   -- k1 = 0 or volume 0 keeps BOD to the unit, and nitrogenous BOD likewise by its own rate
   pub demand-kept : (d : Demand) → NoDecay d card → footFigure d f ≡ headFigure d f
+
+-- and how oxygen is
+pub record OxygenTied (card : Card) (oxygen : ℕ → ℤ) (f : Figures) : Type 0 where
   -- all rates 0 without a bed's demand, or volume 0, keep oxygen to the unit at every instant
   pub oxygen-kept : NoChange card → (m : ℕ) → m ≤ foot → oxygen m ≡ f .head-oxygen
   -- instant 0 is the head, and instant 1,024 the foot
@@ -54,3 +57,22 @@ pub record Tied (card : Card) (oxygen : ℕ → ℤ) (f : Figures) : Type 0 wher
   -- and so it is at most head oxygen and at most foot oxygen
   pub at-most-head : f .critical-oxygen ≤ℤ f .head-oxygen
   pub at-most-foot : f .critical-oxygen ≤ℤ f .foot-oxygen
+
+-- no oxygen is told, which is what status 2 says
+pub record NoOxygen (f : Figures) : Type 0 where
+  pub head-oxygen : f .head-oxygen ≡ pos 0
+  pub critical-instant : f .critical-instant ≡ 0
+  pub critical-oxygen : f .critical-oxygen ≡ pos 0
+  pub foot-oxygen : f .foot-oxygen ≡ pos 0
+
+-- how the reported figures are tied, and how the status goes by the reported critical oxygen
+pub record Tied (card : Card) (oxygen : ℕ → ℤ) (f : Figures) : Type 0 where
+  -- the demands are tied at every status
+  pub demands : DemandsTied card f
+  -- the status is 0, 1 or 2; at 0 critical oxygen is not below zero, and at 1 it is
+  pub at-most-two : f .status ≤ 2
+  pub ordinary : f .status ≡ 0 → pos 0 ≤ℤ f .critical-oxygen
+  pub used-up : f .status ≡ 1 → f .critical-oxygen <ℤ pos 0
+  -- at 0 and 1 oxygen is tied, and at 2 there is none
+  pub oxygen-tied : f .status ≤ 1 → OxygenTied card oxygen f
+  pub used-up-above : f .status ≡ 2 → NoOxygen f

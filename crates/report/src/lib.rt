@@ -4,6 +4,7 @@ pub mod lines;
 pub mod mean;
 pub mod profile;
 pub mod record;
+pub mod status;
 
 use mean::RiverMean;
 use river::accept;

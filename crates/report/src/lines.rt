@@ -4,6 +4,7 @@ use crate::profile;
 use crate::profile::Start;
 use crate::record;
 use crate::record::Line;
+use crate::status;
 use decay::step;
 use decay::step::Step;
 use river::card::Card;
@@ -29,6 +30,12 @@ ghost use Rattle.report.specs.Record.{figuresIn};
 ghost use Rattle.report.specs.Lines.{Ready, LineReady, HeadFits, LineAt, HeadBy, LineBy, PlacedAt, ReportedBy};
 ghost use Rattle.report.specs.Report.{reportOf, reportSize};
 
+// What the foot of a reach brings, and whether the status of the reach is 1 or 2.
+pub struct HandedOn {
+    pub foot: Brought,
+    pub used: bool,
+}
+
 // The step of the nitrogenous demand of a reach, beside that of its BOD. Its share filled is that of BOD, so that a walk holds one number for both.
 // Without nitrification nothing is lost, and no series is summed.
 fn nitrogenous_step(card: Card, flow: u32, bod: Step) -> Step
@@ -51,10 +58,10 @@ fn nitrogenous_step(card: Card, flow: u32, bod: Step) -> Step
     }
 }
 
-// The figures of a reach with this card, flow and depth, below this head.
-pub fn line_of(card: Card, flow: u32, depth: u8, head: Head) -> Line
+// The figures of a reach with this card, flow and depth, below this head, by whether oxygen is used up above.
+pub fn line_of(card: Card, flow: u32, depth: u8, head: Head, used: bool) -> Line
     requires { ⌜ LineReady card flow × HeadFits head ⌝ }
-    ensures { λ r. ⌜ figuresIn r ≡ figuresBelow card depth flow (head .bod) (head .nitrogenous) (oxygenOf (head .oxygen)) ⌝ }
+    ensures { λ r. ⌜ figuresIn r ≡ figuresBelow used card depth flow (head .bod) (head .nitrogenous) (oxygenOf (head .oxygen)) ⌝ }
 {
     let step = step::step_of(card.k1, card.k2, card.volume, flow);
     let other = nitrogenous_step(card, flow, step);
@@ -67,6 +74,7 @@ pub fn line_of(card: Card, flow: u32, depth: u8, head: Head) -> Line
         saturation: saturation as u64,
     };
     let profile = profile::profile_of(step, other, start, bed);
+    let critical_oxygen = profile.critical_oxygen as u32;
     Line {
         depth,
         flow,
@@ -74,8 +82,9 @@ pub fn line_of(card: Card, flow: u32, depth: u8, head: Head) -> Line
         foot_bod: profile.foot_bod as u32,
         head_oxygen: head.oxygen,
         critical_instant: profile.critical_instant as u16,
-        critical_oxygen: profile.critical_oxygen as u32,
+        critical_oxygen,
         foot_oxygen: profile.foot_oxygen as u32,
+        status: status::status_of(used, critical_oxygen),
         head_nitrogenous: head.nitrogenous,
         foot_nitrogenous: profile.foot_nitrogenous as u32,
     }
@@ -90,31 +99,36 @@ pub fn head_at(card: Card, flow: u64, depth: u8, sums: Brought) -> Head
     head::head_of(card, 1 < depth, qu, sums)
 }
 
-// The figures of a reach, from its card, its flow and depth, and what its feeders bring.
-pub fn line_at(card: Card, flow: u64, depth: u8, sums: Brought) -> Line
+// The figures of a reach, from its card, its flow and depth, what its feeders bring, and whether oxygen is used up above.
+pub fn line_at(card: Card, flow: u64, depth: u8, sums: Brought, used: bool) -> Line
     requires { ⌜ LineAt card flow depth sums ⌝ }
-    ensures { λ r. ⌜ LineBy card flow depth sums r ⌝ }
+    ensures { λ r. ⌜ LineBy card flow depth sums used r ⌝ }
 {
     let head = head_at(card, flow, depth, sums);
-    line_of(card, flow as u32, depth, head)
+    line_of(card, flow as u32, depth, head, used)
 }
 
-// Puts the record of a reach at a place, by whether its river has nitrification, and tells what its foot brings.
+// Puts the record of a reach at a place, by whether oxygen is used up above and whether its river has nitrification, and tells what its foot
+// brings, with oxygen as it is, and whether it is used up now.
 pub fn report_reach(
     card: Card,
     flow: u64,
     depth: u8,
     sums: Brought,
+    used: bool,
     nitrified: bool,
     report: &mut [u8],
     at: usize,
-) -> Brought
-    requires { ⌜ PlacedAt card flow depth sums nitrified at (length (now report)) ⌝ }
-    ensures { λ r. ⌜ ReportedBy card flow depth sums nitrified at (now (report .entry)) (now (report .exit)) r ⌝ }
+) -> HandedOn
+    requires { ⌜ PlacedAt card flow depth sums used nitrified at (length (now report)) ⌝ }
+    ensures { λ r. ⌜ ReportedBy card flow depth sums used nitrified at (now (report .entry)) (now (report .exit)) r ⌝ }
 {
-    let line = line_at(card, flow, depth, sums);
-    record::put_record(report, at, line, nitrified);
-    head::foot_of(flow, line.foot_bod, line.foot_nitrogenous, line.foot_oxygen)
+    let line = line_at(card, flow, depth, sums, used);
+    record::put_record(report, at, status::reported(line), nitrified);
+    HandedOn {
+        foot: head::foot_of(flow, line.foot_bod, line.foot_nitrogenous, line.foot_oxygen),
+        used: status::is_used(line.status),
+    }
 }
 
 // Puts the records of all reaches in their places.
@@ -126,16 +140,30 @@ pub fn report_all(cards: Cards, flows: FlowTable, report: &mut [u8])
     let nitrified = record::has_nitrification(cards);
     let size = record::record_bytes(nitrified);
     let mut feet = head::no_feet();
+    let mut used = [false; status::OUTLETS];
     let mut i: usize = 0;
     while i < count {
         let card = cards.at[i];
         let flow = flows.flow[i];
         let depth = flows.depth[i];
         let sums = head::brought_to(&flows.outlet, &feet.bod, &feet.nitrogenous, &feet.oxygen, i);
-        let foot = report_reach(card, flow, depth, sums, nitrified, report, size * i);
+        let used_above = used[i + 1];
+        let told = report_reach(
+            card,
+            flow,
+            depth,
+            sums,
+            used_above,
+            nitrified,
+            report,
+            size * i,
+        );
+        let foot = told.foot;
         feet.bod[i] = foot.bod;
         feet.nitrogenous[i] = foot.nitrogenous;
         feet.oxygen[i] = foot.oxygen;
+        let outlet = flows.outlet[i] as usize;
+        used[outlet] = status::either(told.used, used[outlet]);
         i = i + 1;
     }
 }

@@ -6,6 +6,7 @@ use crate::profile;
 use crate::profile::Start;
 use crate::profile::UNIT_PARTS;
 use crate::record;
+use crate::status;
 use decay::factors::DemandFactors;
 use decay::factors::FOOT;
 use decay::fixed;
@@ -15,11 +16,13 @@ use decay::step::Step;
 use river::accept;
 use river::card::Card;
 use river::card::Cards;
+use river::card::REACHES;
 use river::flow;
 use river::flow::FlowTable;
 use river::head;
 use river::head::Brought;
 use river::head::Head;
+use river::head::STORED_ZERO_WIDE;
 use river::refusal;
 use river::refusal::Outcome;
 use river::refusal::Refusal;
@@ -27,7 +30,7 @@ use river::source;
 use river::source::Demand;
 ghost use mathlib.Core.Path.{_≡_};
 ghost use mathlib.Core.List.{_++_};
-ghost use Prim.Native.Nat.{_+_, _*_, _≤_};
+ghost use Prim.Native.Nat.{_*_, _≤_};
 ghost use lib.ListN.{length, drop};
 ghost use Rattle.decay.specs.Fixed.{one};
 ghost use Rattle.decay.specs.Step.{RatesPass};
@@ -36,8 +39,11 @@ ghost use Rattle.river.specs.declared.source.Demand.the-variants.{Nitrogenous};
 ghost use Rattle.river.specs.Source.{rateOf};
 ghost use Rattle.river.specs.Stored.{oxygenOf};
 ghost use Rattle.report.specs.Lines.{Ready, LineReady, HeadFits, LineAt};
-ghost use Rattle.report.specs.Mean.{meanBytes, totalVolume, meansOf, meansSize, Averages};
-ghost use Rattle.report.specs.MeanLines.{demandsAlong, PassageReady, HandsOn, PassageBelow, PassageBy, AveragedBy, weighedWith, Weighs, RoomToWeigh, Divisible, quotientOf};
+ghost use Rattle.report.specs.Program.{figuresBelow};
+ghost use Rattle.report.specs.Status.{isUsed};
+ghost use Rattle.report.specs.Report.{firstRows};
+ghost use Rattle.report.specs.Mean.{meanBytes, Averages};
+ghost use Rattle.report.specs.MeanLines.{demandsAlong, PassageReady, HandsOn, PassageBelow, TellsNeverBelow, AveragedBy, weighedWith, RoomToWeigh, Divisible, quotientOf, AllAveraged, storedRow};
 
 // How many bytes a mean has.
 pub const MEAN_SIZE: usize = 4;
@@ -59,16 +65,24 @@ pub struct Passage {
     pub mean: u32,
 }
 
-// What the foot of a reach brings, and its stored mean oxygen.
+// What the foot of a reach brings, its stored mean oxygen as it is reported, and whether the status of the reach is 1 or 2.
 pub struct Passed {
     pub foot: Brought,
     pub mean: u32,
+    pub used: bool,
 }
 
-// Sums of volume times the upper, and times the lower, 16 bits of stored means.
+// Sums of volume times the upper, and times the lower, 16 bits of stored means, and of volume.
 pub struct Weights {
     pub high: u64,
     pub low: u64,
+    pub volume: u64,
+}
+
+// The stored means of the reaches of a river, and their sums.
+pub struct MeanTable {
+    pub mean: [u32; REACHES],
+    pub weights: Weights,
 }
 
 // Whole units, stored, and a remainder.
@@ -150,32 +164,49 @@ pub fn passage_of(card: Card, flow: u32, head: Head) -> Passage
     hand_on(step, mean_step, demand, start, bed)
 }
 
-// What a reach hands on, from its card, its flow and depth, and what its feeders bring.
-pub fn passage_at(card: Card, flow: u64, depth: u8, sums: Brought) -> Passage
-    requires { ⌜ LineAt card flow depth sums ⌝ }
-    ensures { λ r. ⌜ PassageBy card flow depth sums r ⌝ }
+// Whether oxygen is surely nowhere below zero along a reach: head oxygen and saturation are each at least what its demands lose on the way and what its
+// bed may take, together.
+pub fn never_below_zero(card: Card, flow: u32, head: Head, p: Passage) -> bool
+    requires { ⌜ LineReady card flow × HeadFits head × PassageBelow card flow (head .bod) (head .nitrogenous) (oxygenOf (head .oxygen)) p ⌝ }
+    ensures { λ r. ⌜ TellsNeverBelow card flow (head .bod) (head .nitrogenous) (oxygenOf (head .oxygen)) r ⌝ }
 {
-    let head = lines::head_at(card, flow, depth, sums);
-    passage_of(card, flow as u32, head)
+    let bed = bed::bed_of(card, flow);
+    let lost = head.bod - p.foot_bod + (head.nitrogenous - p.foot_nitrogenous);
+    let taken = lost as u64 + bed.eventual + bed.linear;
+    let saturation = head::saturation_of(card) as u64;
+    if saturation < taken {
+        return false;
+    }
+    STORED_ZERO_WIDE + taken <= head.oxygen as u64
 }
 
-// Puts the mean of a reach at a place, and tells it and what the foot brings.
-pub fn average_reach(
-    card: Card,
-    flow: u64,
-    depth: u8,
-    sums: Brought,
-    means: &mut [u8],
-    at: usize,
-) -> Passed
-    requires { ⌜ LineAt card flow depth sums × (at + meanBytes ≤ length (now means)) ⌝ }
-    ensures { λ r. ⌜ AveragedBy card flow depth sums at (now (means .entry)) (now (means .exit)) r ⌝ }
+// Whether the status of a reach is 1 or 2, by whether oxygen is used up above. The lowest oxygen is looked for only where it may lie below zero.
+pub fn is_used_up(card: Card, flow: u32, depth: u8, head: Head, p: Passage, used: bool) -> bool
+    requires { ⌜ LineReady card flow × HeadFits head × PassageBelow card flow (head .bod) (head .nitrogenous) (oxygenOf (head .oxygen)) p ⌝ }
+    ensures { λ r. ⌜ r ≡ isUsed (figuresBelow used card depth flow (head .bod) (head .nitrogenous) (oxygenOf (head .oxygen)) .status) ⌝ }
 {
-    let p = passage_at(card, flow, depth, sums);
-    record::put_complement(means, at, p.mean);
+    if used {
+        return true;
+    }
+    if never_below_zero(card, flow, head, p) {
+        return false;
+    }
+    let line = lines::line_of(card, flow, depth, head, used);
+    status::is_used(line.status)
+}
+
+// What the foot of a reach brings, its mean, and whether its status is 1 or 2, from its card, its flow and depth, what its feeders bring, and whether
+// oxygen is used up above.
+pub fn average_reach(card: Card, flow: u64, depth: u8, sums: Brought, used: bool) -> Passed
+    requires { ⌜ LineAt card flow depth sums ⌝ }
+    ensures { λ r. ⌜ AveragedBy card flow depth sums used r ⌝ }
+{
+    let head = lines::head_at(card, flow, depth, sums);
+    let p = passage_of(card, flow as u32, head);
     Passed {
         foot: head::foot_of(flow, p.foot_bod, p.foot_nitrogenous, p.foot_oxygen),
-        mean: p.mean,
+        mean: status::reported_mean(used, p.mean),
+        used: is_used_up(card, flow as u32, depth, head, p, used),
     }
 }
 
@@ -193,15 +224,17 @@ pub fn weigh(w: Weights, volume: u32, mean: u32) -> Weights
     Weights {
         high: w.high + wide * (mean / CHUNK) as u64,
         low: w.low + wide * (mean % CHUNK) as u64,
+        volume: w.volume + wide,
     }
 }
 
-// The sums divided by the total volume, by long division.
-pub fn divide(w: Weights, volume: u64) -> Quotient
-    requires { ⌜ Divisible w volume ⌝ }
-    ensures { λ r. ⌜ r ≡ quotientOf w volume ⌝ }
+// The sums divided by the volume, by long division.
+pub fn divide(w: Weights) -> Quotient
+    requires { ⌜ Divisible w ⌝ }
+    ensures { λ r. ⌜ r ≡ quotientOf w ⌝ }
 {
     let high = w.high;
+    let volume = w.volume;
     let rest = high % volume * CHUNK_WIDE + w.low;
     Quotient {
         units: (high / volume * CHUNK_WIDE + rest / volume) as u32,
@@ -209,46 +242,55 @@ pub fn divide(w: Weights, volume: u64) -> Quotient
     }
 }
 
-// The volume of all reaches.
-pub fn total_volume(cards: Cards) -> u64
-    requires { ⌜ length (cardList cards) ≤ 128 ⌝ }
-    ensures { λ r. ⌜ r ≡ totalVolume (cardList cards) ⌝ }
-{
-    let count = flow::reach_count(cards);
-    let mut volume: u64 = 0;
-    let mut i: usize = 0;
-    while i < count {
-        let card = cards.at[i];
-        volume = volume + card.volume as u64;
-        i = i + 1;
-    }
-    volume
-}
-
-// Puts the means of all reaches in their places, and weighs them.
-pub fn average_all(cards: Cards, flows: FlowTable, means: &mut [u8]) -> Weights
-    requires { ⌜ Ready (cardList cards) flows × (meansSize (cardList cards) ≤ length (now means)) ⌝ }
-    ensures { λ r. ⌜ Weighs (cardList cards) (length (cardList cards)) r ⌝ }
-    ensures { λ _. ⌜ now (means .exit) ≡ meansOf (cardList cards) ++ drop (meansSize (cardList cards)) (now (means .entry)) ⌝ }
+// The means of all reaches, and their sums.
+pub fn average_all(cards: Cards, flows: FlowTable) -> MeanTable
+    requires { ⌜ Ready (cardList cards) flows ⌝ }
+    ensures { λ r. ⌜ AllAveraged (cardList cards) r ⌝ }
 {
     let count = flow::reach_count(cards);
     let mut feet = head::no_feet();
-    let mut weights = Weights { high: 0, low: 0 };
+    let mut used = [false; status::OUTLETS];
+    let mut mean = [0u32; REACHES];
+    let mut weights = Weights {
+        high: 0,
+        low: 0,
+        volume: 0,
+    };
     let mut i: usize = 0;
     while i < count {
         let card = cards.at[i];
         let flow = flows.flow[i];
         let depth = flows.depth[i];
         let sums = head::brought_to(&flows.outlet, &feet.bod, &feet.nitrogenous, &feet.oxygen, i);
-        let passed = average_reach(card, flow, depth, sums, means, MEAN_SIZE * i);
+        let used_above = used[i + 1];
+        let passed = average_reach(card, flow, depth, sums, used_above);
         let foot = passed.foot;
         feet.bod[i] = foot.bod;
         feet.nitrogenous[i] = foot.nitrogenous;
         feet.oxygen[i] = foot.oxygen;
-        weights = weigh(weights, card.volume, passed.mean);
+        let outlet = flows.outlet[i] as usize;
+        used[outlet] = status::either(passed.used, used[outlet]);
+        mean[i] = passed.mean;
+        weights = weigh(
+            weights,
+            status::counted(used_above, card.volume),
+            passed.mean,
+        );
         i = i + 1;
     }
-    weights
+    MeanTable { mean, weights }
+}
+
+// Puts the first stored means of a table in their places.
+pub fn put_table(means: &mut [u8], stored: &[u32; REACHES], count: usize)
+    requires { ⌜ (count ≤ 128) × (meanBytes * count ≤ length (now means)) ⌝ }
+    ensures { λ _. ⌜ now (means .exit) ≡ firstRows (storedRow (now (stored .entry))) count ++ drop (meanBytes * count) (now (means .entry)) ⌝ }
+{
+    let mut i: usize = 0;
+    while i < count {
+        record::put_complement(means, MEAN_SIZE * i, stored[i]);
+        i = i + 1;
+    }
 }
 
 // The mean oxygen of each reach of a river file, in four bytes each, and the mean of the river, or a refusal, which writes nothing.
@@ -260,16 +302,17 @@ pub fn mean(file: &[u8], means: &mut [u8]) -> RiverMean
     match outcome {
         Outcome::Refused(r) => RiverMean::Refused(r),
         Outcome::Accepted => {
-            let size = MEAN_SIZE * flow::reach_count(river.cards);
-            if means.len() < size {
+            let count = flow::reach_count(river.cards);
+            if means.len() < MEAN_SIZE * count {
                 return RiverMean::Refused(refusal::refuse(12, 0));
             }
-            let volume = total_volume(river.cards);
-            if volume == 0 {
+            let table = average_all(river.cards, river.flows);
+            let weights = table.weights;
+            if weights.volume == 0 {
                 return RiverMean::Refused(refusal::refuse(16, 0));
             }
-            let weights = average_all(river.cards, river.flows, means);
-            let q = divide(weights, volume);
+            put_table(means, &table.mean, count);
+            let q = divide(weights);
             RiverMean::Weighed {
                 units: q.units,
                 remainder: q.remainder,

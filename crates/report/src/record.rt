@@ -6,7 +6,7 @@ use river::card::Nitrification;
 use river::flow;
 use river::head::STORED_ZERO;
 ghost use mathlib.Core.Path.{_≡_};
-ghost use mathlib.Core.List.{_∷_, _++_};
+ghost use mathlib.Core.List.{[], _∷_, _++_};
 ghost use Prim.Native.Nat.{_+_, _*_, _≤_, _<_};
 ghost use lib.ListN.{length};
 ghost use Rattle.river.specs.Bytes.{Put, markBytes, twoBytes, fourBytes, fourAt};
@@ -16,7 +16,7 @@ ghost use Rattle.report.specs.Record.{isNitrified, hasNitrification, com
 ghost use Rattle.report.specs.Report.{reportSize};
 
 // How many bytes an `RP` record has, and an `RN` record.
-pub const RP_SIZE: usize = 29;
+pub const RP_SIZE: usize = 30;
 
 pub const RN_SIZE: usize = 10;
 
@@ -30,6 +30,7 @@ pub struct Line {
     pub critical_instant: u16,
     pub critical_oxygen: u32,
     pub foot_oxygen: u32,
+    pub status: u8,
     pub head_nitrogenous: u32,
     pub foot_nitrogenous: u32,
 }
@@ -125,15 +126,16 @@ fn put_flows(report: &mut [u8], at: usize, line: Line) -> usize
     bytes::put_four(report, next, line.foot_bod)
 }
 
-// The end of an `RP` record: head oxygen, the critical instant, critical and foot oxygen.
+// The end of an `RP` record: head oxygen, the critical instant, critical and foot oxygen, the status.
 fn put_oxygen(report: &mut [u8], at: usize, line: Line) -> usize
-    requires { ⌜ at + 14 ≤ length (now report) ⌝ }
-    ensures { λ r. ⌜ Put (now (report .entry)) at (fourBytes (complement (oxygenOf (line .«head_oxygen»))) ++ twoBytes (line .«critical_instant») ++ fourBytes (complement (oxygenOf (line .«critical_oxygen»))) ++ fourBytes (complement (oxygenOf (line .«foot_oxygen»)))) (now (report .exit)) r ⌝ }
+    requires { ⌜ at + 15 ≤ length (now report) ⌝ }
+    ensures { λ r. ⌜ Put (now (report .entry)) at (fourBytes (complement (oxygenOf (line .«head_oxygen»))) ++ twoBytes (line .«critical_instant») ++ fourBytes (complement (oxygenOf (line .«critical_oxygen»))) ++ fourBytes (complement (oxygenOf (line .«foot_oxygen»))) ++ line .status ∷ []) (now (report .exit)) r ⌝ }
 {
     let next = put_complement(report, at, line.head_oxygen);
     let next = bytes::put_two(report, next, line.critical_instant);
     let next = put_complement(report, next, line.critical_oxygen);
-    put_complement(report, next, line.foot_oxygen)
+    let next = put_complement(report, next, line.foot_oxygen);
+    bytes::put_byte(report, next, line.status)
 }
 
 // An `RN` record: mark, head and foot nitrogenous BOD.
@@ -189,8 +191,9 @@ fn line_in(s: &[u8], nitrified: bool) -> Line
         critical_instant: bytes::two_at(s, 19),
         critical_oxygen: complement_at(s, 21),
         foot_oxygen: complement_at(s, 25),
-        head_nitrogenous: nitrogenous_at(s, nitrified, 31),
-        foot_nitrogenous: nitrogenous_at(s, nitrified, 35),
+        status: bytes::byte_at(s, 29),
+        head_nitrogenous: nitrogenous_at(s, nitrified, 32),
+        foot_nitrogenous: nitrogenous_at(s, nitrified, 36),
     }
 }
 

@@ -21,7 +21,7 @@ use Rattle.river.proofs.Acceptance.{accepts-exactly}
 use Rattle.river.proofs.Answers.{after-refused}
 use Rattle.river.proofs.Files.{reads-lawful}
 use Rattle.river.proofs.bytes.Puts.{put-at-start}
-use Rattle.report.specs.Program.{figuresAt}
+use Rattle.report.specs.Program.{reportedAt}
 use Rattle.report.specs.Record.{hasNitrification, Figures, plainBytes, recordBytes}
 use Rattle.report.specs.Report.{reportAnswer, Reports, TellsSize}
 use Rattle.report.proofs.Size.{nitrification-in-force}
@@ -59,7 +59,7 @@ module _ {file : List ℕ} (bytes : AreBytes file) where
       ∙ told (hasNitrification (a .river .cards))
       ∙ sym (ap hasNitrification (a .in-force) ∙ nitrification-in-force (a .river .factors) (a .river .cards))
 
-  module _ {before after : List ℕ} {result : ℕ} (long : length before ≡ 39 * 128) (reports : Reports file before after result) where
+  module _ {before after : List ℕ} {result : ℕ} (long : length before ≡ 40 * 128) (reports : Reports file before after result) where
     -- a result of 0: the lines of the records are those of the river
     pub lines-are : {size : ℕ} → TellsSize file size → result ≡ 0 → linesOf (ltb plainBytes size) (recorded (ltb plainBytes size) after) (twoAt file 2) ≡ textOf (acceptFile file)
     unfolding textOf
@@ -67,7 +67,7 @@ module _ {file : List ℕ} (bytes : AreBytes file) where
         let river = reports .accepts z in
         let nitrified = hasNitrification (river .cards) in
         rw (nitrified-is (river .passes) tells, counted (river .passes) .0)
-        (same-lines nitrified (recorded nitrified after) (figuresAt (river .cards)) (length (river .cards)) (reports .figures river)
+        (same-lines nitrified (recorded nitrified after) (reportedAt (river .cards)) (length (river .cards)) (reports .figures river)
         ∙ sym (ap textOf (river .passes)))
 
     -- any other: its number and reach are the refusal's

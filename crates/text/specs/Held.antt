@@ -20,11 +20,11 @@ wordsOf numbers = map signed (map oxygenOf numbers)
 
 -- how many numbers the line of a reach has, by whether its river has nitrification
 abbrev pub numberCount : (nitrified : Bool) → ℕ
-numberCount nitrified = cond nitrified 11 9
+numberCount nitrified = cond nitrified 12 10
 
--- the bytes of a reach's line at most: 22 for each of eleven numbers, which are 20 digits, a sign and what stands after the word
+-- the bytes of a reach's line at most: 22 for each of twelve numbers, which are 20 digits, a sign and what stands after the word
 abbrev pub longestLine : ℕ
-longestLine = 242
+longestLine = 264
 
 -- the figures of reach i in a report, by whether its river has nitrification
 abbrev pub recorded : (nitrified : Bool) → List ℕ → ℕ → Figures

@@ -11,7 +11,7 @@ use lib.ListN.{length, drop}
 use Rattle.river.specs.declared.card.Card.{Card}
 use Rattle.river.specs.Refusal.{Answer, accepted, refused}
 use Rattle.river.specs.Accept.{acceptFile}
-use Rattle.report.specs.Program.{figuresAt}
+use Rattle.report.specs.Program.{reportedAt}
 use Rattle.report.specs.Record.{hasNitrification, Figures}
 
 -- the characters of a text
@@ -52,7 +52,7 @@ unfoldable pub line : List (List ℕ) → List ℕ
 line [] = []
 line (w ∷ ws) = w ++ (afterWord ws ++ line ws)
 
--- the numbers in the line of a reach: reach, depth, Q, head BOD, foot BOD, head oxygen, critical instant, critical oxygen, foot oxygen;
+-- the numbers in the line of a reach: reach, depth, Q, head BOD, foot BOD, head oxygen, critical instant, critical oxygen, foot oxygen, status;
 -- and in a river with nitrification head and foot nitrogenous BOD
 unfoldable pub numbersOf : (nitrified : Bool) (reach : ℕ) → Figures → List ℤ
 numbersOf nitrified reach f =
@@ -63,7 +63,8 @@ numbersOf nitrified reach f =
     pos (f .foot-bod) ∷
     f .head-oxygen ∷
     pos (f .critical-instant) ∷
-    f .critical-oxygen ∷ f .foot-oxygen ∷ cond nitrified (pos (f .head-nitrogenous) ∷ pos (f .foot-nitrogenous) ∷ []) []
+    f .critical-oxygen ∷
+    f .foot-oxygen ∷ pos (f .status) ∷ cond nitrified (pos (f .head-nitrogenous) ∷ pos (f .foot-nitrogenous) ∷ []) []
 
 -- the line of a reach
 abbrev pub reachLine : (nitrified : Bool) (reach : ℕ) → Figures → List ℕ
@@ -80,7 +81,7 @@ refusalLine n reach = line (ascii "refused" ∷ number n ∷ ascii "reach" ∷ n
 
 -- the text for a river file, by the answer of reading and flow check: one line a reach, or the refusal
 unfoldable pub textOf : Answer (List Card) → List ℕ
-textOf (accepted cards) = linesOf (hasNitrification cards) (figuresAt cards) (length cards)
+textOf (accepted cards) = linesOf (hasNitrification cards) (reportedAt cards) (length cards)
 textOf (refused r) = refusalLine (r .number) (r .reach)
 
 -- a call that puts a text, with the buffer before and after: it returns the length of the text, which stands at the buffer's start,

@@ -39,7 +39,7 @@ const COUNT_AT: usize = 2;
 // The longest report: the records of 128 reaches, each of both kinds.
 const REPORT: usize = REACHES * (RP_SIZE + RN_SIZE);
 
-// Room for the longest text: 128 lines of eleven numbers.
+// Room for the longest text: 128 lines of twelve numbers.
 pub const TEXT: usize = REACHES * NUMBERS * LONGEST_NUMBER;
 
 // The means of 128 reaches.

@@ -12,9 +12,9 @@ use report::record::Line;
 use river::head::STORED_ZERO_WIDE;
 
 // The numbers in a line, with nitrification and without.
-pub const NUMBERS: usize = 11;
+pub const NUMBERS: usize = 12;
 
-const PLAIN_NUMBERS: usize = 9;
+const PLAIN_NUMBERS: usize = 10;
 
 // A number from zero on.
 pub fn plain(n: u32) -> u64
@@ -26,7 +26,7 @@ pub fn plain(n: u32) -> u64
 // How many numbers the line of a reach has, by whether its river has nitrification.
 pub fn number_count(nitrified: bool) -> usize
     ensures { λ r. ⌜ r ≡ numberCount nitrified ⌝ }
-    ensures { λ r. ⌜ r ≤ 11 ⌝ }
+    ensures { λ r. ⌜ r ≤ 12 ⌝ }
 {
     if nitrified { NUMBERS } else { PLAIN_NUMBERS }
 }
@@ -45,6 +45,7 @@ pub fn numbers_of(reach: u32, line: Line) -> [u64; NUMBERS]
         plain(line.critical_instant as u32),
         line.critical_oxygen as u64,
         line.foot_oxygen as u64,
+        plain(line.status as u32),
         plain(line.head_nitrogenous),
         plain(line.foot_nitrogenous),
     ]

@@ -17,7 +17,7 @@ abbrev μ-loop : tie.MeasureT-loop
 μ-loop report nitrified reaches size i₀ i = reaches - i
 
 -- The ends of records are small.
-ends : (nitrified : Bool) {size i : ℕ} → size ≡ recordBytes nitrified → i ≤ 255 → size * i + size ≤ 39 * 255 + 39
+ends : (nitrified : Bool) {size i : ℕ} → size ≡ recordBytes nitrified → i ≤ 255 → size * i + size ≤ 40 * 255 + 40
 ends nitrified sized low = rw sized (omega (arith, mul-le-mul (record-bounds nitrified .1) low, record-bounds nitrified .1))
 
 loop-holds : tie.Need-loop-holds Inv-loop μ-loop

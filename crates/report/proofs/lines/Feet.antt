@@ -1,6 +1,7 @@
 -- The head, the line and the foot of a reach of an accepted river, from the tables of flows and feet and from what is handed on of them.
 -- Assumes nothing.
 use mathlib.Core.Path.{_≡_, refl, sym, ap, _∙_, subst}
+use mathlib.Core.Bool.{Bool, cond}
 use mathlib.Core.List.{List, [], _∷_}
 use Prim.Native.Nat.{ℕ, suc, _+_, _-_, _*_, _≤_, _<_}
 use native.Mathlib.Nat.{le-refl, not-suc-le-zero}
@@ -21,7 +22,6 @@ use Rattle.river.specs.declared.head.FootTable.{FootTable}
 use Rattle.river.specs.declared.head.Head.{Head}
 use Rattle.river.specs.declared.source.Demand.{Demand}
 use Rattle.river.specs.declared.source.Demand.the-variants.{Bod, Nitrogenous}
-use Rattle.river.specs.Bytes.{fourBytes}
 use Rattle.river.specs.Card.{blank}
 use Rattle.river.specs.Source.{sourceOf}
 use Rattle.river.specs.Flow.{Feeders, flowLimit, takeOf, cardOf, above, feedersAmong, fed, flowOf, reachFlow, flowAt, massAt, depthAt}
@@ -36,16 +36,25 @@ use Rattle.river.proofs.head.Heads.{fedBy, quBy, sumsBy, flow-bounded, fed-here
 use Rattle.report.specs.Bed.{lossLimit}
 use Rattle.report.specs.Program.{demandSum, oxygenSum, demandAtHead, oxygenAtHead, demandAt, oxygenAt, figuresBelow, figuresOf, figuresAt, foot}
 use Rattle.report.specs.Ties.{footFigure}
-use Rattle.report.specs.Record.{hasNitrification, complement, encodeRecord, figuresIn, Figures}
+use Rattle.report.specs.Record.{hasNitrification, encodeRecord, figuresIn, Figures}
+use Rattle.report.specs.Status.{isUsed, reported}
 use Rattle.report.specs.declared.record.Line.{Line}
 use Rattle.report.specs.Mean.{meanOxygen}
-use Rattle.report.specs.MeanLines.{PassageBelow, PassageOf, ReachAveraged}
+use Rattle.report.specs.MeanLines.{PassageBelow, ReachAveraged}
+use Rattle.report.specs.declared.lines.HandedOn.{HandedOn}
 use Rattle.report.specs.declared.mean.Passage.{Passage}
-use Rattle.report.specs.Lines.{LineReady, HeadFits, footBy, Ready, FeetOf, LineOf, LineAt, HeadOfReach, ReachReported}
+use Rattle.report.specs.declared.mean.Passed.{Passed}
+use Rattle.report.specs.Lines.{LineReady, HeadFits, footBy, Ready, FeetOf, LineOf, LineAt, UsedAt, HeadOfReach, ReachReported}
 use Rattle.report.proofs.Facts.Floor.{ofℤ-sub}
 use Rattle.report.proofs.Bounds.{mostBelow}
 use Rattle.report.proofs.Forest.{rates-pass, bed-passes, reach-accepted}
-use Rattle.report.proofs.River.{IsRiver, head-in-range, instant-in-range, reach-tied}
+use Rattle.report.proofs.River.{IsRiver, head-in-range, instant-in-range, falls}
+
+-- what reach i + 1 hands on: its foot brings what its figures say, in bounds, and its mean
+pub record PassageOf (cards : List Card) (i : ℕ) (p : Passage) : Type 0 where
+  pub brings : footOf (flowAt cards (suc i)) (p .«foot_bod») (p .«foot_nitrogenous») (p .«foot_oxygen») ≡ footBy (flowAt cards (suc i)) (figuresAt cards (suc i))
+  pub within : FootWithin cards i (footBy (flowAt cards (suc i)) (figuresAt cards (suc i)))
+  pub mean : oxygenOf (p .mean) ≡ meanOxygen (cardOf cards (suc i)) (above cards (suc i))
 
 -- stored oxygen is back where it was
 pub stored-back : (z : ℤ) → negsuc 1_640_000_383 ≤ℤ z → oxygenOf (storedOf z) ≡ z
@@ -179,12 +188,16 @@ module _ {card : Card} {flow depth : ℕ} {sums : Brought} (p : LineAt card flow
         (head-within tabled (p .own) qu-is (p .sums-are) at-tables)
 
   module _ {h : Head} (here : HeadOfReach (p .cards) (p .i) h) where
-    -- the line below it is that of the reach
-    pub line-of-reach : (line : Line) → figuresIn line ≡ figuresBelow card depth flow (h .bod) (h .nitrogenous) (oxygenOf (h .oxygen)) → LineOf (p .cards) (p .i) line
+    -- the figures below it are those of the reach
+    figures-here : {used : Bool} → UsedAt p used → figuresBelow used card depth flow (h .bod) (h .nitrogenous) (oxygenOf (h .oxygen)) ≡ figuresAt (p .cards) (suc (p .i))
     unfolding figuresOf
-    line-of-reach line e =
+    figures-here above-is = rw (above-is, p .own, depth-here, flow-here, here .bod, here .nitrogenous, here .oxygen)
+
+    -- and so the line below it is that of the reach
+    pub line-of-reach : {used : Bool} → UsedAt p used → (line : Line) → figuresIn line ≡ figuresBelow used card depth flow (h .bod) (h .nitrogenous) (oxygenOf (h .oxygen)) → LineOf (p .cards) (p .i) line
+    line-of-reach above-is line e =
         record {
-          figures = e ∙ rw (p .own, depth-here, flow-here, here .bod, here .nitrogenous, here .oxygen);
+          figures = e ∙ figures-here above-is;
           mass = rw (ap (λ (f : Figures). f .head-bod) e, ap (λ (f : Figures). f .head-nitrogenous) e) (here .mass);
         }
 
@@ -199,7 +212,7 @@ module _ {card : Card} {flow depth : ℕ} {sums : Brought} (p : LineAt card flow
         let b : PassageBelow card′ Q (demandAtHead Bod card′ up) (demandAtHead Nitrogenous card′ up) (oxygenAtHead card′ up) passage = rw (p .own, flow-here, here .bod, here .nitrogenous, here .oxygen) at below in
         let oxygen : passage .«foot_oxygen» ≡ storedOf (f .foot-oxygen) = sym (stored-of (passage .«foot_oxygen»)) ∙ ap storedOf (b .foot-oxygen) in
         let brings : footOf Q (passage .«foot_bod») (passage .«foot_nitrogenous») (passage .«foot_oxygen») ≡ footBy Q f = rw (b .foot-bod, b .foot-nitrogenous, oxygen) in
-        let t = reach-tied (is-river (p .ready)) (p .i) (p .within) .foot-demand in
+        let t = falls (is-river (p .ready)) (p .i) (p .within) in
         let bod : passage .«foot_bod» ≤ h .bod = rw (b .foot-bod, here .bod) (t Bod) in
         let nitrogenous : passage .«foot_nitrogenous» ≤ h .nitrogenous = rw (b .foot-nitrogenous, here .nitrogenous) (t Nitrogenous) in
         record {
@@ -208,16 +221,28 @@ module _ {card : Card} {flow depth : ℕ} {sums : Brought} (p : LineAt card flow
           mean = b .mean;
         }
 
+    -- what is handed on, with the mean as it is reported and the status
+    pub reach-averaged :
+        {passage : Passage} {used : Bool} {passed : Passed} →
+        PassageOf (p .cards) (p .i) passage →
+        passed .foot ≡ footOf flow (passage .«foot_bod») (passage .«foot_nitrogenous») (passage .«foot_oxygen») →
+        oxygenOf (passed .mean) ≡ cond used (pos 0) (oxygenOf (passage .mean)) →
+        UsedAt p used →
+        passed .used ≡ isUsed (figuresBelow used card depth flow (h .bod) (h .nitrogenous) (oxygenOf (h .oxygen)) .status) →
+        ReachAveraged (p .cards) (p .i) passed
+    reach-averaged {passage} of foot mean above-is status =
+        let told = foot ∙ ap (λ (n : ℕ). footOf n (passage .«foot_bod») (passage .«foot_nitrogenous») (passage .«foot_oxygen»)) flow-here ∙ of .brings in
+        record {
+          brings = told;
+          within = rw told (of .within);
+          mean = rw (above-is, of .mean) at mean;
+          used = status ∙ ap (λ (f : Figures). isUsed (f .status)) (figures-here above-is);
+        }
+
   pub line-ready : LineReady card flow
   line-ready =
       let own = reach-accepted (p .cards) (p .ready .lawful) (p .ready .sound) (p .i) (p .within) in
       rw (p .own, flow-here) record { rates = rates-pass own; saturation = own .saturation; bed = bed-passes own }
-
-  -- what is handed on, with the bytes of the mean
-  pub reach-averaged : {passage : Passage} → PassageOf (p .cards) (p .i) passage → (at : ℕ) (before after : List ℕ) {foot : Brought} → foot ≡ footOf flow (passage .«foot_bod») (passage .«foot_nitrogenous») (passage .«foot_oxygen») → after ≡ sets before at (fourBytes (complement (oxygenOf (passage .mean)))) → ReachAveraged (p .cards) (p .i) at before after (record { foot = foot; mean = passage .mean })
-  reach-averaged {passage} of at before after e r =
-      let told = e ∙ ap (λ (n : ℕ). footOf n (passage .«foot_bod») (passage .«foot_nitrogenous») (passage .«foot_oxygen»)) flow-here ∙ of .brings in
-      record { brings = told; within = rw told (of .within); mean = of .mean; bytes = rw (of .mean) at r }
 
   -- what a line says of its reach
   module _ {line : Line} (of : LineOf (p .cards) (p .i) line) where
@@ -227,20 +252,27 @@ module _ {card : Card} {flow depth : ℕ} {sums : Brought} (p : LineAt card flow
         ∙ ap (λ (n : ℕ). footOf (flowAt (p .cards) (suc (p .i))) (line .«foot_bod») (line .«foot_nitrogenous») n) (sym (stored-of (line .«foot_oxygen»)))
         ∙ ap (footBy (flowAt (p .cards) (suc (p .i)))) (of .figures)
 
-    falls : line .«foot_bod» + line .«foot_nitrogenous» ≤ line .«head_bod» + line .«head_nitrogenous»
-    falls =
-        let t = reach-tied (is-river (p .ready)) (p .i) (p .within) .foot-demand in
+    foot-falls : line .«foot_bod» + line .«foot_nitrogenous» ≤ line .«head_bod» + line .«head_nitrogenous»
+    foot-falls =
+        let t = falls (is-river (p .ready)) (p .i) (p .within) in
         let b : line .«foot_bod» ≤ line .«head_bod» = rw (ap (λ (f : Figures). f .foot-bod) (of .figures), ap (λ (f : Figures). f .head-bod) (of .figures)) (t Bod) in
         let n : line .«foot_nitrogenous» ≤ line .«head_nitrogenous» = rw (ap (λ (f : Figures). f .foot-nitrogenous) (of .figures), ap (λ (f : Figures). f .head-nitrogenous) (of .figures)) (t Nitrogenous) in
         omega (arith, b, n)
 
-    -- its foot and its record
-    pub reach-reported : (at : ℕ) (before after : List ℕ) {foot : Brought} → foot ≡ footOf flow (line .«foot_bod») (line .«foot_nitrogenous») (line .«foot_oxygen») → line .«foot_oxygen» < 4_294_967_296 → after ≡ sets before at (encodeRecord (hasNitrification (p .cards)) (figuresIn line)) → ReachReported (p .cards) (p .i) at before after foot
-    reach-reported at before after e fits r =
+    -- its foot, its status and its record
+    pub reach-reported :
+        (at : ℕ) (before after : List ℕ) {told : HandedOn} →
+        told .foot ≡ footOf flow (line .«foot_bod») (line .«foot_nitrogenous») (line .«foot_oxygen») →
+        line .«foot_oxygen» < 4_294_967_296 →
+        told .used ≡ isUsed (line .status) →
+        after ≡ sets before at (encodeRecord (hasNitrification (p .cards)) (reported (figuresIn line))) →
+        ReachReported (p .cards) (p .i) at before after told
+    reach-reported at before after e fits status r =
         record {
           brings = e ∙ brings;
-          within = rw e (foot-within (line .«head_bod» + line .«head_nitrogenous») (line .«foot_bod») (line .«foot_nitrogenous») flow-here falls (of .mass) (omega arith));
-          report = rw (of .figures) at r;
+          within = rw e (foot-within (line .«head_bod» + line .«head_nitrogenous») (line .«foot_bod») (line .«foot_nitrogenous») flow-here foot-falls (of .mass) (omega arith));
+          used = status ∙ ap (λ (f : Figures). isUsed (f .status)) (of .figures);
+          report = r ∙ ap (λ (f : Figures). sets before at (encodeRecord (hasNitrification (p .cards)) (reported f))) (of .figures);
         }
 
 -- the feet with that of one more reach

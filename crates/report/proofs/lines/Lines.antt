@@ -1,6 +1,7 @@
 -- The figures of a reach from its profile, and the ranges that let them be held in four bytes.
 -- Assumes nothing.
 use mathlib.Core.Path.{_≡_}
+use mathlib.Core.Bool.{Bool}
 use Prim.Native.Nat.{ℕ, _+_, _≤_, _<_}
 use native.Mathlib.Nat.{zero-mul, div-le-of-le-mul}
 use native.Mathlib.Omega.{arith}
@@ -19,6 +20,7 @@ use Rattle.report.specs.Bed.{bedOf, BedPasses, lossLimit, BedInRange}
 use Rattle.report.specs.Program.{unitParts, factorsAlong, partsAlong, demandAlong, turnedAlong, lossAlong, oxygenAlong, foot, figuresBelow}
 use Rattle.report.specs.Profile.{StartInRange, startParts, Profiled, oxygenAfter}
 use Rattle.report.specs.Record.{figuresIn}
+use Rattle.report.specs.Status.{statusBy}
 use Rattle.report.specs.declared.bed.Bed.{Bed}
 use Rattle.report.specs.declared.profile.Start.{Start}
 use Rattle.report.specs.declared.profile.Profile.{Profile}
@@ -70,14 +72,15 @@ module _ {step other : Step} {start : Start} {bed : Bed} {p : Profile} (profiled
   pub critical-within : p .«critical_instant» ≤ foot
   critical-within = rw (profiled .critical-instant) (lowest-first (oxygenAfter step other start bed) foot .within)
 
--- the steps of a reach and its saturation make its figures
-module _ (card : Card) (flow depth bod nitrogenous oxygen saturated : ℕ) (step other : Step) (bed : Bed) (p : Profile) where
+-- the steps of a reach and its saturation make its figures, with the status by its critical oxygen
+module _ (used : Bool) (card : Card) (flow depth bod nitrogenous oxygen saturated : ℕ) (step other : Step) (bed : Bed) (p : Profile) (status : ℕ) where
   pub line-figures :
       step ≡ stepOf (card .k1) (card .k2) (card .volume) flow →
       other ≡ stepOf (rateOf Nitrogenous card) (card .k2) (card .volume) flow →
       saturated ≡ saturationOf card →
       bed ≡ bedOf card flow →
       Profiled step other (record { bod = bod; nitrogenous = nitrogenous; oxygen = oxygen; saturation = saturated }) bed p →
+      status ≡ statusBy used (oxygenOf (p .«critical_oxygen»)) →
       figuresIn (record {
         depth = depth;
         flow = flow;
@@ -87,10 +90,11 @@ module _ (card : Card) (flow depth bod nitrogenous oxygen saturated : ℕ) (step
         «critical_instant» = p .«critical_instant»;
         «critical_oxygen» = p .«critical_oxygen»;
         «foot_oxygen» = p .«foot_oxygen»;
+        status = status;
         «head_nitrogenous» = nitrogenous;
         «foot_nitrogenous» = p .«foot_nitrogenous»;
-      }) ≡ figuresBelow card depth flow bod nitrogenous (oxygenOf oxygen)
+      }) ≡ figuresBelow used card depth flow bod nitrogenous (oxygenOf oxygen)
   unfolding demandAlong turnedAlong lossAlong oxygenAlong factorsAlong partsAlong
-  line-figures e n s b made =
+  line-figures e n s b made told =
       let m : Profiled (stepOf (card .k1) (card .k2) (card .volume) flow) (stepOf (rateOf Nitrogenous card) (card .k2) (card .volume) flow) (record { bod = bod; nitrogenous = nitrogenous; oxygen = oxygen; saturation = saturationOf card }) (bedOf card flow) p = rw (e, n, s, b) at made in
-      cc (m .foot-bod, m .foot-nitrogenous, m .foot-oxygen .is, m .critical-instant, m .critical-oxygen .is)
+      cc (m .foot-bod, m .foot-nitrogenous, m .foot-oxygen .is, m .critical-instant, m .critical-oxygen .is, told)

@@ -1,19 +1,21 @@
--- The means weighed in two sums: together they stand for the sum of volume × mean, and their quotient by long division is the river's mean.
--- The rows of means are named here so that they are checked first. Assumes nothing.
+-- The means weighed in two sums: together they stand for the sum of volume × mean, and their quotient by long division is the river's mean. The
+-- table of the means is kept beside them. The rows of means are named here so that they are checked first. Assumes nothing.
 use mathlib.Core.Path.{_≡_, refl, sym, ap, ap₂, _∙_}
 use mathlib.Core.List.{List}
 use Prim.Native.Nat.{ℕ, suc, _+_, _*_, _-_, _/_, _%_, _≤_, _<_}
-use native.Mathlib.Nat.{add-mul, suc-mul, add-sub-of-le, div-add-mod', div-le-of-le-mul, mul-comm, mod-eq-of-lt, mod-lt, lt-of-mul-lt-mul-right, mul-add-div-right, mul-add, mul-add-mod-self-right, mul-le-mul, mul-le-mul-left}
+use native.Mathlib.Nat.{add-mul, suc-mul, add-sub-of-le, div-add-mod', div-le-of-le-mul, mul-comm, mod-eq-of-lt, mod-lt, lt-of-mul-lt-mul-right, mul-add-div-right, mul-add, mul-add-mod-self-right, mul-le-mul, mul-le-mul-left, not-suc-le-zero}
 use native.Mathlib.Omega.{arith}
 use native.Mathlib.Decide.{decLe}
 use lib.IntN.{ℤ, pos, negsuc, negℤ, subℕ, _+ℤ_, _*ℤ_, +ℤ-comm}
+use lib.ListN.{replicate, set, length-replicate, length-set}
 use Rattle.river.specs.declared.card.Card.{Card}
 use Rattle.river.specs.Head.{floor}
 use Rattle.river.specs.Stored.{storedZero, storedLimit, oxygenOf, oxygenSumOf}
+use Rattle.river.proofs.flow.Table.{entered}
 use Rattle.river.proofs.head.Offset.{sub-pos, sub-neg, minus, sub-add, times-sub, floor-offset}
 use Rattle.report.proofs.MeanRows
-use Rattle.report.specs.Mean.{meanAt, volumeAt, weightedSum, restOf, dividedBy, Weighted, volumeSum}
-use Rattle.report.specs.MeanLines.{chunk, volumeLimit, weighedWith, wholeSum, Weighs}
+use Rattle.report.specs.Mean.{meanAt, countedVolumeAt, weightedSum, restOf, dividedBy, volumeSum}
+use Rattle.report.specs.MeanLines.{chunk, volumeLimit, weighedWith, wholeSum, Weighs, MeansTabled}
 use Rattle.report.specs.declared.mean.Weights.{Weights}
 
 -- ---- long division by chunks of 16 bits
@@ -94,15 +96,16 @@ one-weighed w volume mean = parts (mean / chunk) (mean % chunk) (div-add-mod' me
     parts : (h l : ℕ) → h * chunk + l ≡ mean → chunk * (w .high + volume * h) + (w .low + volume * l) ≡ chunk * w .high + w .low + volume * mean
     parts h l e = rw (← e) (omega arith)
 
-pub weighs-none : (cards : List Card) → Weighs cards 0 (record { high = 0; low = 0 })
+pub weighs-none : (cards : List Card) → Weighs cards 0 (record { high = 0; low = 0; volume = 0 })
 unfolding volumeSum weightedSum
-weighs-none cards = record { sum = refl; fits = omega arith; high = omega arith; low = omega arith }
+weighs-none cards =
+    record { sum = refl; fits = omega arith; high = omega arith; low = omega arith; volume = refl; few = omega arith }
 
-pub weighs-next : {cards : List Card} {n : ℕ} {w : Weights} (mean : ℕ) → Weighs cards n w → volumeAt cards (suc n) ≤ volumeLimit → mean ≤ storedLimit → oxygenOf mean ≡ meanAt cards (suc n) → Weighs cards (suc n) (weighedWith w (volumeAt cards (suc n)) mean)
+pub weighs-next : {cards : List Card} {n : ℕ} {w : Weights} (mean : ℕ) → Weighs cards n w → countedVolumeAt cards (suc n) ≤ volumeLimit → mean ≤ storedLimit → oxygenOf mean ≡ meanAt cards (suc n) → Weighs cards (suc n) (weighedWith w (countedVolumeAt cards (suc n)) mean)
 unfolding volumeSum weightedSum oxygenOf
 weighs-next {cards} {n} {w} mean h few fits is =
-    let v = volumeAt cards (suc n) in
-    let above = volumeSum (λ i. volumeAt cards (suc i)) n in
+    let v = countedVolumeAt cards (suc n) in
+    let above = volumeSum (λ i. countedVolumeAt cards (suc i)) n in
     let total = one-weighed w v mean in
     record {
       sum =
@@ -112,4 +115,18 @@ weighs-next {cards} {n} {w} mean h few fits is =
       fits = omega (arith, total, h .fits, mul-le-mul-left v fits, mul-add storedLimit above v, mul-comm storedLimit v);
       high = omega (arith, h .high, upper-part v mean few fits, suc-mul n (65_535 * volumeLimit));
       low = omega (arith, h .low, lower-part v mean few, suc-mul n (65_535 * volumeLimit));
+      volume = ap (λ (m : ℕ). m + v) (h .volume);
+      few = omega (arith, h .few, suc-mul n volumeLimit);
+    }
+
+-- ---- the table of means
+
+pub means-none : (cards : List Card) → MeansTabled cards 0 (replicate 128 0)
+means-none cards = record { full = length-replicate {A = ℕ} 128 0; mean = λ j l. absurd (not-suc-le-zero l) }
+
+pub means-next : {cards : List Card} {n : ℕ} {means : List ℕ} (mean : ℕ) → MeansTabled cards n means → n < 128 → oxygenOf mean ≡ meanAt cards (suc n) → MeansTabled cards (suc n) (set means n mean)
+means-next {cards} {n} {means} mean h few is =
+    record {
+      full = length-set means n mean ∙ h .full;
+      mean = entered means n mean (λ j x. oxygenOf x ≡ meanAt cards (suc j)) (rw (h .full) few) is (h .mean);
     }

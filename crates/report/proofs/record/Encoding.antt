@@ -64,6 +64,7 @@ read-back false f post w =
       critical-instant = f .critical-instant;
       critical-oxygen = f .critical-oxygen;
       foot-oxygen = f .foot-oxygen;
+      status = f .status;
       head-nitrogenous = sym (z .0) i;
       foot-nitrogenous = sym (z .1) i;
     })

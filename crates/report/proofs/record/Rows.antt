@@ -4,7 +4,7 @@ use mathlib.Core.Path.{_≡_, refl, sym, ap, ap₂, _∙_}
 use mathlib.Core.List.{List, _++_, append-assoc}
 use Prim.Native.Nat.{ℕ, zero, suc, _+_, _*_, _≤_, _<_}
 use native.Mathlib.Decide.{decLe}
-use native.Mathlib.Nat.{mul-zero, mul-suc, mul-le-mul-left, not-suc-le-zero}
+use native.Mathlib.Nat.{mul-zero, mul-suc, mul-le-mul-left, not-suc-le-zero, le-refl}
 use native.Mathlib.Omega.{arith}
 use lib.ListN.{length, take, drop, length-append}
 use lib.Seq.{sets, length-sets, sets-eq, take-at, drop-at, drop-append-add, drop-drop}
@@ -74,3 +74,9 @@ module _ (row : ℕ → List ℕ) (size : ℕ) (long : (i : ℕ) → length (row
           ∙ drop-append-add (firstRows row n) (drop (size * n) before) size
           ∙ drop-drop size (size * n) before
           ∙ ap (λ (k : ℕ). drop k before) (sym (mul-suc size n))
+
+-- rows that agree place by place make the same bytes
+pub same-rows : {row other : ℕ → List ℕ} (n : ℕ) → ((i : ℕ) → i < n → row i ≡ other i) → firstRows row n ≡ firstRows other n
+unfolding firstRows
+same-rows zero h = refl
+same-rows (suc n) h = ap₂ _++_ (same-rows n (λ i l. h i (omega arith))) (h n (le-refl (suc n)))

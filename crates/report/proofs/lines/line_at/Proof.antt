@@ -14,7 +14,7 @@ line-of-requires c κs =
     (line-ready p, c .head-at .ensures p .fits)
 
 returns : tie.Need-returns
-returns c = λ p. line-of-reach p (c .before .head-at .ensures p) (c .line-of .result) (c .line-of .ensures)
+returns c = λ p u. line-of-reach p (c .before .head-at .ensures p) u (c .line-of .result) (c .line-of .ensures)
 
 pub line-at-spec : {M : Type 1} → statement M
 line-at-spec = tie.close (tie.spec (λ head-at-requires. search needs) cast-line-of line-of-requires returns)

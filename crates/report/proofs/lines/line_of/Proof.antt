@@ -33,28 +33,29 @@ profile-of-requires c κs =
       start-bed (s .args .card) step (c .before .before .before .before .bed-of .ensures) (p .rates Bod) (p .bed),
     )
 
-cast-t15 : tie.Need-cast-t15
-cast-t15 c =
-    let s = c .before .before .before .before .before .before .before .before .before in
-    record { fits = omega (arith, s .pre .1 .demands, foot-bod-below (c .before .profile-of .ensures) (start-sound (c .before .before .before .before .before .before .before .before .step-of .ensures) (s .pre .0 .rates Bod))) }
+cast-t17 : tie.Need-cast-t17
+cast-t17 c =
+    let s = c .before .before .before .before .before .before .before .before .before .before in
+    record { fits = omega (arith, s .pre .1 .demands, foot-bod-below (c .before .before .profile-of .ensures) (start-sound (c .before .before .before .before .before .before .before .before .before .step-of .ensures) (s .pre .0 .rates Bod))) }
 
-cast-t16 : tie.Need-cast-t16
-cast-t16 c = omega (arith, critical-within (c .before .before .profile-of .ensures))
+cast-t18 : tie.Need-cast-t18
+cast-t18 c = omega (arith, critical-within (c .before .before .before .profile-of .ensures))
 
-cast-t19 : tie.Need-cast-t19
-cast-t19 c =
-    let s = c .before .before .before .before .before .before .before .before .before .before .before .before .before in
-    record { fits = omega (arith, s .pre .1 .demands, foot-nitrogenous-below (c .before .before .before .before .before .profile-of .ensures) (start-sound (c .before .before .before .before .before .before .before .before .before .before .before .nitrogenous-step .ensures) (s .pre .0 .rates Nitrogenous))) }
+cast-t21 : tie.Need-cast-t21
+cast-t21 c =
+    let s = c .before .before .before .before .before .before .before .before .before .before .before .before .before .before in
+    record { fits = omega (arith, s .pre .1 .demands, foot-nitrogenous-below (c .before .before .before .before .before .before .profile-of .ensures) (start-sound (c .before .before .before .before .before .before .before .before .before .before .before .before .nitrogenous-step .ensures) (s .pre .0 .rates Nitrogenous))) }
 
 returns : tie.Need-returns
 returns c =
-    let s = c .before .before .before .before .before .before .before .before .before .before .before .before .before in
-    line-figures (s .args .card) (s .args .flow) (s .args .depth) (s .args .head .bod) (s .args .head .nitrogenous) (s .args .head .oxygen) _ _ _ _ _
-    (c .before .before .before .before .before .before .before .before .before .before .before .before .step-of .ensures)
-    (c .before .before .before .before .before .before .before .before .before .before .before .nitrogenous-step .ensures)
-    (c .before .before .before .before .before .before .before .before .before .saturation-of .ensures)
-    (c .before .before .before .before .before .before .before .before .before .before .bed-of .ensures)
-    (c .before .before .before .before .before .profile-of .ensures)
+    let s = c .before .before .before .before .before .before .before .before .before .before .before .before .before .before in
+    line-figures (s .args .used) (s .args .card) (s .args .flow) (s .args .depth) (s .args .head .bod) (s .args .head .nitrogenous) (s .args .head .oxygen) _ _ _ _ _ _
+    (c .before .before .before .before .before .before .before .before .before .before .before .before .before .step-of .ensures)
+    (c .before .before .before .before .before .before .before .before .before .before .before .before .nitrogenous-step .ensures)
+    (c .before .before .before .before .before .before .before .before .before .before .saturation-of .ensures)
+    (c .before .before .before .before .before .before .before .before .before .before .before .bed-of .ensures)
+    (c .before .before .before .before .before .before .profile-of .ensures)
+    (c .before .status-of .ensures)
 
 pub line-of-spec : {M : Type 1} → statement M
 line-of-spec =
@@ -64,14 +65,15 @@ line-of-spec =
     nitrogenous-step-requires
     bed-of-requires
     saturation-of-requires
-    (λ cast-t11. search needs)
-    (λ cast-t12. search needs)
     (λ cast-t13. search needs)
     (λ cast-t14. search needs)
+    (λ cast-t15. search needs)
+    (λ cast-t16. search needs)
     profile-of-requires
-    cast-t15
-    cast-t16
-    (λ cast-t17. search needs)
-    (λ cast-t18. search needs)
-    cast-t19
+    (λ cast-critical-oxygen. search needs)
+    cast-t17
+    cast-t18
+    (λ cast-t19. search needs)
+    (λ status-of-requires. search needs)
+    cast-t21
     returns)

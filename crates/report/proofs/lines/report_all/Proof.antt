@@ -1,46 +1,44 @@
 -- `report::lines::report_all` meets its contract. The loop's invariant: the records of the first i reaches stand in the report,
--- the rest of it is as it was, and the feet of these reaches are entered. The measure is how many reaches are left. Assumes nothing.
-use mathlib.Core.Path.{_≡_, refl, ap, _∙_}
-use mathlib.Core.Bool.{Bool}
+-- the rest of it is as it was, and the tables have the feet of these reaches and where oxygen is used up. The measure is how many reaches are left.
+-- Assumes nothing.
+use mathlib.Core.Path.{_≡_, ap, _∙_}
+use mathlib.Core.Bool.{Bool, false, _||_}
 use mathlib.Core.List.{List}
 use Prim.Native.Nat.{ℕ, suc, _+_, _*_, _-_, _≤_, _<_}
 use native.Mathlib.Numerals.{add-one}
 use native.Mathlib.Omega.{arith}
-use lib.ListN.{length, getD}
-use lib.Seq.{sets}
+use lib.ListN.{length, getD, set}
 use borrow.Author.Needs.{needs}
-use Rattle.river.specs.declared.card.Card.{Card}
 use Rattle.river.specs.declared.card.Cards.{Cards}
 use Rattle.river.specs.declared.flow.FlowTable.{FlowTable}
 use Rattle.river.specs.declared.head.Brought.{Brought}
 use Rattle.river.specs.declared.head.FootTable.{FootTable}
 use Rattle.river.specs.Card.{cardList, blank}
-use Rattle.river.proofs.flow.Count.{card-of-river}
-use Rattle.river.proofs.head.Heads.{sumsBy, sums-fit}
-use Rattle.report.specs.Program.{figuresAt}
+use Rattle.river.specs.HeadTable.{withFoot}
+use Rattle.river.proofs.head.Heads.{sumsBy}
+use Rattle.report.specs.Program.{reportedAt}
 use Rattle.report.specs.Record.{hasNitrification, recordBytes, recordSize}
 use Rattle.report.specs.Report.{recordOf, reportSize}
-use Rattle.report.specs.Lines.{FeetOf, Ready, PlacedAt}
+use Rattle.report.specs.declared.lines.HandedOn.{HandedOn}
+use Rattle.report.specs.Lines.{PlacedAt, ReachReported}
 use Rattle.report.proofs.record.Encoding.{record-length}
 use Rattle.report.proofs.record.Rows.{Filled, fill-start, fill-more, row-fits}
-use Rattle.report.proofs.lines.Feet.{head-tabled, feet-next, no-feet-yet}
+use Rattle.report.proofs.lines.Reaches.{Reaches, none-yet, all-reaches, here, few, outlet-here, sums-asked, used-told, line-here, one-further}
 use Rattle.report.proofs.lines.report_all.Statement.{statement}
 use Rattle.report.proofs.lines.report_all.Tie as tie
 
-record Progress (cards : List Card) (report₀ : List ℕ) (count : ℕ) (nitrified : Bool) (size : ℕ) (report : List ℕ) (feet : FootTable) (i : ℕ) : Type 0 where
-  within : i ≤ count
-  counted : count ≡ length cards
-  nitrification : nitrified ≡ hasNitrification cards
-  sized : size ≡ recordSize cards
-  room : reportSize cards ≤ length report₀
-  feet-are : FeetOf cards feet i
-  filled : Filled (recordOf cards) (recordSize cards) report₀ i report
+record Progress (cs : Cards) (flows : FlowTable) (report₀ : List ℕ) (count : ℕ) (nitrified : Bool) (size : ℕ) (report : List ℕ) (feet : FootTable) (used : List Bool) (i : ℕ) : Type 0 where
+  reaches : Reaches cs flows count feet used i
+  nitrification : nitrified ≡ hasNitrification (cardList cs)
+  sized : size ≡ recordSize (cardList cs)
+  room : reportSize (cardList cs) ≤ length report₀
+  filled : Filled (recordOf (cardList cs)) (recordSize (cardList cs)) report₀ i report
 
 abbrev Inv-loop : tie.InvT-loop
-Inv-loop report₀ cards flows count nitrified size feet₀ i₀ report feet i = Progress (cardList cards) report₀ count nitrified size report feet i
+Inv-loop report₀ cards flows count nitrified size feet₀ used₀ i₀ report feet used i = Progress cards flows report₀ count nitrified size report feet used i
 
 abbrev μ-loop : tie.MeasureT-loop
-μ-loop report₀ cards flows count nitrified size feet₀ i₀ report feet i = count - i
+μ-loop report₀ cards flows count nitrified size feet₀ used₀ i₀ report feet used i = count - i
 
 reach-count-requires : tie.Need-reach-count-requires Inv-loop μ-loop
 reach-count-requires c κs = tt
@@ -56,82 +54,65 @@ no-feet-requires c κs = tt
 
 loop-holds : tie.Need-loop-holds Inv-loop μ-loop
 loop-holds c =
+    let pre = c .before .before .before .before .before .pre in
     record {
-      within = omega arith;
-      counted = c .before .before .before .reach-count .ensures;
+      reaches = none-yet (pre .0) (c .before .before .before .reach-count .ensures) (c .no-feet .ensures);
       nitrification = c .before .before .has-nitrification .ensures;
       sized = c .before .record-bytes .ensures ∙ ap recordBytes (c .before .before .has-nitrification .ensures);
-      room = c .before .before .before .before .before .pre .1;
-      feet-are = rw (c .no-feet .ensures) (no-feet-yet _);
+      room = pre .1;
       filled = fill-start _ _ _;
     }
 
--- there is room for the record of the next reach, and with it one more is filled
-module _ {cards : List Card} {report₀ : List ℕ} {count : ℕ} {nitrified : Bool} {size : ℕ} {report : List ℕ} {feet : FootTable} {i : ℕ} (p : Progress cards report₀ count nitrified size report feet i) (l : i < count) where
-  room-for : size * i + recordSize cards ≤ length report
-  room-for =
-      rw (p .sized, p .filled .same) (row-fits (recordSize cards) (let h : i < length cards = omega (arith, p .counted) in h) (p .room))
+-- the record of the next reach has room, what it is handed, and the tables and the report with it
+module _ {cs : Cards} {flows : FlowTable} {report₀ : List ℕ} {count : ℕ} {nitrified : Bool} {size : ℕ} {report : List ℕ} {feet : FootTable} {used : List Bool} {i : ℕ} (p : Progress cs flows report₀ count nitrified size report feet used i) (l : i < count) where
+  room-for : size * i + recordSize (cardList cs) ≤ length report
+  room-for = rw (p .sized, p .filled .same) (row-fits (recordSize (cardList cs)) (here (p .reaches) l) (p .room))
 
-  one-more : {next : FootTable} {after : List ℕ} → FeetOf cards next (i + 1) → after ≡ sets report (size * i) (recordOf cards i) → Progress cards report₀ count nitrified size after next (i + 1)
-  one-more f e =
+  abbrev record-at : {sums : Brought} → sums ≡ sumsBy flows feet i → PlacedAt (getD (cs .at) i blank) (getD (flows .flow) i 0) (getD (flows .depth) i 0) sums (getD used (i + 1) false) nitrified (size * i) (length report)
+  record-at e =
       record {
-        within = omega arith;
-        counted = p .counted;
+        line = line-here (p .reaches) l e;
+        used-above = used-told (p .reaches) l;
+        nitrification = p .nitrification;
+        room = room-for;
+      }
+
+  one-more : {after : List ℕ} {told : HandedOn} {entry : Bool} → ReachReported (cardList cs) i (size * i) report after told → entry ≡ (told .used || getD used (getD (flows .outlet) i 0) false) → Progress cs flows report₀ count nitrified size after (withFoot feet i (told .foot)) (set used (getD (flows .outlet) i 0) entry) (i + 1)
+  one-more done e =
+      record {
+        reaches = one-further (p .reaches) l (done .brings) (done .within) (done .used) e;
         nitrification = p .nitrification;
         sized = p .sized;
         room = p .room;
-        feet-are = f;
         filled =
             rw add-one
-            (fill-more (recordOf cards) (recordSize cards) (λ j. record-length (hasNitrification cards) (figuresAt cards (suc j))) (p .filled) (rw (p .sized) at room-for) (rw (p .sized) at e));
+            (fill-more (recordOf (cardList cs)) (recordSize (cardList cs)) (λ j. record-length (hasNitrification (cardList cs)) (reportedAt (cardList cs) (suc j))) (p .filled) (rw (p .sized) at room-for) (rw (p .sized) at (done .report)));
       }
-
--- what the next reach is handed
-abbrev record-at : (cs : Cards) {flows : FlowTable} {report₀ : List ℕ} {count : ℕ} {nitrified : Bool} {size : ℕ} {report : List ℕ} {feet : FootTable} {i : ℕ} {sums : Brought} → Ready (cardList cs) flows → Progress (cardList cs) report₀ count nitrified size report feet i → i < count → sums ≡ sumsBy flows feet i → PlacedAt (getD (cs .at) i blank) (getD (flows .flow) i 0) (getD (flows .depth) i 0) sums nitrified (size * i) (length report)
-record-at cs {flows} {feet = feet} {i = i} ready p l e =
-    let within : i < length (cardList cs) = omega (arith, p .counted) in
-    record {
-      line =
-          record {
-            cards = cardList cs;
-            flows = flows;
-            feet = feet;
-            i = i;
-            ready = ready;
-            feet-are = p .feet-are;
-            within = within;
-            own = card-of-river cs i within;
-            flow-is = refl;
-            depth-is = refl;
-            sums-are = e;
-          };
-      nitrification = p .nitrification;
-      room = room-for p l;
-    }
 
 brought-to-requires : tie.Need-brought-to-requires Inv-loop μ-loop
 brought-to-requires c κs =
-    let v = c .before .before .before .before .before .before .before .before .before .before .loop .inv in
-    sums-fit (head-tabled (c .before .before .before .before .before .before .before .before .before .before .before .before .before .before .before .before .pre .0) (v .feet-are) (omega (arith, v .counted, c .before .before .before .before .before .before .before .before .before .loop-test .taken)))
+    sums-asked (c .before .before .before .before .before .before .before .before .before .before .loop .inv .reaches) (c .before .before .before .before .before .before .before .before .before .loop-test .taken)
+
+array-read-used-above : tie.Need-array-read-used-above Inv-loop μ-loop
+array-read-used-above c = omega (arith, few (c .before .before .before .before .before .before .before .before .before .before .before .loop .inv .reaches) (c .before .before .before .before .before .before .before .before .before .before .loop-test .taken))
 
 mul-report-reach : tie.Need-mul-report-reach Inv-loop μ-loop
 mul-report-reach c = omega (arith, room-for (c .before .before .before .before .before .before .before .before .before .before .before .before .loop .inv) (c .before .before .before .before .before .before .before .before .before .before .before .loop-test .taken))
 
 report-reach-requires : tie.Need-report-reach-requires Inv-loop μ-loop
-report-reach-requires c κs =
-    let s = c .before .before .before .before .before .before .before .before .before .before .before .before .before .before .before .before .before .before in
-    record-at (s .args .t1) (s .pre .0) (c .before .before .before .before .before .before .before .before .before .before .before .before .loop .inv) (c .before .before .before .before .before .before .before .before .before .before .before .loop-test .taken) (c .before .brought-to .ensures)
+report-reach-requires c κs = record-at (c .before .before .before .before .before .before .before .before .before .before .before .before .loop .inv) (c .before .before .before .before .before .before .before .before .before .before .before .loop-test .taken) (c .before .brought-to .ensures)
 
 element-write-feet : tie.Need-element-write-feet Inv-loop μ-loop
-element-write-feet c = omega (arith, c .before .before .before .before .before .before .before .before .before .before .before .before .before .before .before .loop .inv .counted, c .before .before .before .before .before .before .before .before .before .before .before .before .before .before .loop-test .taken, c .before .before .before .before .before .before .before .before .before .before .before .before .before .before .before .before .before .before .before .before .before .pre .0 .lawful .few)
+element-write-feet c = few (c .before .before .before .before .before .before .before .before .before .before .before .before .before .before .before .before .loop .inv .reaches) (c .before .before .before .before .before .before .before .before .before .before .before .before .before .before .before .loop-test .taken)
+
+array-read-either : tie.Need-array-read-either Inv-loop μ-loop
+array-read-either c = outlet-here (c .before .before .before .before .before .before .before .before .before .before .before .before .before .before .before .before .before .loop .inv .reaches) (c .before .before .before .before .before .before .before .before .before .before .before .before .before .before .before .before .loop-test .taken)
 
 loop-again : tie.Need-loop-again Inv-loop μ-loop
 loop-again c =
-    let s = c .before .before .before .before .before .before .before .before .before .before .before .before .before .before .before .before .before .before .before .before .before in
-    let v = c .before .before .before .before .before .before .before .before .before .before .before .before .before .before .before .loop .inv in
-    let l = c .before .before .before .before .before .before .before .before .before .before .before .before .before .before .loop-test .taken in
-    let done = c .before .before .report-reach .ensures (record-at (s .args .t1) (s .pre .0) v l (c .before .before .before .before .brought-to .ensures)) in
-    one-more v l (feet-next (element-write-feet c) (v .feet-are) (done .brings) (done .within)) (done .report)
+    let v = c .before .before .before .before .before .before .before .before .before .before .before .before .before .before .before .before .before .before .loop .inv in
+    let l = c .before .before .before .before .before .before .before .before .before .before .before .before .before .before .before .before .before .loop-test .taken in
+    one-more v l (c .before .before .before .before .before .report-reach .ensures (record-at v l (c .before .before .before .before .before .before .before .brought-to .ensures))) (c .either .ensures)
 
 same-length : tie.Need-same-length Inv-loop μ-loop
 same-length c = c .before .loop .inv .filled .same
@@ -139,8 +120,7 @@ same-length c = c .before .loop .inv .filled .same
 returns : tie.Need-returns Inv-loop μ-loop
 returns c =
     let v = c .before .loop .inv in
-    let all : c .before .loop .i ≡ length (cardList (c .before .before .before .before .before .before .before .args .t1)) = omega (arith, v .within, v .counted, c .loop-test .left) in
-    rw all at (v .filled .is)
+    rw (all-reaches (v .reaches) (omega (arith, c .loop-test .left))) at (v .filled .is)
 
 pub report-all-spec : {M : Type 1} → statement M
 report-all-spec =
@@ -159,6 +139,8 @@ report-all-spec =
     (λ element-copy-out-flow. search needs)
     (λ element-copy-out-depth. search needs)
     brought-to-requires
+    (λ add-used-above. omega (arith, array-read-used-above add-used-above))
+    array-read-used-above
     mul-report-reach
     report-reach-requires
     (λ mul-feet. omega (arith, element-write-feet mul-feet))
@@ -167,6 +149,11 @@ report-all-spec =
     element-write-feet
     (λ mul-feet-3. omega (arith, element-write-feet mul-feet-3))
     element-write-feet
+    element-write-feet
+    (λ cast-outlet. omega (arith, array-read-either cast-outlet))
+    array-read-either
+    (λ either-requires. search needs)
+    (λ array-write-used. array-read-either (array-write-used .before))
     (λ add-i. omega arith)
     (λ loop-less. omega arith)
     loop-again

@@ -1,4 +1,4 @@
--- `report::lines::report_reach` meets its contract: the record put in place is that of the reach, and its foot is told.
+-- `report::lines::report_reach` meets its contract: the record put in place is that of the reach, and its foot and status are told.
 -- Assumes nothing.
 use native.Mathlib.Omega.{arith}
 use borrow.Author.Needs.{needs}
@@ -8,25 +8,27 @@ use Rattle.report.proofs.lines.report_reach.Tie as tie
 
 put-record-requires : tie.Need-put-record-requires
 put-record-requires c κs =
-    let p = c .before .before .before .pre in
+    let p = c .before .before .before .before .pre in
     rw (p .nitrification) (p .room)
 
 foot-of-requires : tie.Need-foot-of-requires
-foot-of-requires c κs = flow-small (c .before .before .before .before .before .before .pre .line)
+foot-of-requires c κs = flow-small (c .before .before .before .before .before .before .before .pre .line)
 
 returns : tie.Need-returns
 returns c =
-    let made = c .before .before .before .before .before .line-at in
+    let made = c .before .before .before .before .before .before .before .line-at in
     λ here.
-    reach-reported (here .line) (made .ensures (here .line)) _ _ _ (c .foot-of .ensures) (omega (arith, made .ok))
-    (rw (here .nitrification) at (c .before .before .before .put-record .ensures .buffer))
+    reach-reported (here .line) (made .ensures (here .line) (here .used-above)) _ _ _ (c .before .foot-of .ensures) (omega (arith, made .ok)) (c .is-used .ensures)
+    (rw (here .nitrification, c .before .before .before .before .before .reported .ensures) at (c .before .before .before .before .put-record .ensures .buffer))
 
 pub report-reach-spec : {M : Type 1} → statement M
 report-reach-spec =
     tie.close
     (tie.spec
     (λ line-at-requires. search needs)
+    (λ reported-requires. search needs)
     put-record-requires
     foot-of-requires
+    (λ is-used-requires. search needs)
     (λ same-length. search needs)
     returns)

@@ -1,6 +1,6 @@
 -- `report::mean::divide` meets its contract: long division in two chunks. Assumes nothing.
 use mathlib.Core.Path.{_≡_}
-use Prim.Native.Nat.{ℕ, _*_, _+_, _/_, _%_, _≤_, _<_}
+use Prim.Native.Nat.{_*_, _+_, _/_, _%_, _≤_, _<_}
 use native.Mathlib.Nat.{mod-lt}
 use native.Mathlib.Omega.{arith}
 use borrow.Author.Needs.{needs}
@@ -11,16 +11,16 @@ use Rattle.report.proofs.mean.Weighing.{long-quotient, long-remainder, 
 use Rattle.report.proofs.mean.divide.Statement.{statement}
 use Rattle.report.proofs.mean.divide.Tie as tie
 
-module _ {w : Weights} {volume : ℕ} (d : Divisible w volume) where
-  below : w .high % volume < volume
+module _ {w : Weights} (d : Divisible w) where
+  below : w .high % w .volume < w .volume
   below = mod-lt (w .high) (d .some)
 
   -- the quotient
-  whole : w .high / volume * chunk + (w .high % volume * chunk + w .low) / volume ≡ wholeSum w / volume
-  whole = long-quotient (w .high) (w .low) volume (d .some)
+  whole : w .high / w .volume * chunk + (w .high % w .volume * chunk + w .low) / w .volume ≡ wholeSum w / w .volume
+  whole = long-quotient (w .high) (w .low) (w .volume) (d .some)
 
-  few : wholeSum w / volume ≤ storedLimit
-  few = quotient-fits (wholeSum w) volume (d .fits)
+  few : wholeSum w / w .volume ≤ storedLimit
+  few = quotient-fits (wholeSum w) (w .volume) (d .fits)
 
 mul-rest : tie.Need-mul-rest
 mul-rest c = omega (arith, below (c .pre), c .pre .volume-range)
@@ -40,8 +40,7 @@ cast-t9 c = omega (arith, whole (c .before .pre), few (c .before .pre))
 returns : tie.Need-returns
 returns c =
     let w = c .before .args .w in
-    let volume = c .before .args .volume in
-    rw (whole (c .before .pre), long-remainder (w .high) (w .low) volume)
+    rw (whole (c .before .pre), long-remainder (w .high) (w .low) (w .volume))
 
 pub divide-spec : {M : Type 1} → statement M
 divide-spec =

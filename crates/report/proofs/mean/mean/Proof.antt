@@ -1,17 +1,16 @@
--- `report::mean::mean` meets its contract, by the outcome of reading and flow check, the length of the buffer and the volume. Assumes nothing.
+-- `report::mean::mean` meets its contract, by the outcome of reading and flow check, the length of the buffer and the volume that counts. Assumes
+-- nothing.
 use mathlib.Core.Path.{refl}
 use Prim.Native.Nat.{_<_}
 use native.Mathlib.Omega.{arith}
 use borrow.Author.Needs.{needs}
-use Rattle.river.specs.Card.{cardList}
-use Rattle.report.specs.Mean.{totalVolume}
 use Rattle.report.proofs.Entry.{file-ready}
 use Rattle.report.proofs.Means.{means-refused, means-short, means-empty, means-held, averages-refusal, averages-river, divisible}
 use Rattle.report.proofs.mean.mean.Statement.{statement}
 use Rattle.report.proofs.mean.mean.Tie as tie
 
-mul-size : tie.Need-mul-size
-mul-size c =
+mul-if1 : tie.Need-mul-if1
+mul-if1 c =
     let told = c .before in
     omega (arith, c .reach-count .ensures, told .before .before .accept .ensures .lawful (told .enum-told .given .1) .few)
 
@@ -21,44 +20,42 @@ returns c =
     let told = t .before .before in
     averages-refusal (means-short (told .before .before .accept .ensures) _ (told .enum-told .given .1) (omega (arith, t .if1 .taken, t .before .reach-count .ensures))) (c .refuse .ensures)
 
-total-volume-requires : tie.Need-total-volume-requires
-total-volume-requires c κs =
+average-all-requires : tie.Need-average-all-requires
+average-all-requires c κs =
     let told = c .before .before in
-    told .before .before .accept .ensures .lawful (told .enum-told .given .1) .few
+    file-ready (told .before .before .accept .ensures) (told .enum-told .given .1)
 
 returns-2 : tie.Need-returns-2
 returns-2 c =
-    let t = c .before in
-    let e = t .before .before in
+    let e = c .before .before .before .before .before in
     let told = e .before .before in
     averages-refusal
-    (means-empty (told .before .before .accept .ensures) _ (told .enum-told .given .1) (omega (arith, e .if1 .left, e .before .reach-count .ensures)) (omega (arith, t .if2 .taken, t .before .total-volume .ensures))) (c .refuse2 .ensures)
+    (means-empty (told .before .before .accept .ensures) _ (told .enum-told .given .1) (omega (arith, e .if1 .left, e .before .reach-count .ensures)) (omega (arith, c .before .if2 .taken, c .before .before .before .before .average-all .ensures .weighed .volume))) (c .refuse2 .ensures)
 
-average-all-requires : tie.Need-average-all-requires
-average-all-requires c κs =
-    let e = c .before .before .before in
+put-table-requires : tie.Need-put-table-requires
+put-table-requires c κs =
+    let e = c .before .before .before .before .before .before .before in
     let told = e .before .before in
-    (file-ready (told .before .before .accept .ensures) (told .enum-told .given .1), omega (arith, e .if1 .left, e .before .reach-count .ensures))
+    (omega (arith, e .before .reach-count .ensures, told .before .before .accept .ensures .lawful (told .enum-told .given .1) .few), omega (arith, e .if1 .left))
 
 divide-requires : tie.Need-divide-requires
 divide-requires c κs =
-    let told = c .before .before .before .before .before .before .before .before in
-    let a = told .before .before .accept .ensures in
-    let ok = told .enum-told .given .1 in
-    let volume = c .before .before .before .before .before .total-volume .ensures in
-    rw volume (divisible (a .lawful ok) (a .sound ok) (c .before .before .average-all .ensures .0) (omega (arith, volume, c .before .before .before .before .if2 .left)))
+    let told = c .before .before .before .before .before .before .before .before .before .before .before .before in
+    divisible (told .before .before .accept .ensures .lawful (told .enum-told .given .1)) (c .before .before .before .before .before .before .before .before .before .average-all .ensures .weighed) (omega (arith, c .before .before .before .before .before .before .if2 .left))
 
 returns-3 : tie.Need-returns-3
 returns-3 c = averages-refusal (means-refused (c .before .before .before .accept .ensures) _ (c .before .outcome .given .1)) refl
 
 returns-4 : tie.Need-returns-4
 returns-4 c =
-    let told = c .before .before .before .before .before .before .before .before .before in
-    let volume = c .before .before .before .before .before .before .total-volume .ensures in
-    let some : 0 < totalVolume (cardList (told .before .before .accept .result .cards)) = omega (arith, volume, c .before .before .before .before .before .if2 .left) in
+    let e = c .before .before .before .before .before .before .before .before .before .before .before in
+    let told = e .before .before in
+    let count = e .before .reach-count .ensures in
+    let all = c .before .before .before .before .before .before .before .before .before .before .average-all in
+    let some : 0 < all .result .weights .volume = omega (arith, c .before .before .before .before .before .before .before .if2 .left) in
     averages-river (c .divide .result)
-    (means-held (told .before .before .accept .ensures) _ (told .enum-told .given .1) (omega (arith, c .before .before .before .before .before .before .before .if1 .left, c .before .before .before .before .before .before .before .before .reach-count .ensures)) some)
-    (c .before .before .before .average-all .ensures .1) (c .before .before .before .average-all .ensures .0) some (rw volume at (c .divide .ensures))
+    (means-held (told .before .before .accept .ensures) _ (told .enum-told .given .1) (omega (arith, e .if1 .left, count)) (omega (arith, all .ensures .weighed .volume)))
+    count (c .before .before .before .put-table .ensures) (all .ensures) some (c .divide .ensures)
 
 pub mean-spec : {M : Type 1} → statement M
 mean-spec =
@@ -68,13 +65,13 @@ mean-spec =
     (λ enum-known-outcome. search needs)
     (λ enum-told. search needs)
     (λ reach-count-requires. search needs)
-    mul-size
+    mul-if1
     (λ refuse-requires. search needs)
     returns
-    total-volume-requires
+    average-all-requires
     (λ refuse-requires-2. search needs)
     returns-2
-    average-all-requires
+    put-table-requires
     divide-requires
     returns-3
     (λ same-length. search needs)

@@ -19,4 +19,4 @@ add-t12 c = let s = c .before .before in omega (arith, s .pre .low, lower-part (
 
 pub weigh-spec : {M : Type 1} → statement M
 weigh-spec =
-    tie.close (tie.spec (λ cast-t6. search needs) mul-t7 add-t8 (λ cast-t10. search needs) mul-t11 add-t12 (λ returns. search needs))
+    tie.close (tie.spec (λ cast-t6. search needs) mul-t7 add-t8 (λ cast-t10. search needs) mul-t11 add-t12 (λ add-t13. search needs) (λ returns. search needs))

@@ -7,10 +7,11 @@ use Rattle.report.proofs.record.line_in.Tie as tie
 returns : tie.Need-returns
 unfolding readRecord
 returns c =
-    let b = c .before .before in
+    let a = c .before .before in
+    let b = a .before in
     let d = b .before .before .before in
     let e = d .before .before in
-    cc (e .before .before .byte-at .ensures, e .before .four-at .ensures, e .four-at2 .ensures, d .before .four-at3 .ensures, d .complement-at .ensures, b .before .before .two-at .ensures, b .before .complement-at2 .ensures, b .complement-at3 .ensures, c .before .nitrogenous-at .ensures, c .nitrogenous-at2 .ensures)
+    cc (e .before .before .byte-at .ensures, e .before .four-at .ensures, e .four-at2 .ensures, d .before .four-at3 .ensures, d .complement-at .ensures, b .before .before .two-at .ensures, b .before .complement-at2 .ensures, b .complement-at3 .ensures, a .byte-at2 .ensures, c .before .nitrogenous-at .ensures, c .nitrogenous-at2 .ensures)
 
 pub line-in-spec : {M : Type 1} → statement M
 line-in-spec =
@@ -24,6 +25,7 @@ line-in-spec =
     (λ two-at-requires. search needs)
     (λ complement-at-requires-2. search needs)
     (λ complement-at-requires-3. search needs)
+    (λ byte-at-requires-2. search needs)
     (λ nitrogenous-at-requires. search needs)
     (λ nitrogenous-at-requires-2. search needs)
     returns)

@@ -7,8 +7,9 @@ use Rattle.text.proofs.line.numbers_of.Tie as tie
 returns : tie.Need-returns
 unfolding numbersOf
 returns c =
-    let g = c .before in
-    let f = g .before .before .before in
+    let h = c .before in
+    let g = h .before in
+    let f = g .before .before .before .before in
     let e = f .before .before .before in
     let d = e .before in
     let b = d .before in
@@ -21,7 +22,8 @@ returns c =
       e .plain5 .ensures,
       f .plain6 .ensures,
       g .plain7 .ensures,
-      c .plain8 .ensures,
+      h .plain8 .ensures,
+      c .plain9 .ensures,
     )
 
 pub numbers-of-spec : {M : Type 1} → statement M
@@ -39,6 +41,8 @@ numbers-of-spec =
     (λ plain-requires-6. search needs)
     (λ cast-t12. search needs)
     (λ cast-t13. search needs)
+    (λ cast-plain-3. search needs)
     (λ plain-requires-7. search needs)
     (λ plain-requires-8. search needs)
+    (λ plain-requires-9. search needs)
     returns)
