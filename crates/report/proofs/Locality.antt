@@ -1,6 +1,6 @@
 -- A record depends only on its reach and the reaches above it: reaches with the same card and the same forest above them have the same figures,
 -- whatever their numbers. Rivers that agree on a reach and on all above it have the same forest there, and with the same rate factors also by the
--- rates in force.
+-- rates in force. The rows of the status are named here so that they are checked first.
 use mathlib.Core.Path.{_≡_, refl, sym, ap, ap₂, _∙_, subst}
 use mathlib.Core.Bool.{Bool, true, false, _||_, or-assoc}
 use mathlib.Core.List.{List, [], _∷_, map}

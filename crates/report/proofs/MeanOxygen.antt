@@ -120,7 +120,7 @@ module _ {cards : List Card} (river : IsRiver cards) (i : ℕ) (l : i < length c
     as-it-is =
         rw (not-above (usedAbove (above cards (suc i))) (criticalOxygen (cardOf cards (suc i)) (above cards (suc i))) status)
 
-    -- THEOREM: its whole volume counts
+    -- THEOREM: the whole volume of a reach of status 0 or 1 counts
     pub volume-counts : countedVolumeAt cards (suc i) ≡ cardOf cards (suc i) .volume
     unfolding statusOf
     volume-counts =

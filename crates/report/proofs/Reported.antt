@@ -34,6 +34,7 @@ module _
     (here : Accepted file (length before)) (there : Accepted file′ (length before′))
     (l : i < length (here .cards)) (l′ : j < length (there .cards))
     (same : SameReach (here .cards) i (there .cards) j) where
+  -- what is reported of them is the same
   same-reported : reportedAt (here .cards) (suc i) ≡ reportedAt (there .cards) (suc j)
   same-reported = ap reported (same-figures (same .card) (same .forest))
 

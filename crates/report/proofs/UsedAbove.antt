@@ -19,7 +19,6 @@ use Rattle.river.proofs.rates.InForce.{regular-of-lawful}
 use Rattle.report.specs.Status.{statusBy, isUsed, usedBy}
 use Rattle.report.specs.Program.{usedAbove, statusOf}
 use Rattle.report.specs.Locality.{LiesAbove, feeds, through}
-use Rattle.report.proofs.StatusRows
 use Rattle.report.proofs.Locality.{down, flows-into}
 
 -- a reach that lies above reach i + 1 and has status 1 or 2

@@ -90,7 +90,7 @@ pub record HeadOfReach (cards : List Card) (i : ℕ) (head : Head) : Type 0 wher
 abbrev pub HeadBy : Card → (flow depth : ℕ) → Brought → Head → Type 0
 HeadBy card flow depth sums head = (here : LineAt card flow depth sums) → HeadOfReach (here .cards) (here .i) head
 
--- whether oxygen is used up above this reach
+-- `used` tells whether oxygen is used up above this reach
 abbrev pub UsedAt : {card : Card} {flow depth : ℕ} {sums : Brought} → LineAt card flow depth sums → Bool → Type 0
 UsedAt here used = used ≡ usedAbove (above (here .cards) (suc (here .i)))
 

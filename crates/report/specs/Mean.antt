@@ -12,7 +12,6 @@ use Rattle.decay.specs.Fraction.{ofℤ, _≼_, distance}
 use Rattle.decay.specs.Mean.{meanFactorsOf, meanDemandOf}
 use Rattle.decay.specs.declared.factors.Factors.{Factors}
 use Rattle.river.specs.declared.card.Card.{Card}
-use Rattle.river.specs.declared.refusal.Refusal.{Refusal}
 use Rattle.river.specs.declared.source.Demand.the-variants.{Bod, Nitrogenous}
 use Rattle.river.specs.Bytes.{fourBytes, fourAt}
 use Rattle.river.specs.Source.{rateOf}

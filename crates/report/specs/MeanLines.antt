@@ -14,22 +14,23 @@ use Rattle.decay.specs.Factors.{SoundStep, demandFrom, factorsAt}
 use Rattle.decay.specs.Step.{stepOf}
 use Rattle.river.specs.declared.card.Card.{Card}
 use Rattle.river.specs.declared.head.Brought.{Brought}
+use Rattle.river.specs.declared.head.Head.{Head}
 use Rattle.river.specs.declared.source.Demand.the-variants.{Bod, Nitrogenous}
 use Rattle.river.specs.Source.{rateOf}
 use Rattle.river.specs.Bytes.{fourBytes}
-use Rattle.river.specs.Flow.{flowAt, cardOf, above}
-use Rattle.river.specs.HeadTable.{footOf, FootWithin}
+use Rattle.river.specs.Flow.{flowAt}
+use Rattle.river.specs.HeadTable.{FootWithin}
 use Rattle.river.specs.Stored.{storedLimit, oxygenOf, oxygenSumOf}
 use Rattle.decay.specs.declared.step.Step.{Step}
-use Rattle.report.specs.Bed.{BedInRange}
+use Rattle.report.specs.Bed.{lossWith, BedInRange}
 use Rattle.report.specs.Profile.{StartInRange, startParts, oxygenOver}
 use Rattle.report.specs.declared.bed.Bed.{Bed}
 use Rattle.report.specs.declared.profile.Start.{Start}
-use Rattle.report.specs.Program.{unitParts, demandAlong, oxygenAlong, figuresAt}
+use Rattle.report.specs.Program.{unitParts, demandAlong, lossAlong, oxygenAlong, figuresAt}
 use Rattle.report.specs.Record.{complement}
 use Rattle.report.specs.Status.{isUsed}
-use Rattle.report.specs.Lines.{footBy, LineAt, UsedAt}
-use Rattle.report.specs.Mean.{middle, meanAlong, meanOxygen, meanAt, countedVolumeAt, volumeSum, weightedSum}
+use Rattle.report.specs.Lines.{footBy, LineReady, HeadFits, LineAt, UsedAt}
+use Rattle.report.specs.Mean.{middle, meanAlong, meanAt, countedVolumeAt, volumeSum, weightedSum}
 use Rattle.report.specs.declared.mean.DemandAlong.{DemandAlong}
 use Rattle.report.specs.declared.mean.Passage.{Passage}
 use Rattle.report.specs.declared.mean.Passed.{Passed}
@@ -55,23 +56,37 @@ pub record PassageReady (step mean : Step) (demand : DemandAlong) (start : Start
   pub foot-parts : demand .foot .left + demand .foot .turned ≤ startParts start
   pub mean-parts : demand .mean .left + demand .mean .turned ≤ startParts start
 
--- what it hands on then: the demands and oxygen at the foot, and oxygen where the means of the factors hold
+-- what it hands on then: the demands and oxygen at the foot, oxygen where the means of the factors hold, and the loss to its bed at the foot
 pub record HandsOn (step mean : Step) (demand : DemandAlong) (start : Start) (bed : Bed) (p : Passage) : Type 0 where
   pub foot-bod : p .«foot_bod» ≡ product (factorsAt step foot .left) (start .bod)
   pub foot-nitrogenous : p .«foot_nitrogenous» ≡ demand .foot .left / unitParts
   pub foot-oxygen : oxygenOf (p .«foot_oxygen») ≡ oxygenOver start bed (factorsAt step foot) (demand .foot) foot
   pub mean-oxygen : oxygenOf (p .mean) ≡ oxygenOver start bed (meanFactors mean step) (demand .mean) middle
+  pub loss : p .loss ≡ lossWith (factorsAt step foot) bed foot
 
--- what a reach with flow Q hands on, with head BOD L, head nitrogenous BOD Ln and head oxygen C: the figures of its foot, and its mean
+-- what a reach with flow Q hands on, with head BOD L, head nitrogenous BOD Ln and head oxygen C: the figures of its foot, its mean, and the loss to its
+-- bed at the foot
 pub record PassageBelow (card : Card) (Q L Ln : ℕ) (C : ℤ) (p : Passage) : Type 0 where
   pub foot-bod : p .«foot_bod» ≡ demandAlong Bod card Q L foot
   pub foot-nitrogenous : p .«foot_nitrogenous» ≡ demandAlong Nitrogenous card Q Ln foot
   pub foot-oxygen : oxygenOf (p .«foot_oxygen») ≡ oxygenAlong card Q L Ln C foot
   pub mean : oxygenOf (p .mean) ≡ meanAlong card Q L Ln C
+  pub loss : p .loss ≡ lossAlong card Q foot
 
--- what a test tells: where it is true, oxygen is nowhere below zero along a reach with flow Q, head BOD L, head nitrogenous BOD Ln and head oxygen C
-abbrev pub TellsNeverBelow : Card → (Q L Ln : ℕ) (C : ℤ) → (told : Bool) → Type 0
-TellsNeverBelow card Q L Ln C told = told ≡ true → (m : ℕ) → m ≤ foot → pos 0 ≤ℤ oxygenAlong card Q L Ln C m
+-- a reach with this card, some flow and this head hands this on
+pub record PassedBelow (card : Card) (head : Head) (p : Passage) : Type 0 where
+  pub flow : ℕ
+  pub ready : LineReady card flow
+  pub fits : HeadFits head
+  pub below : PassageBelow card flow (head .bod) (head .nitrogenous) (oxygenOf (head .oxygen)) p
+
+-- what a test tells: where it is true, oxygen is nowhere below zero along every such reach
+abbrev pub TellsNeverBelow : Card → Head → Passage → (told : Bool) → Type 0
+TellsNeverBelow card head p told =
+    told ≡ true →
+    (here : PassedBelow card head p) (m : ℕ) →
+    m ≤ foot →
+    pos 0 ≤ℤ oxygenAlong card (here .flow) (head .bod) (head .nitrogenous) (oxygenOf (head .oxygen)) m
 
 -- what the foot of reach i + 1 brings, its mean as it is reported, and whether its status is 1 or 2
 pub record ReachAveraged (cards : List Card) (i : ℕ) (p : Passed) : Type 0 where

@@ -58,7 +58,7 @@ pub record OxygenTied (card : Card) (oxygen : ℕ → ℤ) (f : Figures) : Type 
   pub at-most-head : f .critical-oxygen ≤ℤ f .head-oxygen
   pub at-most-foot : f .critical-oxygen ≤ℤ f .foot-oxygen
 
--- no oxygen is told, which is what status 2 says
+-- no oxygen is told: at status 2 its figures and the instant are 0
 pub record NoOxygen (f : Figures) : Type 0 where
   pub head-oxygen : f .head-oxygen ≡ pos 0
   pub critical-instant : f .critical-instant ≡ 0
@@ -73,6 +73,6 @@ pub record Tied (card : Card) (oxygen : ℕ → ℤ) (f : Figures) : Type 0 wher
   pub at-most-two : f .status ≤ 2
   pub ordinary : f .status ≡ 0 → pos 0 ≤ℤ f .critical-oxygen
   pub used-up : f .status ≡ 1 → f .critical-oxygen <ℤ pos 0
-  -- at 0 and 1 oxygen is tied, and at 2 there is none
+  -- at 0 and 1 oxygen is tied, and at 2 none is told
   pub oxygen-tied : f .status ≤ 1 → OxygenTied card oxygen f
   pub used-up-above : f .status ≡ 2 → NoOxygen f

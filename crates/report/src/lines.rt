@@ -109,7 +109,7 @@ pub fn line_at(card: Card, flow: u64, depth: u8, sums: Brought, used: bool) -> L
 }
 
 // Puts the record of a reach at a place, by whether oxygen is used up above and whether its river has nitrification, and tells what its foot
-// brings, with oxygen as it is, and whether it is used up now.
+// brings, with oxygen as it is, and whether its status is 1 or 2.
 pub fn report_reach(
     card: Card,
     flow: u64,

@@ -43,7 +43,7 @@ ghost use Rattle.report.specs.Program.{figuresBelow};
 ghost use Rattle.report.specs.Status.{isUsed};
 ghost use Rattle.report.specs.Report.{firstRows};
 ghost use Rattle.report.specs.Mean.{meanBytes, Averages};
-ghost use Rattle.report.specs.MeanLines.{demandsAlong, PassageReady, HandsOn, PassageBelow, TellsNeverBelow, AveragedBy, weighedWith, RoomToWeigh, Divisible, quotientOf, AllAveraged, storedRow};
+ghost use Rattle.report.specs.MeanLines.{demandsAlong, PassageReady, HandsOn, PassageBelow, PassedBelow, TellsNeverBelow, AveragedBy, weighedWith, RoomToWeigh, Divisible, quotientOf, AllAveraged, storedRow};
 
 // How many bytes a mean has.
 pub const MEAN_SIZE: usize = 4;
@@ -57,12 +57,13 @@ pub struct DemandAlong {
     pub mean: DemandFactors,
 }
 
-// What a reach hands on: its demands and stored oxygen at the foot, and its stored mean oxygen.
+// What a reach hands on: its demands and stored oxygen at the foot, its stored mean oxygen, and what its bed has taken at the foot.
 pub struct Passage {
     pub foot_bod: u32,
     pub foot_nitrogenous: u32,
     pub foot_oxygen: u32,
     pub mean: u32,
+    pub loss: u64,
 }
 
 // What the foot of a reach brings, its stored mean oxygen as it is reported, and whether the status of the reach is 1 or 2.
@@ -136,11 +137,13 @@ pub fn hand_on(step: Step, mean_step: Step, demand: DemandAlong, start: Start, b
     let d = demand.foot;
     let foot_oxygen = profile::oxygen_over_both(f, d, start, bed, FOOT);
     let mean_oxygen = profile::oxygen_over_both(mean, demand.mean, start, bed, MIDDLE);
+    let loss = bed::loss_with(f, bed, FOOT);
     Passage {
         foot_bod: fixed::product(f.left, start.bod) as u32,
         foot_nitrogenous: (d.left / UNIT_PARTS) as u32,
         foot_oxygen: foot_oxygen as u32,
         mean: mean_oxygen as u32,
+        loss,
     }
 }
 
@@ -165,14 +168,13 @@ pub fn passage_of(card: Card, flow: u32, head: Head) -> Passage
 }
 
 // Whether oxygen is surely nowhere below zero along a reach: head oxygen and saturation are each at least what its demands lose on the way and what its
-// bed may take, together.
-pub fn never_below_zero(card: Card, flow: u32, head: Head, p: Passage) -> bool
-    requires { ⌜ LineReady card flow × HeadFits head × PassageBelow card flow (head .bod) (head .nitrogenous) (oxygenOf (head .oxygen)) p ⌝ }
-    ensures { λ r. ⌜ TellsNeverBelow card flow (head .bod) (head .nitrogenous) (oxygenOf (head .oxygen)) r ⌝ }
+// bed takes, together.
+pub fn never_below_zero(card: Card, head: Head, p: Passage) -> bool
+    requires { ⌜ PassedBelow card head p ⌝ }
+    ensures { λ r. ⌜ TellsNeverBelow card head p r ⌝ }
 {
-    let bed = bed::bed_of(card, flow);
     let lost = head.bod - p.foot_bod + (head.nitrogenous - p.foot_nitrogenous);
-    let taken = lost as u64 + bed.eventual + bed.linear;
+    let taken = lost as u64 + p.loss;
     let saturation = head::saturation_of(card) as u64;
     if saturation < taken {
         return false;
@@ -188,7 +190,7 @@ pub fn is_used_up(card: Card, flow: u32, depth: u8, head: Head, p: Passage, used
     if used {
         return true;
     }
-    if never_below_zero(card, flow, head, p) {
+    if never_below_zero(card, head, p) {
         return false;
     }
     let line = lines::line_of(card, flow, depth, head, used);

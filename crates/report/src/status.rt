@@ -42,7 +42,7 @@ pub fn is_used(status: u8) -> bool
     ORDINARY < status
 }
 
-// One or the other, as a function of its own, so that a loop that asks it goes one way.
+// One or the other. It is a function of its own, so that the loops that call it have one path.
 pub fn either(a: bool, b: bool) -> bool
     ensures { λ r. ⌜ r ≡ (a || b) ⌝ }
 {

@@ -1,13 +1,13 @@
--- What a reach hands on: nitrogenous BOD by its sums, and the figures of the foot and the mean. Assumes nothing.
-use mathlib.Core.Path.{_≡_, refl, sym, ap, ap₂, _∙_}
-use Prim.Native.Nat.{ℕ, suc, _+_, _*_, _/_, _≤_, _<_}
+-- What a reach hands on: nitrogenous BOD by its sums, the figures of the foot, the mean, and the loss to the bed. Assumes nothing.
+use mathlib.Core.Path.{_≡_, sym, ap, ap₂, _∙_}
+use Prim.Native.Nat.{ℕ, _*_, _/_, _≤_, _<_}
 use native.Mathlib.Nat.{le-refl, zero-mul}
 use native.Mathlib.Omega.{arith}
 use Rattle.decay.specs.Exact.{foot}
 use Rattle.decay.specs.Fixed.{one, product}
 use Rattle.decay.specs.Step.{RatesPass, stepOf, meanStepOf}
-use Rattle.decay.specs.Factors.{SoundStep, AreShares, nextDemand, nextFactors, demandFrom, factorsAt}
-use Rattle.decay.specs.Mean.{meanDemand, meanDemandOf, meanFactors, DemandSummed, FactorsSummed, DemandSumsFit, FactorSumsFit}
+use Rattle.decay.specs.Factors.{SoundStep, AreShares, nextDemand, nextFactors}
+use Rattle.decay.specs.Mean.{meanDemand, meanFactors, DemandSummed, FactorsSummed, DemandSumsFit, FactorSumsFit}
 use Rattle.decay.specs.declared.step.Step.{Step}
 use Rattle.decay.specs.declared.factors.DemandFactors.{DemandFactors}
 use Rattle.decay.specs.declared.factors.Factors.{Factors}
@@ -24,7 +24,7 @@ use Rattle.river.specs.Source.{rateOf}
 use Rattle.river.specs.Saturation.{saturationOf}
 use Rattle.river.specs.declared.head.Head.{Head}
 use Rattle.river.specs.Stored.{oxygenOf}
-use Rattle.report.specs.Bed.{bedOf, LossInRange}
+use Rattle.report.specs.Bed.{bedOf, LossInRange, lossWith}
 use Rattle.report.specs.Program.{unitParts, factorsAlong, partsAlong, demandAlong, turnedAlong, lossAlong, oxygenAlong}
 use Rattle.report.specs.Profile.{oxygenOver}
 use Rattle.report.specs.Mean.{middle, factorsMean, turnedMean, meanAlong}
@@ -90,13 +90,15 @@ module _ {step mean : Step} {demand : DemandAlong} {start : Start} {bed : Bed} (
         p .«foot_nitrogenous» ≡ demand .foot .left / unitParts →
         oxygenOf (p .«foot_oxygen») ≡ oxygenOver start bed (f .reached) (demand .foot) foot →
         oxygenOf (p .mean) ≡ oxygenOver start bed g (demand .mean) middle →
+        p .loss ≡ lossWith (f .reached) bed foot →
         HandsOn step mean demand start bed p
-    handed-on a b c d =
+    handed-on a b c d h =
         record {
           foot-bod = a ∙ ap (λ (x : Factors). product (x .left) (start .bod)) (s .reached);
           foot-nitrogenous = b;
           foot-oxygen = c ∙ ap (λ (x : Factors). oxygenOver start bed x (demand .foot) foot) (s .reached);
           mean-oxygen = d ∙ ap (λ (x : Factors). oxygenOver start bed x (demand .mean) middle) mean-is;
+          loss = h ∙ ap (λ (x : Factors). lossWith x bed foot) (s .reached);
         }
 
 -- the steps of a reach, its nitrogenous BOD, saturation and bed
@@ -124,4 +126,4 @@ module _ (card : Card) (flow : ℕ) (head : Head) {step mean : Step} {demand : D
   unfolding demandAlong turnedAlong lossAlong oxygenAlong factorsAlong partsAlong meanAlong factorsMean turnedMean
   passage-below {p} made =
       let h : HandsOn (stepOf (card .k1) (card .k2) (card .volume) flow) (meanStepOf (card .k1) (card .k2) (card .volume) flow) (demandsAlong card flow (unitParts * head .nitrogenous)) (record { bod = head .bod; nitrogenous = head .nitrogenous; oxygen = head .oxygen; saturation = saturationOf card }) (bedOf card flow) p = rw (e, m, d, t, b) at made in
-      record { foot-bod = h .foot-bod; foot-nitrogenous = h .foot-nitrogenous; foot-oxygen = h .foot-oxygen; mean = h .mean-oxygen }
+      record { foot-bod = h .foot-bod; foot-nitrogenous = h .foot-nitrogenous; foot-oxygen = h .foot-oxygen; mean = h .mean-oxygen; loss = h .loss }

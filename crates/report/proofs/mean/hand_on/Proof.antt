@@ -23,21 +23,27 @@ oxygen-over-both-requires-2 c κs =
     let e = c .before .before .mean-factors .ensures in
     (mean-shares p (t .factor-sums .ensures) e, p .start-range, p .mean-parts, mean-loss p (t .factor-sums .ensures) e)
 
+loss-with-requires : tie.Need-loss-with-requires
+loss-with-requires c κs =
+    let t = c .before .before .before .before .before in
+    let p = t .before .pre in
+    (sums-fit p (t .factor-sums .ensures) .reached, foot-loss p (t .factor-sums .ensures))
+
 product-requires : tie.Need-product-requires
 product-requires c κs =
-    let t = c .before .before .before .before .before in
+    let t = c .before .before .before .before .before .before in
     let p = t .before .pre in
     (omega (arith, sums-fit p (t .factor-sums .ensures) .reached .bod), omega (arith, p .start-range .demands))
 
-cast-t13 : tie.Need-cast-t13
-cast-t13 c =
-    let t = c .before .before .before .before .before .before in
+cast-t14 : tie.Need-cast-t14
+cast-t14 c =
+    let t = c .before .before .before .before .before .before .before in
     omega (arith, c .product .ensures, foot-bod-few (t .before .pre) (t .factor-sums .ensures))
 
 returns : tie.Need-returns
 returns c =
-    let t = c .before .before .before .before .before .before .before in
-    handed-on (t .before .pre) (t .factor-sums .ensures) (c .before .before .before .before .before .mean-factors .ensures) (c .before .product .ensures) refl (c .before .before .before .oxygen-over-both .ensures .is) (c .before .before .oxygen-over-both2 .ensures .is)
+    let t = c .before .before .before .before .before .before .before .before in
+    handed-on (t .before .pre) (t .factor-sums .ensures) (c .before .before .before .before .before .before .mean-factors .ensures) (c .before .product .ensures) refl (c .before .before .before .before .oxygen-over-both .ensures .is) (c .before .before .before .oxygen-over-both2 .ensures .is) (c .before .before .loss-with .ensures)
 
 pub hand-on-spec : {M : Type 1} → statement M
 hand-on-spec =
@@ -47,9 +53,10 @@ hand-on-spec =
     mean-factors-requires
     oxygen-over-both-requires
     oxygen-over-both-requires-2
+    loss-with-requires
     product-requires
-    cast-t13
-    (λ cast-t15. search needs)
+    cast-t14
     (λ cast-t16. search needs)
     (λ cast-t17. search needs)
+    (λ cast-t18. search needs)
     returns)

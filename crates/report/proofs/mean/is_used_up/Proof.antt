@@ -1,13 +1,27 @@
 -- `report::mean::is_used_up` meets its contract: the status is 2 where oxygen is used up above, 0 where oxygen is surely nowhere below zero, and else that of the line.
 -- Assumes nothing.
 use mathlib.Core.Path.{ap, _∙_}
+use Prim.Native.Nat.{ℕ}
 use borrow.Author.Needs.{needs}
 use Rattle.decay.specs.Exact.{foot}
+use Rattle.river.specs.declared.card.Card.{Card}
+use Rattle.river.specs.declared.head.Head.{Head}
+use Rattle.river.specs.Stored.{oxygenOf}
 use Rattle.report.specs.Record.{Figures}
 use Rattle.report.specs.Status.{statusBy, isUsed}
+use Rattle.report.specs.Lines.{LineReady, HeadFits}
+use Rattle.report.specs.MeanLines.{PassageBelow, PassedBelow}
+use Rattle.report.specs.declared.mean.Passage.{Passage}
 use Rattle.report.proofs.mean.NeverBelow.{lowest-above}
 use Rattle.report.proofs.mean.is_used_up.Statement.{statement}
 use Rattle.report.proofs.mean.is_used_up.Tie as tie
+
+-- what the test asks of a reach
+abbrev passed : {card : Card} {flow : ℕ} {head : Head} {p : Passage} → LineReady card flow × HeadFits head × PassageBelow card flow (head .bod) (head .nitrogenous) (oxygenOf (head .oxygen)) p → PassedBelow card head p
+passed {flow} h = record { flow = flow; ready = h .0; fits = h .1; below = h .2 }
+
+never-below-zero-requires : tie.Need-never-below-zero-requires
+never-below-zero-requires c κs = passed (c .before .pre)
 
 returns : tie.Need-returns
 unfolding isUsed statusBy
@@ -15,7 +29,9 @@ returns c = rw (c .if1 .taken)
 
 returns-2 : tie.Need-returns-2
 unfolding isUsed statusBy
-returns-2 c = rw (c .before .before .if1 .left, lowest-above _ foot (c .before .never-below-zero .ensures (c .if2 .taken)))
+returns-2 c =
+    let s = c .before .before .before in
+    rw (c .before .before .if1 .left, lowest-above _ foot (c .before .never-below-zero .ensures (c .if2 .taken) (passed (s .pre))))
 
 returns-3 : tie.Need-returns-3
 returns-3 c = c .is-used .ensures ∙ ap (λ (f : Figures). isUsed (f .status)) (c .before .line-of .ensures)
@@ -25,7 +41,7 @@ is-used-up-spec =
     tie.close
     (tie.spec
     returns
-    (λ never-below-zero-requires. search needs)
+    never-below-zero-requires
     returns-2
     (λ line-of-requires. search needs)
     (λ is-used-requires. search needs)
