@@ -3,6 +3,7 @@
 // nitrogenous BOD too, and for one river the status; and, for a few rivers, the result of asking for means, with those of the reaches
 // and of the river. More bench values of means are in tests/run_test.py.
 ghost use Prim.Native.Nat.{_≤_};
+use flows::head::STORED_ZERO;
 use report::mean::MEAN_SIZE;
 use report::record;
 use report::record::Line;
@@ -13,7 +14,6 @@ use river::card::REACH_BYTES;
 use river::card::REACHES;
 use river::card::blank;
 use river::card::size_of;
-use river::head::STORED_ZERO;
 use river::put::put_card;
 use river::put::put_header;
 use text::means::read_mean;

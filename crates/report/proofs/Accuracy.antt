@@ -22,13 +22,13 @@ use Rattle.decay.proofs.factors.Instants.{range}
 use Rattle.decay.proofs.Accuracy.{accuracy, demand-accuracy}
 use Rattle.decay.proofs.Algebra.{quote, certify, ring-by, _⋅_, _&_, none as no-equations, near, small, sized, _⊠ˢ_, floor-low, floor-high, ofℕ-reflect, slack, number, Nonneg, _⊞_, _⊠_, multiple, ≈-refl, ≈-sym, ≈-trans, ≼-trans, ≼-of-≈, +ᶠ-cong, *ᶠ-comm, ofℤ-+, ofℤ-*, ofℕ-mono, ofℕ-+, ofℕ-*, positive-whole, positive-nonzero, ÷-unique, ÷-cancel-pos, ÷-nonneg, Small, Within, within-of-≈, within-by, within-sum, within-scale, within-distance, distance→within}
 use Rattle.river.specs.declared.card.Card.{Card}
-use Rattle.river.specs.Flow.{Feeders, more, fed, flowOf, reachFlow, deepest, reachDepth}
-use Rattle.river.specs.Saturation.{saturationOf}
+use Rattle.flows.specs.Flow.{Feeders, more, fed, flowOf, reachFlow, deepest, reachDepth}
+use Rattle.flows.specs.Saturation.{saturationOf}
 use Rattle.river.specs.declared.source.Demand.{Demand}
 use Rattle.river.specs.declared.source.Demand.the-variants.{Bod, Nitrogenous}
 use Rattle.river.specs.Source.{sourceOf, rateOf}
-use Rattle.river.specs.Head.{upstreamDemand, upstreamOxygen, belowDam, headDemand, headOxygen}
-use Rattle.river.proofs.head.Bounds.{saturation-of-small}
+use Rattle.flows.specs.Head.{upstreamDemand, upstreamOxygen, belowDam, headDemand, headOxygen}
+use Rattle.flows.proofs.head.Bounds.{saturation-of-small}
 use Rattle.report.specs.Bed.{bedOf}
 use Rattle.report.specs.Program.{demandSum, oxygenSum, demandAtHead, oxygenAtHead, demandAt, oxygenAt, demandAlong, turnedAlong, lossAlong, oxygenAlong, oxygenWith, unitParts, factorsAlong, partsAlong, foot}
 use Rattle.report.specs.Recurrence.{exactSaturation, exactMean, exactBelowDam, exactHeadDemand, exactHeadOxygen, exactDemandSum, exactOxygenSum, exactDemandAtHead, exactOxygenAtHead, exactDemandAlong, exactTurnedAlong, exactOxygenAlong, exactDemandAt, exactOxygenAt}

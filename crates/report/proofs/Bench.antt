@@ -19,11 +19,12 @@ use Rattle.river.specs.declared.source.Demand.{Demand}
 use Rattle.river.specs.declared.source.Demand.the-variants.{Bod, Nitrogenous}
 use Rattle.river.specs.Card.{LawfulDam, amountOr}
 use Rattle.river.specs.Source.{nitrogenousSource, nitrogenousRate, sourceOf, rateOf, sourceMass}
-use Rattle.river.specs.Flow.{Feeders, none, more, joinedIf, feedersAmong, cardOf, above, fed, flowOf, massOf, deepest, sludgeOf, reachFlow, reachDepth, DamRule}
-use Rattle.river.specs.Saturation.{saturation, saturationThousandths, saturationOf, SaturationInRange}
-use Rattle.river.specs.Head.{floor, upstreamDemand, upstreamOxygen, aerated, belowDam, mixedDemand, headDemand, headOxygen}
-use Rattle.river.proofs.flow.Take.{mass-within}
-use Rattle.river.proofs.Bench.{reach, second, two, drawn, hilly, Rows as FlowRows, bench as flow-bench}
+use Rattle.flows.specs.Flow.{Feeders, none, more, joinedIf, feedersAmong, cardOf, above, fed, flowOf, massOf, deepest, sludgeOf, reachFlow, reachDepth, DamRule}
+use Rattle.flows.specs.Saturation.{saturation, saturationThousandths, saturationOf, SaturationInRange}
+use Rattle.flows.specs.Head.{floor, upstreamDemand, upstreamOxygen, aerated, belowDam, mixedDemand, headDemand, headOxygen}
+use Rattle.flows.proofs.flow.Take.{mass-within}
+use Rattle.river.proofs.Bench.{reach, second, two, hilly, Rows as FileRows, bench as file-bench}
+use Rattle.flows.proofs.Bench.{drawn, Rows as FlowRows, bench as flow-bench}
 use Rattle.report.specs.Status.{statusBy, isUsed, usedBy, shownNumber, shownOxygen, reported}
 use Rattle.report.specs.Program.{figuresOf, reportedAt, demandSum, oxygenSum, demandAtHead, oxygenAtHead, demandAt, oxygenAt, criticalOxygen, usedAbove, foot}
 use Rattle.report.specs.Record.{nitrifies, isNitrified, hasNitrification, plainBytes, encodePlain, encodeRecord, recordSize, Figures}
@@ -262,6 +263,7 @@ plain-bytes {f} e = plain-first true f ∙ ap encodePlain e
 
 -- one theorem, a row each
 pub record Rows : Type 0 where
+  pub files : FileRows
   pub flows-and-heads : FlowRows
   -- statuses, and what is reported at each
   pub statuses : StatusRows
@@ -299,6 +301,7 @@ pub bench : Rows
 unfolding feedersAmong joinedIf flowOf deepest headDemand headOxygen upstreamDemand upstreamOxygen belowDam aerated floor saturation saturationThousandths saturationOf nitrifies isNitrified hasNitrification usedBy
 bench =
     record {
+      files = file-bench;
       flows-and-heads = flow-bench;
       statuses = status-rows;
       weighted = mean-rows;

@@ -17,15 +17,15 @@ use Rattle.decay.specs.Promise.{share}
 use Rattle.decay.specs.declared.factors.Factors.{Factors}
 use Rattle.decay.proofs.Algebra.{Nonneg, quote, slack, number, _⊞_, _⊠_, multiple, certify, ring-by, _⋅_, _&_, ofℕ-≈, ≈-refl, ≈-sym, ≈-trans, ≼-trans, ≼-of-≈, ≼-by, ≼-refl, +ᶠ-cong, *ᶠ-cong, ofℤ-+, ofℤ-*, Positive, positive-whole, certify-over, none as no-equations, ofℕ-reflect, ofℤ-reflect, ofℕ-mono, ofℕ-+, ofℕ-*}
 use Rattle.river.specs.declared.card.Card.{Card}
-use Rattle.river.specs.Flow.{Feeders, more, fed, flowOf, mixedFlow, reachFlow, ownMass, massOf, mixedMass, reachMass, deepest}
-use Rattle.river.specs.Saturation.{saturationOf, SaturationInRange}
+use Rattle.flows.specs.Flow.{Feeders, more, fed, flowOf, mixedFlow, reachFlow, ownMass, massOf, mixedMass, reachMass, deepest}
+use Rattle.flows.specs.Saturation.{saturationOf, SaturationInRange}
 use Rattle.river.specs.declared.source.Demand.{Demand}
 use Rattle.river.specs.declared.source.Demand.the-variants.{Bod, Nitrogenous}
 use Rattle.river.specs.declared.source.Source.{Source}
 use Rattle.river.specs.Source.{sourceOf, sourceMass}
-use Rattle.river.specs.Head.{upstreamDemand, upstreamOxygen, belowDam, headDemand, headOxygen}
-use Rattle.river.proofs.flow.Take.{flow-remains, mass-within, mass-scaled}
-use Rattle.river.proofs.head.Bounds.{saturation-of-small, upstream-kept}
+use Rattle.flows.specs.Head.{upstreamDemand, upstreamOxygen, belowDam, headDemand, headOxygen}
+use Rattle.flows.proofs.flow.Take.{flow-remains, mass-within, mass-scaled}
+use Rattle.flows.proofs.head.Bounds.{saturation-of-small, upstream-kept}
 use Rattle.report.specs.Bed.{bedOf, lossWith, lossLimit}
 use Rattle.report.specs.Program.{oxygenWith, demandSum, oxygenSum, demandAtHead, oxygenAtHead, demandAt, oxygenAt, turnedAlong, lossAlong, oxygenAlong, factorsAlong, foot}
 use Rattle.report.specs.Mean.{middle, factorsMean, turnedMean, meanAlong, meanOxygen}

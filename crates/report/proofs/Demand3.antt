@@ -13,7 +13,7 @@ use Rattle.decay.specs.Fraction.{Fraction, _≼_, ofℕ, ofℤ, _+ᶠ_, -ᶠ_, 
 use Rattle.decay.proofs.Algebra.{quote, certify, slack, _⊞_, ≼-trans, ofℕ-mono, ofℤ-mono, Within, within-weaken, within→distance, bound-nonneg, small}
 use Rattle.river.specs.declared.card.Card.{Card}
 use Rattle.river.specs.Card.{Lawful}
-use Rattle.river.specs.Flow.{Feeders, cardOf, above, reachDepth, Flows}
+use Rattle.flows.specs.Flow.{Feeders, cardOf, above, reachDepth, Flows}
 use Rattle.report.specs.Program.{lowest, demandAt, oxygenAt, figuresOf, figuresAt, foot}
 use Rattle.report.specs.Recurrence.{exactOxygenAt}
 use Rattle.report.specs.Distance.{hasBed, stepUnits, allowanceAt, OxygenWithin, broughtAllowance, waterAllowance}

@@ -17,14 +17,14 @@ use lib.ListN.{length, drop}
 use Rattle.river.specs.declared.card.Card.{Card}
 use Rattle.river.specs.declared.refusal.Refusal.{Refusal}
 use Rattle.river.specs.declared.refusal.Outcome.{Outcome}
-use Rattle.river.specs.declared.accept.Acceptance.{Acceptance}
+use Rattle.flows.specs.declared.accept.Acceptance.{Acceptance}
 use Rattle.river.specs.Bytes.{AreBytes}
 use Rattle.river.specs.Card.{cardList}
 use Rattle.river.specs.Refusal.{Answer, accepted, refused, refuse, after, codeOf, outcomeOf}
-use Rattle.river.specs.Flow.{cardOf, above}
-use Rattle.river.specs.Stored.{storedZero, storedLimit}
-use Rattle.river.specs.Accept.{Accepts, acceptFile}
-use Rattle.river.proofs.Acceptance.{accepts-exactly}
+use Rattle.flows.specs.Flow.{cardOf, above}
+use Rattle.flows.specs.Stored.{storedZero, storedLimit}
+use Rattle.flows.specs.Accept.{Accepts, acceptFile}
+use Rattle.flows.proofs.Acceptance.{accepts-exactly}
 use Rattle.river.proofs.Answers.{passed, went, need-true, need-false, after-accepted, after-refused}
 use Rattle.report.specs.Status.{shownOxygen}
 use Rattle.report.specs.Program.{oxygenAt, criticalOxygen, usedAbove, statusOf, figuresOf, figuresAt, reportedAt, foot}

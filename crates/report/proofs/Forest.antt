@@ -13,13 +13,13 @@ use Rattle.river.specs.Card.{FieldsInRange, LawfulDam, LawfulAmount, sludgeLayo
 use Rattle.river.specs.declared.source.Demand.{Demand}
 use Rattle.river.specs.declared.source.Demand.the-variants.{Bod, Nitrogenous}
 use Rattle.river.specs.Source.{rateOf}
-use Rattle.river.specs.Saturation.{SaturationInRange}
+use Rattle.flows.specs.Saturation.{SaturationInRange}
 use Rattle.river.proofs.range.Ranges.{asked-at}
 use Rattle.river.proofs.source.Ranges.{rate-small}
-use Rattle.river.proofs.head.Bounds.{conditions-in-range}
-use Rattle.river.proofs.flow.Table.{deepest-few}
-use Rattle.river.proofs.flow.Take.{flow-remains, flow-within}
-use Rattle.river.specs.Flow.{Feeders, none, more, joinedIf, feedersAmong, rateLimit, sludgeOf, reachFlow, reachDepth, ReachPasses, Flows}
+use Rattle.flows.proofs.head.Bounds.{conditions-in-range}
+use Rattle.flows.proofs.flow.Table.{deepest-few}
+use Rattle.flows.proofs.flow.Take.{flow-remains, flow-within}
+use Rattle.flows.specs.Flow.{Feeders, none, more, joinedIf, feedersAmong, rateLimit, sludgeOf, reachFlow, reachDepth, ReachPasses, Flows}
 use Rattle.report.specs.Bed.{BedPasses}
 
 -- an accepted reach: its fields lie in range, and it passes the flow check

@@ -13,13 +13,13 @@ use lib.IntN.{ℤ, pos, _+ℤ_, _*ℤ_, +ℤ-assoc, +ℤ-comm}
 use Rattle.river.specs.declared.card.Card.{Card}
 use Rattle.river.specs.declared.card.RateFactors.{RateFactors}
 use Rattle.river.specs.Card.{blank}
-use Rattle.river.specs.Rates.{cardInForce}
-use Rattle.river.proofs.rates.InForce.{card-in-force}
-use Rattle.river.specs.Flow.{Feeders, none, more, joinedIf, feedersAmong, fed, takeOf, flowOf, ownMass, remainingMass, massOf, deepest}
+use Rattle.flows.specs.Rates.{cardInForce}
+use Rattle.flows.proofs.rates.InForce.{card-in-force}
+use Rattle.flows.specs.Flow.{Feeders, none, more, joinedIf, feedersAmong, fed, takeOf, flowOf, ownMass, remainingMass, massOf, deepest}
 use Rattle.river.specs.declared.source.Demand.the-variants.{Bod, Nitrogenous}
 use Rattle.river.specs.Source.{sourceOf}
-use Rattle.river.specs.Saturation.{saturationOf}
-use Rattle.river.specs.Head.{belowDam, headDemand, headOxygen}
+use Rattle.flows.specs.Saturation.{saturationOf}
+use Rattle.flows.specs.Head.{belowDam, headDemand, headOxygen}
 use Rattle.report.specs.Record.{Figures}
 use Rattle.report.specs.Bed.{bedOf}
 use Rattle.report.specs.Status.{isUsed, usedBy}

@@ -22,7 +22,7 @@ use Rattle.river.specs.declared.card.Card.{Card}
 use Rattle.river.specs.declared.source.Demand.{Demand}
 use Rattle.river.specs.declared.source.Demand.the-variants.{Bod, Nitrogenous}
 use Rattle.river.specs.Source.{rateOf}
-use Rattle.river.specs.Flow.{Feeders, reachFlow, reachDepth, cardOf, above}
+use Rattle.flows.specs.Flow.{Feeders, reachFlow, reachDepth, cardOf, above}
 use Rattle.report.specs.Bed.{bedOf, lossWith}
 use Rattle.report.specs.Program.{unitParts, demandAtHead, oxygenAtHead, criticalOxygen, usedAbove, statusOf}
 use Rattle.report.specs.Recurrence.{exactTurnedAlong, exactLoss, exactOxygenAlong, exactOxygenAtHead, exactOxygenAt}

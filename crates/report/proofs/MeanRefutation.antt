@@ -15,9 +15,9 @@ use Rattle.decay.specs.declared.factors.Factors.{Factors}
 use Rattle.river.specs.declared.card.Card.{Card}
 use Rattle.river.specs.declared.source.Demand.the-variants.{Bod, Nitrogenous}
 use Rattle.river.specs.Source.{rateOf}
-use Rattle.river.specs.Flow.{cardOf, above, feedersAmong, joinedIf, fed, flowOf, deepest, reachFlow}
-use Rattle.river.specs.Saturation.{saturation, saturationThousandths, saturationOf}
-use Rattle.river.specs.Head.{floor, upstreamDemand, upstreamOxygen, belowDam, headDemand, headOxygen}
+use Rattle.flows.specs.Flow.{cardOf, above, feedersAmong, joinedIf, fed, flowOf, deepest, reachFlow}
+use Rattle.flows.specs.Saturation.{saturation, saturationThousandths, saturationOf}
+use Rattle.flows.specs.Head.{floor, upstreamDemand, upstreamOxygen, belowDam, headDemand, headOxygen}
 use Rattle.report.specs.Bed.{bedBy, bedOf, lossWith}
 use Rattle.report.specs.Program.{oxygenWith, unitParts, factorsAlong, partsAlong, lossAlong, turnedAlong, oxygenAlong, demandSum, oxygenSum, demandAtHead, oxygenAtHead, oxygenAt}
 use Rattle.report.specs.Status.{usedBy}

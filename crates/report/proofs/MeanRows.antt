@@ -19,11 +19,12 @@ use Rattle.river.specs.declared.source.Demand.{Demand}
 use Rattle.river.specs.declared.source.Demand.the-variants.{Bod, Nitrogenous}
 use Rattle.river.specs.Source.{rateOf}
 use Rattle.river.specs.Refusal.{accepted, refused, refuse, need}
-use Rattle.river.specs.Flow.{feedersAmong, joinedIf, fed, flowOf, cardOf, above}
-use Rattle.river.specs.Saturation.{saturation, saturationThousandths, saturationOf}
-use Rattle.river.specs.Head.{floor, upstreamDemand, upstreamOxygen, aerated, belowDam, headDemand, headOxygen}
-use Rattle.river.proofs.flow.FlowCheck.{flows-of-accepted}
-use Rattle.river.proofs.Bench.{reach, two, bench as flow-bench}
+use Rattle.flows.specs.Flow.{feedersAmong, joinedIf, fed, flowOf, cardOf, above}
+use Rattle.flows.specs.Saturation.{saturation, saturationThousandths, saturationOf}
+use Rattle.flows.specs.Head.{floor, upstreamDemand, upstreamOxygen, aerated, belowDam, headDemand, headOxygen}
+use Rattle.flows.proofs.flow.FlowCheck.{flows-of-accepted}
+use Rattle.river.proofs.Bench.{reach, two}
+use Rattle.flows.proofs.Bench.{bench as flow-bench}
 use Rattle.report.specs.Bed.{bedBy, bedOf, lossWith}
 use Rattle.report.specs.Program.{oxygenWith, factorsAlong, partsAlong, lossAlong, demandAlong, turnedAlong, oxygenAlong, demandSum, oxygenSum, demandAtHead, oxygenAtHead, oxygenAt, foot, criticalOxygen, usedAbove, statusOf}
 use Rattle.report.specs.Status.{statusBy, isUsed, usedBy}

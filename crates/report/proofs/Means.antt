@@ -11,15 +11,15 @@ use Rattle.decay.specs.Fraction.{ofℤ, _≼_, distance}
 use Rattle.river.specs.declared.card.Card.{Card}
 use Rattle.river.specs.declared.refusal.Refusal.{Refusal}
 use Rattle.river.specs.declared.refusal.Outcome.{Outcome}
-use Rattle.river.specs.declared.accept.Acceptance.{Acceptance}
+use Rattle.flows.specs.declared.accept.Acceptance.{Acceptance}
 use Rattle.river.specs.Bytes.{AreBytes, fourBytes, fourAt}
 use Rattle.river.specs.Card.{cardList}
 use Rattle.river.specs.Refusal.{Answer, accepted, refused, refuse, after as then, codeOf, outcomeOf}
-use Rattle.river.specs.Flow.{cardOf, above}
+use Rattle.flows.specs.Flow.{cardOf, above}
 use Rattle.river.specs.Card.{Lawful}
-use Rattle.river.specs.Stored.{oxygenOf}
-use Rattle.river.specs.Accept.{Accepts, acceptFile}
-use Rattle.river.proofs.Acceptance.{accepts-exactly}
+use Rattle.flows.specs.Stored.{oxygenOf}
+use Rattle.flows.specs.Accept.{Accepts, acceptFile}
+use Rattle.flows.proofs.Acceptance.{accepts-exactly}
 use Rattle.river.proofs.Answers.{never, passed, went, need-true, need-false, after-accepted, after-refused}
 use Rattle.report.specs.Record.{complement, fromComplement}
 use Rattle.report.specs.Report.{firstRows, resultOf}

@@ -15,9 +15,9 @@ use Rattle.river.specs.declared.card.Amount.the-variants.{Without}
 use Rattle.river.specs.declared.card.Nitrification.{Nitrification}
 use Rattle.river.specs.declared.card.Nitrification.the-variants.{Idle, Nitrifying}
 use Rattle.river.specs.declared.source.Demand.the-variants.{Bod, Nitrogenous}
-use Rattle.river.specs.Flow.{Feeders, none, more, fed, flowOf}
-use Rattle.river.specs.Saturation.{saturation, saturationThousandths, saturationOf}
-use Rattle.river.specs.Head.{floor, upstreamDemand, upstreamOxygen, aerated, belowDam, headDemand, headOxygen}
+use Rattle.flows.specs.Flow.{Feeders, none, more, fed, flowOf}
+use Rattle.flows.specs.Saturation.{saturation, saturationThousandths, saturationOf}
+use Rattle.flows.specs.Head.{floor, upstreamDemand, upstreamOxygen, aerated, belowDam, headDemand, headOxygen}
 use Rattle.report.specs.Bed.{bedBy, bedOf, lossWith}
 use Rattle.report.specs.Program.{oxygenWith, factorsAlong, partsAlong, lossAlong, demandAlong, turnedAlong, oxygenAlong, demandSum, oxygenSum, demandAtHead, oxygenAtHead, demandAt, oxygenAt}
 use Rattle.report.specs.Recurrence.{exactSaturation, exactMean, exactBelowDam, exactMixedDemand, exactMixedOxygen, exactHeadDemand, exactHeadOxygen, exactDemandAlong, exactTurnedAlong, exactLoss, exactOxygenAlong, exactDemandSum, exactOxygenSum, exactDemandAtHead, exactOxygenAtHead, exactDemandAt, exactOxygenAt}

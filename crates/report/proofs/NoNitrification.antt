@@ -16,8 +16,8 @@ use Rattle.river.specs.declared.card.Nitrification.the-variants.{Idle, Nitrifyi
 use Rattle.river.specs.declared.source.Demand.the-variants.{Nitrogenous}
 use Rattle.river.specs.Card.{blank}
 use Rattle.river.specs.Source.{nitrogenousSource, sourceOf, rateOf}
-use Rattle.river.specs.Flow.{Feeders, joinedIf, feedersAmong, fed, flowOf}
-use Rattle.river.specs.Head.{upstreamDemand, headDemand}
+use Rattle.flows.specs.Flow.{Feeders, joinedIf, feedersAmong, fed, flowOf}
+use Rattle.flows.specs.Head.{upstreamDemand, headDemand}
 use Rattle.river.proofs.Answers.{clash}
 use Rattle.report.specs.Program.{partsAlong, demandAlong, demandSum, demandAtHead, figuresOf, figuresAt}
 use Rattle.report.specs.Record.{nitrifies, isNitrified, hasNitrification}

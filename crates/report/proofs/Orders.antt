@@ -9,8 +9,8 @@ use Rattle.river.specs.River.{riverOf}
 use Rattle.river.specs.Optional.{readOptional, readOptionals}
 use Rattle.river.specs.Read.{readHeader, readReach, readReaches, readRest, readFile, cardAt}
 use Rattle.river.specs.Write.{encode}
-use Rattle.river.specs.Flow.{flowOf, massOf, feedersAmong, joinedIf, flowCheck, checksFrom, reachChecks}
-use Rattle.river.specs.Accept.{acceptFile}
+use Rattle.flows.specs.Flow.{flowOf, massOf, feedersAmong, joinedIf, flowCheck, checksFrom, reachChecks}
+use Rattle.flows.specs.Accept.{acceptFile}
 use Rattle.report.specs.Mean.{meanAnswer, meanRoomAnswer}
 use Rattle.report.specs.Report.{reportAnswer, roomAnswer}
 

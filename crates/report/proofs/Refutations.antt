@@ -14,13 +14,13 @@ use Rattle.river.specs.declared.card.RateFactors.the-variants.{AsGiven}
 use Rattle.river.specs.Refusal.{accepted, need, after, choose}
 use Rattle.river.specs.Card.{countOk, inRange, outletOk, ratesInRange}
 use Rattle.river.specs.River.{riverOf}
-use Rattle.river.specs.Rates.{decayInForce, aerationInForce}
+use Rattle.flows.specs.Rates.{decayInForce, aerationInForce}
 use Rattle.river.specs.Optional.{readOptional, readOptionals}
 use Rattle.river.specs.Read.{readFile, readRest, readHeader, readReaches, readReach, cardAt}
 use Rattle.river.specs.Write.{encode}
-use Rattle.river.specs.Flow.{cardOf, above, feedersAmong, joinedIf, fed, flowOf, massOf, deepest, damFits, flowCheck, checksFrom, reachChecks}
-use Rattle.river.specs.Accept.{acceptFile}
-use Rattle.river.specs.Saturation.{saturationThousandths}
+use Rattle.flows.specs.Flow.{cardOf, above, feedersAmong, joinedIf, fed, flowOf, massOf, deepest, damFits, flowCheck, checksFrom, reachChecks}
+use Rattle.flows.specs.Accept.{acceptFile}
+use Rattle.flows.specs.Saturation.{saturationThousandths}
 use Rattle.river.specs.declared.source.Demand.the-variants.{Bod}
 use Rattle.report.specs.Record.{nitrifies, isNitrified, hasNitrification, Figures}
 use Rattle.report.specs.Recurrence.{exactSaturation, exactMean, exactBelowDam, exactMixedDemand, exactMixedOxygen, exactHeadDemand, exactHeadOxygen, exactDemandAlong, exactTurnedAlong, exactLoss, exactOxygenAlong, exactDemandSum, exactDemandAtHead, exactOxygenAtHead, exactDemandAt, exactOxygenAt}

@@ -7,7 +7,7 @@ use lib.Seq.{take-at}
 use Rattle.river.specs.declared.card.RateFactors.{RateFactors}
 use Rattle.river.specs.Refusal.{accepted}
 use Rattle.river.specs.River.{River}
-use Rattle.river.specs.Rates.{cardInForce}
+use Rattle.flows.specs.Rates.{cardInForce}
 use Rattle.river.specs.Read.{readFile}
 use Rattle.report.specs.Status.{reported}
 use Rattle.report.specs.Program.{reportedAt}

@@ -17,12 +17,12 @@ use Rattle.river.specs.declared.source.Demand.{Demand}
 use Rattle.river.specs.declared.source.Demand.the-variants.{Bod, Nitrogenous}
 use Rattle.river.specs.Source.{rateOf}
 use Rattle.river.specs.River.{River}
-use Rattle.river.specs.Rates.{inForce}
+use Rattle.flows.specs.Rates.{inForce}
 use Rattle.river.specs.Read.{readFile}
-use Rattle.river.specs.Flow.{cardOf, above, sludgeOf, Flows, flowCheck}
+use Rattle.flows.specs.Flow.{cardOf, above, sludgeOf, Flows, flowCheck}
 use Rattle.river.proofs.Answers.{after-accepted}
-use Rattle.river.proofs.flow.FlowCheck.{flows-of-accepted, accepted-of-flows}
-use Rattle.river.proofs.Acceptance.{accepts-exactly, accepted-lawful}
+use Rattle.flows.proofs.flow.FlowCheck.{flows-of-accepted, accepted-of-flows}
+use Rattle.flows.proofs.Acceptance.{accepts-exactly, accepted-lawful}
 use Rattle.report.specs.Program.{oxygenAtHead, demandAt, oxygenAt, usedAbove, figuresAt, figuresOf, reportedAt, lowest, foot}
 use Rattle.report.specs.Distance.{allowanceAt, WithinAllowance}
 use Rattle.report.specs.Record.{Figures}
@@ -34,7 +34,7 @@ use Rattle.report.proofs.Lowest.{lowest-first}
 use Rattle.report.proofs.Statuses.{reported-same, reported-blank, status-at-most, status-zero, status-one}
 use Rattle.report.proofs.Distances.{without-last}
 use Rattle.report.proofs.Demand3.{demand-3}
-use Rattle.river.specs.Accept.{acceptFile}
+use Rattle.flows.specs.Accept.{acceptFile}
 
 -- the river of an accepted file
 pub record IsRiver (cards : List Card) : Type 0 where

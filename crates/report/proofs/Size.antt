@@ -13,7 +13,7 @@ use Rattle.river.specs.declared.file.Reading.{Reading}
 use Rattle.river.specs.declared.refusal.Outcome.{Outcome}
 use Rattle.river.specs.File.{riverRead, Reads}
 use Rattle.river.specs.River.{River}
-use Rattle.river.specs.Rates.{decayInForce, withRate, cardInForce}
+use Rattle.flows.specs.Rates.{decayInForce, withRate, cardInForce}
 use Rattle.river.specs.Read.{readFile}
 use Rattle.river.specs.Refusal.{Answer, accepted, refused, outcomeOf}
 use Rattle.river.proofs.Answers.{never}

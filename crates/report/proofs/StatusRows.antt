@@ -9,7 +9,7 @@ use Rattle.river.specs.declared.card.Card.{Card}
 use Rattle.river.specs.declared.card.Dam.the-variants.{Absent}
 use Rattle.river.specs.declared.card.Nitrification.the-variants.{Idle}
 use Rattle.river.specs.declared.card.Amount.the-variants.{Without}
-use Rattle.river.specs.Flow.{Feeders, none, more, joinedIf, feedersAmong, cardOf, above}
+use Rattle.flows.specs.Flow.{Feeders, none, more, joinedIf, feedersAmong, cardOf, above}
 use Rattle.report.specs.Record.{Figures}
 use Rattle.report.specs.Status.{statusBy, isUsed, usedBy, shownNumber, shownOxygen, reported}
 

@@ -16,11 +16,11 @@ use Rattle.decay.proofs.step.MeanShares.{mean-step-sound, mean-fills, mean-lose
 use Rattle.decay.proofs.mean.Averages.{mean-range, mean-demand-range, mean-demand-kept, mean-bod-tie, mean-deficit-tie}
 use Rattle.decay.specs.declared.factors.Factors.{Factors}
 use Rattle.river.specs.declared.card.Card.{Card}
-use Rattle.river.specs.Flow.{Feeders, reachFlow, reachDepth, sludgeOf}
+use Rattle.flows.specs.Flow.{Feeders, reachFlow, reachDepth, sludgeOf}
 use Rattle.river.specs.declared.source.Demand.{Demand}
 use Rattle.river.specs.declared.source.Demand.the-variants.{Bod, Nitrogenous}
 use Rattle.river.specs.Source.{rateOf}
-use Rattle.river.specs.Saturation.{saturationOf}
+use Rattle.flows.specs.Saturation.{saturationOf}
 use Rattle.report.specs.Bed.{bedOf, lossLimit, LossInRange}
 use Rattle.report.specs.Mean.{middle, factorsMean, turnedMean, meanAlong, meanOxygen}
 use Rattle.report.specs.Program.{unitParts, oxygenWith, factorsAlong, partsAlong, demandAlong, turnedAlong, lossAlong, oxygenAlong, demandAt, oxygenAt, demandAtHead, oxygenAtHead, Critical, criticalOxygen, usedAbove, figuresOf, foot}

@@ -12,10 +12,10 @@ use lib.Dec.{eqb}
 use borrow.Author.Tests.{eq-eqb}
 use Rattle.river.specs.declared.card.Card.{Card}
 use Rattle.river.specs.Card.{Lawful, blank}
-use Rattle.river.specs.Flow.{Feeders, more, joinedIf, feedersAmong, cardOf, above}
+use Rattle.flows.specs.Flow.{Feeders, more, joinedIf, feedersAmong, cardOf, above}
 use Rattle.river.proofs.Answers.{clash}
-use Rattle.river.proofs.Acceptance.{all-feeders}
-use Rattle.river.proofs.rates.InForce.{regular-of-lawful}
+use Rattle.flows.proofs.Acceptance.{all-feeders}
+use Rattle.flows.proofs.rates.InForce.{regular-of-lawful}
 use Rattle.report.specs.Status.{statusBy, isUsed, usedBy}
 use Rattle.report.specs.Program.{usedAbove, statusOf}
 use Rattle.report.specs.Locality.{LiesAbove, feeds, through}

@@ -7,7 +7,7 @@ use Rattle.decay.specs.Fixed.{one, small, product}
 use Rattle.decay.specs.declared.step.Step.{Step}
 use Rattle.decay.specs.declared.factors.Factors.{Factors}
 use Rattle.river.specs.declared.card.Card.{Card}
-use Rattle.river.specs.Flow.{sludgeOf, bedLimit}
+use Rattle.flows.specs.Flow.{sludgeOf, bedLimit}
 use Rattle.report.specs.declared.bed.Bed.{Bed}
 
 -- The bed of a reach by whether it is without aeration, k2, demand, volume and flow Q. Without aeration its loss is demand × volume / (86,400 × Q) mg/L

@@ -9,7 +9,7 @@ use Rattle.river.specs.declared.card.Card.{Card}
 use Rattle.river.specs.declared.source.Demand.the-variants.{Bod, Nitrogenous}
 use Rattle.river.specs.declared.card.Amount.{Amount}
 use Rattle.river.specs.declared.card.Amount.the-variants.{Without, Given}
-use Rattle.river.specs.Flow.{Feeders, none, more, flowOf, reachFlow, reachDepth, above}
+use Rattle.flows.specs.Flow.{Feeders, none, more, flowOf, reachFlow, reachDepth, above}
 use Rattle.report.specs.Bed.{bedOf}
 use Rattle.report.specs.Recurrence.{exactDemandAtHead, exactOxygenAtHead, exactDemandAt, exactOxygenAt}
 use Rattle.report.specs.Record.{Figures, hasNitrification}

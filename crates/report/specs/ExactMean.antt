@@ -10,7 +10,7 @@ use Rattle.decay.specs.Integral.{valueAt, integral, IntegralOf, meanOf, constan
 use Rattle.river.specs.declared.card.Card.{Card}
 use Rattle.river.specs.declared.source.Demand.the-variants.{Bod, Nitrogenous}
 use Rattle.river.specs.Source.{rateOf}
-use Rattle.river.specs.Flow.{Feeders, reachFlow, sludgeOf}
+use Rattle.flows.specs.Flow.{Feeders, reachFlow, sludgeOf}
 use Rattle.report.specs.Recurrence.{exactSaturation, exactDemandAtHead, exactOxygenAtHead, exactOxygenAt}
 
 module _ (N : ℕ) where

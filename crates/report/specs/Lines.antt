@@ -9,19 +9,19 @@ use lib.ListN.{length, getD}
 use lib.Seq.{sets}
 use Rattle.decay.specs.Step.{RatesPass}
 use Rattle.river.specs.declared.card.Card.{Card}
-use Rattle.river.specs.declared.flow.FlowTable.{FlowTable}
-use Rattle.river.specs.declared.head.Brought.{Brought}
-use Rattle.river.specs.declared.head.FootTable.{FootTable}
-use Rattle.river.specs.declared.head.Head.{Head}
+use Rattle.flows.specs.declared.flow.FlowTable.{FlowTable}
+use Rattle.flows.specs.declared.head.Brought.{Brought}
+use Rattle.flows.specs.declared.head.FootTable.{FootTable}
+use Rattle.flows.specs.declared.head.Head.{Head}
 use Rattle.river.specs.declared.source.Demand.{Demand}
 use Rattle.river.specs.Card.{Lawful}
 use Rattle.river.specs.Source.{rateOf}
-use Rattle.river.specs.Saturation.{SaturationInRange}
+use Rattle.flows.specs.Saturation.{SaturationInRange}
 use Rattle.river.specs.declared.source.Demand.the-variants.{Bod, Nitrogenous}
-use Rattle.river.specs.Flow.{Flows, cardOf, above, flowAt, massAt}
-use Rattle.river.specs.FlowTable.{Tabled}
-use Rattle.river.specs.HeadTable.{demandLimit, footOf, broughtTo, FootWithin, Carried}
-use Rattle.river.specs.Stored.{oxygenOf, storedOf}
+use Rattle.flows.specs.Flow.{Flows, cardOf, above, flowAt, massAt}
+use Rattle.flows.specs.FlowTable.{Tabled}
+use Rattle.flows.specs.HeadTable.{demandLimit, footOf, broughtTo, FootWithin, Carried}
+use Rattle.flows.specs.Stored.{oxygenOf, storedOf}
 use Rattle.report.specs.Bed.{BedPasses, lossLimit}
 use Rattle.report.specs.Program.{demandAtHead, oxygenAtHead, usedAbove, figuresAt}
 use Rattle.report.specs.Status.{isUsed}

@@ -6,7 +6,7 @@ use Prim.Native.Nat.{ℕ, suc}
 use lib.ListN.{getD}
 use Rattle.river.specs.declared.card.Card.{Card}
 use Rattle.river.specs.Card.{blank}
-use Rattle.river.specs.Flow.{Feeders, none, more, cardOf, above}
+use Rattle.flows.specs.Flow.{Feeders, none, more, cardOf, above}
 
 -- a card with another outlet
 unfoldable pub withOutlet : ℕ → Card → Card

@@ -15,12 +15,12 @@ use Rattle.river.specs.declared.card.Card.{Card}
 use Rattle.river.specs.declared.source.Demand.the-variants.{Bod, Nitrogenous}
 use Rattle.river.specs.Bytes.{fourBytes, fourAt}
 use Rattle.river.specs.Source.{rateOf}
-use Rattle.river.specs.Flow.{Feeders, reachFlow, cardOf, above}
-use Rattle.river.specs.Saturation.{saturationOf}
-use Rattle.river.specs.Head.{floor}
-use Rattle.river.specs.Stored.{oxygenOf}
+use Rattle.flows.specs.Flow.{Feeders, reachFlow, cardOf, above}
+use Rattle.flows.specs.Saturation.{saturationOf}
+use Rattle.flows.specs.Head.{floor}
+use Rattle.flows.specs.Stored.{oxygenOf}
 use Rattle.river.specs.Refusal.{Answer, accepted, refused, refuse, need, after as then}
-use Rattle.river.specs.Accept.{acceptFile, AcceptedFile}
+use Rattle.flows.specs.Accept.{acceptFile, AcceptedFile}
 use Rattle.report.specs.Bed.{bedOf, lossWith}
 use Rattle.report.specs.Program.{oxygenWith, unitParts, demandAtHead, oxygenAtHead, usedAbove, statusOf}
 use Rattle.report.specs.Record.{complement, fromComplement}

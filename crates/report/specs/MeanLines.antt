@@ -13,14 +13,14 @@ use Rattle.decay.specs.Mean.{meanDemandOf, meanFactors}
 use Rattle.decay.specs.Factors.{SoundStep, demandFrom, factorsAt}
 use Rattle.decay.specs.Step.{stepOf}
 use Rattle.river.specs.declared.card.Card.{Card}
-use Rattle.river.specs.declared.head.Brought.{Brought}
-use Rattle.river.specs.declared.head.Head.{Head}
+use Rattle.flows.specs.declared.head.Brought.{Brought}
+use Rattle.flows.specs.declared.head.Head.{Head}
 use Rattle.river.specs.declared.source.Demand.the-variants.{Bod, Nitrogenous}
 use Rattle.river.specs.Source.{rateOf}
 use Rattle.river.specs.Bytes.{fourBytes}
-use Rattle.river.specs.Flow.{flowAt}
-use Rattle.river.specs.HeadTable.{FootWithin}
-use Rattle.river.specs.Stored.{storedLimit, oxygenOf, oxygenSumOf}
+use Rattle.flows.specs.Flow.{flowAt}
+use Rattle.flows.specs.HeadTable.{FootWithin}
+use Rattle.flows.specs.Stored.{storedLimit, oxygenOf, oxygenSumOf}
 use Rattle.decay.specs.declared.step.Step.{Step}
 use Rattle.report.specs.Bed.{lossWith, BedInRange}
 use Rattle.report.specs.Profile.{StartInRange, startParts, oxygenOver}

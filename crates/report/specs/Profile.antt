@@ -9,8 +9,8 @@ use Rattle.decay.specs.Factors.{demandFrom, headFactors, factorsAt}
 use Rattle.decay.specs.declared.step.Step.{Step}
 use Rattle.decay.specs.declared.factors.DemandFactors.{DemandFactors}
 use Rattle.decay.specs.declared.factors.Factors.{Factors}
-use Rattle.river.specs.Stored.{oxygenOf, Stores}
-use Rattle.river.specs.HeadTable.{demandLimit}
+use Rattle.flows.specs.Stored.{oxygenOf, Stores}
+use Rattle.flows.specs.HeadTable.{demandLimit}
 use Rattle.report.specs.Bed.{lossWith, lossLimit}
 use Rattle.report.specs.Program.{unitParts, oxygenWith, foot, lowest}
 use Rattle.report.specs.declared.bed.Bed.{Bed}

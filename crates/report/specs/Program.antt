@@ -14,12 +14,12 @@ use Rattle.decay.specs.Factors.{demandFrom}
 use Rattle.decay.specs.declared.factors.DemandFactors.{DemandFactors}
 use Rattle.decay.specs.declared.factors.Factors.{Factors}
 use Rattle.river.specs.declared.card.Card.{Card}
-use Rattle.river.specs.Flow.{Feeders, none, more, fed, flowOf, reachFlow, reachDepth, cardOf, above}
-use Rattle.river.specs.Saturation.{saturationOf}
+use Rattle.flows.specs.Flow.{Feeders, none, more, fed, flowOf, reachFlow, reachDepth, cardOf, above}
+use Rattle.flows.specs.Saturation.{saturationOf}
 use Rattle.river.specs.declared.source.Demand.{Demand}
 use Rattle.river.specs.declared.source.Demand.the-variants.{Bod, Nitrogenous}
 use Rattle.river.specs.Source.{sourceOf, rateOf}
-use Rattle.river.specs.Head.{floor, headDemand, headOxygen}
+use Rattle.flows.specs.Head.{floor, headDemand, headOxygen}
 use Rattle.report.specs.Bed.{bedOf, lossWith}
 use Rattle.report.specs.Record.{Figures}
 use Rattle.report.specs.Status.{statusBy, usedBy, reported}

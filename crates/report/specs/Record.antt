@@ -11,7 +11,7 @@ use Rattle.river.specs.declared.card.Card.{Card}
 use Rattle.river.specs.declared.card.Nitrification.{Nitrification}
 use Rattle.river.specs.declared.card.Nitrification.the-variants.{Idle, Nitrifying}
 use Rattle.river.specs.Bytes.{Mark, mark, markBytes, twoBytes, fourBytes, byteAt, twoAt, fourAt}
-use Rattle.river.specs.Stored.{storedZero, storedLimit, oxygenOf}
+use Rattle.flows.specs.Stored.{storedZero, storedLimit, oxygenOf}
 use Rattle.report.specs.declared.record.Line.{Line}
 
 -- whether a reach has an `NT` record, of zeros too

@@ -10,8 +10,8 @@ use Rattle.river.specs.declared.card.Dam.{Dam}
 use Rattle.river.specs.declared.card.Dam.the-variants.{Absent, Aerating}
 use Rattle.river.specs.declared.card.Card.{Card}
 use Rattle.river.specs.declared.source.Source.{Source}
-use Rattle.river.specs.Flow.{Feeders, none, more, fed, flowOf, reachFlow, sludgeOf}
-use Rattle.river.specs.Saturation.{saturationThousandths, standardPressure, pressureOf}
+use Rattle.flows.specs.Flow.{Feeders, none, more, fed, flowOf, reachFlow, sludgeOf}
+use Rattle.flows.specs.Saturation.{saturationThousandths, standardPressure, pressureOf}
 use Rattle.river.specs.declared.source.Demand.{Demand}
 use Rattle.river.specs.declared.source.Demand.the-variants.{Bod, Nitrogenous}
 use Rattle.river.specs.Source.{sourceOf, rateOf}

@@ -11,13 +11,13 @@ use Rattle.river.specs.Refusal.{Answer, accepted, refused, refuse, need, after,
 use Rattle.river.specs.declared.refusal.Refusal.{Refusal}
 use Rattle.river.specs.River.{River}
 use Rattle.river.specs.Read.{readFile}
-use Rattle.river.specs.Flow.{cardOf, above, depthAt, flowAt}
+use Rattle.flows.specs.Flow.{cardOf, above, depthAt, flowAt}
 use Rattle.report.specs.Program.{oxygenAt, statusOf, figuresAt, reportedAt}
 use Rattle.report.specs.Distance.{allowanceAt, WithinAllowance}
 use Rattle.report.specs.Ties.{Tied}
 use Rattle.report.specs.Locality.{LiesAbove}
 use Rattle.report.specs.Record.{hasNitrification, Figures, encodeRecord, recordSize, recordAt, readRecord}
-use Rattle.river.specs.Accept.{acceptFile, AcceptedFile}
+use Rattle.flows.specs.Accept.{acceptFile, AcceptedFile}
 
 -- the first n of some rows of bytes, one behind the other
 unfoldable pub firstRows : (ℕ → List ℕ) → ℕ → List ℕ

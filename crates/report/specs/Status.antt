@@ -5,7 +5,7 @@ use lib.Dec.{eqb, ltb}
 use lib.IntN.{ℤ, pos}
 use lib.Signed.{ltZ}
 use Rattle.river.specs.declared.card.Card.{Card}
-use Rattle.river.specs.Flow.{Feeders, none, more}
+use Rattle.flows.specs.Flow.{Feeders, none, more}
 use Rattle.report.specs.Record.{Figures}
 
 -- the status of a reach, by whether any reach above has status 1 or 2, and by its own critical oxygen: 2 if so, else 1 below zero, else 0

@@ -9,7 +9,7 @@ use Rattle.decay.specs.Exact.{foot}
 use Rattle.river.specs.declared.card.Card.{Card}
 use Rattle.river.specs.declared.source.Demand.{Demand}
 use Rattle.river.specs.declared.source.Demand.the-variants.{Bod, Nitrogenous}
-use Rattle.river.specs.Flow.{sludgeOf}
+use Rattle.flows.specs.Flow.{sludgeOf}
 use Rattle.river.specs.Source.{rateOf}
 use Rattle.report.specs.Record.{Figures}
 

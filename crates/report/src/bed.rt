@@ -2,12 +2,12 @@
 use decay::factors;
 use decay::factors::Factors;
 use decay::fixed;
+use flows::flow;
 use river::card::Card;
-use river::flow;
 ghost use mathlib.Core.Path.{_≡_};
 ghost use Prim.Native.Nat.{_≤_};
 ghost use Rattle.decay.specs.Factors.{AreShares};
-ghost use Rattle.river.specs.Flow.{flowLimit};
+ghost use Rattle.flows.specs.Flow.{flowLimit};
 ghost use Rattle.report.specs.Bed.{BedPasses, bedOf, lossWith, LossInRange};
 
 // Units in a mg/L.

@@ -6,10 +6,10 @@ pub mod profile;
 pub mod record;
 pub mod status;
 
+use flows::accept;
+use flows::head::STORED_ZERO;
 use mean::RiverMean;
-use river::accept;
 use river::file::read_file;
-use river::head::STORED_ZERO;
 use river::refusal;
 use river::refusal::Outcome;
 use river::rewrite;
@@ -18,7 +18,7 @@ ghost use Prim.Native.Nat.{_/_, _%_};
 ghost use Rattle.report.specs.Report.{Reports, TellsSize};
 ghost use Rattle.report.specs.Rewrite.{Rewrites};
 ghost use Rattle.report.specs.Mean.{Means};
-ghost use Rattle.river.specs.Stored.{oxygenOf};
+ghost use Rattle.flows.specs.Stored.{oxygenOf};
 
 // The number of the refusal in a result.
 pub fn refusal_number(result: u32) -> u32

@@ -6,7 +6,7 @@ use decay::factors::DemandFactors;
 use decay::factors::Factors;
 use decay::fixed;
 use decay::step::Step;
-use river::head::STORED_ZERO_WIDE;
+use flows::head::STORED_ZERO_WIDE;
 ghost use mathlib.Core.Path.{_≡_};
 ghost use Prim.Native.Nat.{_+_, _/_, _≤_, _<_};
 ghost use mathlib.Core.Bool.{false};
@@ -15,7 +15,7 @@ ghost use Rattle.decay.specs.Factors.{SoundStep, AreShares, demandFrom};
 ghost use Rattle.report.specs.Bed.{noBed, lossLimit, LossInRange, BedInRange};
 ghost use Rattle.report.specs.Program.{foot, unitParts, oxygenWith};
 ghost use Rattle.report.specs.Profile.{StartInRange, Begun, noStep, startParts, wholeDemand, oxygenOver, WalkedTo, BothWalkedTo, seenAt, Profiled};
-ghost use Rattle.river.specs.Stored.{oxygenOf, Stores};
+ghost use Rattle.flows.specs.Stored.{oxygenOf, Stores};
 
 // Nitrogenous BOD is stepped in parts of a unit, so that no product is needed for its units.
 pub const UNIT_PARTS: u64 = 16_384;

@@ -1,17 +1,17 @@
 // The record of a reach: an `RP` record and, in a river with nitrification, an `RN` record behind it.
+use flows::flow;
+use flows::head::STORED_ZERO;
 use river::bytes;
 use river::card::Card;
 use river::card::Cards;
 use river::card::Nitrification;
-use river::flow;
-use river::head::STORED_ZERO;
 ghost use mathlib.Core.Path.{_≡_};
 ghost use mathlib.Core.List.{[], _∷_, _++_};
 ghost use Prim.Native.Nat.{_+_, _*_, _≤_, _<_};
 ghost use lib.ListN.{length};
 ghost use Rattle.river.specs.Bytes.{Put, markBytes, twoBytes, fourBytes, fourAt};
 ghost use Rattle.river.specs.Card.{cardList};
-ghost use Rattle.river.specs.Stored.{oxygenOf};
+ghost use Rattle.flows.specs.Stored.{oxygenOf};
 ghost use Rattle.report.specs.Record.{isNitrified, hasNitrification, complement, fromComplement, RP, nitrogenousBytes, encodeNitrogenous, encodeRecord, recordBytes, recordSize, recordAt, nitrogenousAt, readRecord, figuresIn};
 ghost use Rattle.report.specs.Report.{reportSize};
 

@@ -1,11 +1,11 @@
 // "Oxygen used up": the status of a reach, and what is reported at each status.
 use crate::record::Line;
+use flows::head::STORED_ZERO;
 use river::card::REACHES;
-use river::head::STORED_ZERO;
 ghost use mathlib.Core.Path.{_≡_};
 ghost use mathlib.Core.Bool.{_||_, cond};
 ghost use lib.IntN.{pos};
-ghost use Rattle.river.specs.Stored.{oxygenOf};
+ghost use Rattle.flows.specs.Stored.{oxygenOf};
 ghost use Rattle.report.specs.Record.{figuresIn};
 ghost use Rattle.report.specs.Status.{statusBy, isUsed, reported};
 

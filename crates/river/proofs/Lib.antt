@@ -5,5 +5,4 @@ pub mod Tests
 pub mod Walks
 pub mod Files
 pub mod RoundTrip
-pub mod Acceptance
 pub mod Bench

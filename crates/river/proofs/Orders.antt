@@ -1,5 +1,5 @@
--- The orders of the checks: a file or a river that breaks two rules is refused by the earlier one.
--- Computed from the definitions, and named by the laws of reading, writing and the flow check, so that these rows are checked first.
+-- The orders of the rules of reading and writing: a file or a river that breaks two rules is refused by the earlier one.
+-- Computed from the definitions, and named by the laws of reading and writing, so that these rows are checked first.
 use mathlib.Core.Path.{_≡_, refl}
 use mathlib.Core.List.{List, [], _∷_, _++_}
 use Prim.Native.Nat.{ℕ}
@@ -14,16 +14,15 @@ use Rattle.river.specs.declared.card.Nitrification.the-variants.{Idle, N
 use Rattle.river.specs.declared.card.RateFactors.{RateFactors}
 use Rattle.river.specs.declared.card.RateFactors.the-variants.{AsGiven, PerDegree}
 use Rattle.river.specs.Refusal.{Answer, accepted, refused, refuse, need, choose, after}
-use Rattle.river.specs.Card.{countOk, inRange, outletOk, encodeDam, damInRange, takeLayout, pressureLayout, sludgeLayout, encodeAmount, amountInRange, encodeNitrification, nitrificationInRange, ratesInRange}
+use Rattle.river.specs.Card.{countOk, inRange, outletOk, encodeDam, damInRange, takeLayout, pressureLayout, sludgeLayout, encodeAmount, amountInRange, encodeNitrification, nitrificationInRange}
 use Rattle.river.specs.Optional.{readOptional, readOptionals, optionalsInRange}
 use Rattle.river.specs.River.{riverOf, factorInRange, factorsInRange, encodeFactors}
 use Rattle.river.specs.Read.{readHeader, readReach, readReaches, readRest, readFile, cardAt}
 use Rattle.river.specs.Write.{encode, encodeCard, encodeHeader, encodeOpening, checkCard, checkFrom, checkRiver, writeAnswer}
 use Rattle.river.specs.Rewrite.{rewriteAnswer}
-use Rattle.river.specs.Flow.{fed, flowOf, massOf, feedersAmong, joinedIf, damFits, flowCheck, checksFrom, reachChecks}
 
 -- a reach by the fields that break a rule, one without a nitrification, one without a sludge bed too, and one without a pressure too
-abbrev reach-in : Nitrification → (sludge pressure : Amount) (outlet temperature volume inflow load : ℕ) → Dam → (amount : Amount) → Card
+abbrev pub reach-in : Nitrification → (sludge pressure : Amount) (outlet temperature volume inflow load : ℕ) → Dam → (amount : Amount) → Card
 reach-in nitrification sludge pressure outlet temperature volume inflow load dam amount =
     record {
       outlet = outlet;
@@ -42,17 +41,17 @@ reach-in nitrification sludge pressure outlet temperature volume inflow load dam
       nitrification = nitrification;
     }
 
-abbrev reach-on : (sludge pressure : Amount) (outlet temperature volume inflow load : ℕ) → Dam → (amount : Amount) → Card
+abbrev pub reach-on : (sludge pressure : Amount) (outlet temperature volume inflow load : ℕ) → Dam → (amount : Amount) → Card
 reach-on = reach-in Idle
 
-abbrev reach-at : (pressure : Amount) (outlet temperature volume inflow load : ℕ) → Dam → (amount : Amount) → Card
+abbrev pub reach-at : (pressure : Amount) (outlet temperature volume inflow load : ℕ) → Dam → (amount : Amount) → Card
 reach-at = reach-on Without
 
-abbrev reach : (outlet temperature volume inflow load : ℕ) → Dam → (amount : Amount) → Card
+abbrev pub reach : (outlet temperature volume inflow load : ℕ) → Dam → (amount : Amount) → Card
 reach = reach-at Without
 
 -- a dam in range, and one out of range
-abbrev weir : Dam
+abbrev pub weir : Dam
 weir = Aerating 500 0
 
 abbrev weir-out : Dam
@@ -68,16 +67,12 @@ pressure-out = Given 499
 abbrev sludge-out : Amount
 sludge-out = Given 65_536
 
-abbrev nitrification-out : Nitrification
+abbrev pub nitrification-out : Nitrification
 nitrification-out = Nitrifying 20_001 0 0
 
 -- a nitrification in range
 abbrev nitrifying : Nitrification
 nitrifying = Nitrifying 0 0 0
-
--- one reach with a volume of 100, k1 of 1,000, and a sludge bed: 4,320 is the most to a litre a second
-abbrev bed : (sludge inflow : ℕ) (amount : Amount) → List Card
-bed sludge inflow amount = reach-on (Given sludge) Without 0 20 100 inflow 0 Absent amount ∷ []
 
 -- factors in range, and the first and the second out of range
 abbrev factors : RateFactors
@@ -176,33 +171,6 @@ pub record Writing : Type 0 where
   -- rewriting: a rule of reading, then 12
   pub cut-and-room : rewriteAnswer (88 ∷ 86 ∷ 0 ∷ []) 0 ≡ refused (refuse 1 0)
 
-pub record Flowing : Type 0 where
-  -- 7, 8, 9, 10, 13, 15, 11, 14, each with the next rule that the same reach can break
-  pub none-and-dam : flowCheck (reach 0 20 0 0 0 weir Without ∷ []) ≡ refused (refuse 7 1)
-  pub flow-and-dam : flowCheck (reach 0 20 0 100_000_001 0 weir Without ∷ []) ≡ refused (refuse 8 1)
-  pub dam-and-load : flowCheck (reach 0 20 0 1 1_001 weir Without ∷ []) ≡ refused (refuse 9 1)
-  pub load-and-rate : flowCheck (reach 0 20 346 1 1_001 Absent Without ∷ []) ≡ refused (refuse 10 1)
-  pub load-and-take : flowCheck (reach 0 20 0 1 1_001 Absent (Given 1) ∷ []) ≡ refused (refuse 10 1)
-  pub take-and-rate : flowCheck (reach 0 20 346 1 0 Absent (Given 1) ∷ []) ≡ refused (refuse 13 1)
-  pub take-and-range : flowCheck (reach-in nitrification-out Without Without 0 20 0 1 0 Absent (Given 1) ∷ []) ≡ refused (refuse 13 1)
-  pub range-and-rate : flowCheck (reach-in nitrification-out Without Without 0 20 346 1 0 Absent Without ∷ []) ≡ refused (refuse 15 1)
-  pub range-and-bed : flowCheck (reach-in nitrification-out (Given 65_535) Without 0 20 7 1 0 Absent Without ∷ []) ≡ refused (refuse 15 1)
-  pub nitrogenous-rate-and-bed : flowCheck (reach-in (Nitrifying 3_457 0 0) (Given 4_321) Without 0 20 100 1 0 Absent Without ∷ []) ≡ refused (refuse 11 1)
-  pub take-and-nitrogenous-rate : flowCheck (reach-in (Nitrifying 3_457 0 0) Without Without 0 20 100 1 0 Absent (Given 1) ∷ []) ≡ refused (refuse 13 1)
-  pub rate-and-bed : flowCheck (reach-on (Given 4_321) Without 0 20 346 1 0 Absent Without ∷ []) ≡ refused (refuse 11 1)
-  -- a take of Qm less 1 passes 13, and 11 goes by the flow that remains
-  pub one-left : flowCheck (reach 0 20 345 2 0 Absent (Given 1) ∷ []) ≡ accepted (reach 0 20 345 2 0 Absent (Given 1) ∷ [])
-  pub rate-by-the-rest : flowCheck (reach 0 20 346 2 0 Absent (Given 1) ∷ []) ≡ refused (refuse 11 1)
-  -- 14 on its limit and one past it, also by the flow that remains
-  pub bed-most : flowCheck (bed 4_320 1 Without) ≡ accepted (bed 4_320 1 Without)
-  pub bed-past : flowCheck (bed 4_321 1 Without) ≡ refused (refuse 14 1)
-  pub bed-by-the-rest-most : flowCheck (bed 4_320 2 (Given 1)) ≡ accepted (bed 4_320 2 (Given 1))
-  pub bed-by-the-rest : flowCheck (bed 4_321 2 (Given 1)) ≡ refused (refuse 14 1)
-  -- and 15, 11 or 14 of a reach before 10 of the next
-  pub range-and-next : flowCheck (reach-in nitrification-out Without Without 2 20 0 1 0 Absent Without ∷ reach 0 20 0 1 2_001 Absent Without ∷ []) ≡ refused (refuse 15 1)
-  pub rate-and-next : flowCheck (reach 2 20 346 1 0 Absent Without ∷ reach 0 20 0 1 2_001 Absent Without ∷ []) ≡ refused (refuse 11 1)
-  pub bed-and-next : flowCheck (reach-on (Given 4_321) Without 2 20 100 1 0 Absent Without ∷ reach 0 20 0 1 2_001 Absent Without ∷ []) ≡ refused (refuse 14 1)
-
 -- THEOREM: whoever breaks two rules of reading gets the earlier one's number
 pub reading-order : Reading
 unfolding readFile readHeader readRest readReaches readReach readOptionals readOptional cardAt countOk factorInRange factorsInRange inRange outletOk damInRange amountInRange nitrificationInRange need after choose
@@ -270,32 +238,4 @@ writing-order =
       take-and-room = refl;
       dam-and-room = refl;
       cut-and-room = refl;
-    }
-
--- THEOREM: the same for the flow check
-pub flow-order : Flowing
-unfolding flowCheck checksFrom reachChecks need damFits ratesInRange fed flowOf massOf feedersAmong joinedIf
-flow-order =
-    record {
-      none-and-dam = refl;
-      flow-and-dam = refl;
-      dam-and-load = refl;
-      load-and-rate = refl;
-      load-and-take = refl;
-      take-and-rate = refl;
-      take-and-range = refl;
-      range-and-rate = refl;
-      range-and-bed = refl;
-      nitrogenous-rate-and-bed = refl;
-      take-and-nitrogenous-rate = refl;
-      rate-and-bed = refl;
-      one-left = refl;
-      rate-by-the-rest = refl;
-      bed-most = refl;
-      bed-past = refl;
-      bed-by-the-rest-most = refl;
-      bed-by-the-rest = refl;
-      range-and-next = refl;
-      rate-and-next = refl;
-      bed-and-next = refl;
     }

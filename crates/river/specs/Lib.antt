@@ -6,15 +6,7 @@ pub mod River
 pub mod Read
 pub mod Write
 pub mod Source
-pub mod Rates
-pub mod Flow
-pub mod Saturation
-pub mod Head
-pub mod Accept
 pub mod File
 pub mod Reader
 pub mod Writer
 pub mod Rewrite
-pub mod Stored
-pub mod FlowTable
-pub mod HeadTable

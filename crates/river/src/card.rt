@@ -208,7 +208,7 @@ pub(crate) fn layout_size(layout: Layout) -> usize
 }
 
 // An amount, or what stands for none.
-pub(crate) fn amount_or(none: u32, amount: Amount) -> u32
+pub fn amount_or(none: u32, amount: Amount) -> u32
     ensures { λ r. ⌜ r ≡ amountOr none amount ⌝ }
 {
     match amount {

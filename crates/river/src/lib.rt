@@ -1,13 +1,9 @@
-// River files, flows and the head of a reach.
-pub mod accept;
+// River files: cards, reading, writing and the round trips.
 pub mod bytes;
 pub mod card;
 pub mod file;
-pub mod flow;
-pub mod head;
 pub mod put;
 pub mod range;
-pub mod rates;
 pub mod read;
 pub mod reader;
 pub mod refusal;

@@ -61,7 +61,7 @@ pub fn in_range(c: Card) -> bool
 }
 
 // Whether the rates of a card are in range.
-pub(crate) fn rates_in_range(c: Card) -> bool
+pub fn rates_in_range(c: Card) -> bool
     ensures { λ r. ⌜ r ≡ ratesInRange c ⌝ }
 {
     if RATE_MOST < c.k1 {

@@ -54,7 +54,7 @@ fn nitrogenous_rate(nitrification: Nitrification) -> u32
 }
 
 // The source of a demand of a reach.
-pub(crate) fn source_of(demand: Demand, card: Card) -> Source
+pub fn source_of(demand: Demand, card: Card) -> Source
     ensures { λ r. ⌜ r ≡ sourceOf demand card ⌝ }
 {
     match demand {
@@ -84,7 +84,7 @@ pub fn rate_of(demand: Demand, card: Card) -> u32
 }
 
 // The undecayed demand that a source brings.
-pub(crate) fn source_mass(source: Source) -> u64
+pub fn source_mass(source: Source) -> u64
     requires { ⌜ SourceInRange source ⌝ }
     ensures { λ r. ⌜ r ≡ sourceMass source ⌝ }
 {

@@ -10,7 +10,8 @@ use Rattle.river.specs.declared.card.Dam.the-variants.{Absent}
 use Rattle.river.specs.declared.card.Amount.the-variants.{Without, Given}
 use Rattle.river.specs.declared.card.Nitrification.the-variants.{Nitrifying}
 use Rattle.river.specs.Refusal.{accepted, refused, refuse}
-use Rattle.river.proofs.Bench.{two, drawn, hilly}
+use Rattle.river.proofs.Bench.{two, hilly}
+use Rattle.flows.proofs.Bench.{drawn}
 use Rattle.report.proofs.Bench.{bench, laden}
 use Rattle.report.proofs.record.Bytes.{small}
 use Rattle.report.specs.Record.{nitrifies, isNitrified, hasNitrification, Figures}

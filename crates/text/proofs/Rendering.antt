@@ -10,14 +10,14 @@ use lib.ListN.{length, drop, length-map}
 use lib.Seq.{length-take-le}
 use Rattle.io.specs.Counts.{Counts}
 use Rattle.river.specs.declared.card.Card.{Card}
-use Rattle.river.specs.Accept.{acceptFile}
+use Rattle.flows.specs.Accept.{acceptFile}
 use Rattle.river.specs.Bytes.{AreBytes, twoAt}
 use Rattle.river.specs.declared.refusal.Refusal.{Refusal}
-use Rattle.river.specs.Rates.{cardInForce}
+use Rattle.flows.specs.Rates.{cardInForce}
 use Rattle.river.specs.Read.{readFile}
 use Rattle.river.specs.Refusal.{Answer, accepted, refused, refuse}
 use Rattle.river.specs.Write.{encode}
-use Rattle.river.proofs.Acceptance.{accepts-exactly}
+use Rattle.flows.proofs.Acceptance.{accepts-exactly}
 use Rattle.river.proofs.Answers.{after-refused}
 use Rattle.river.proofs.Files.{reads-lawful}
 use Rattle.river.proofs.bytes.Puts.{put-at-start}

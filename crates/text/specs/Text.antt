@@ -10,7 +10,7 @@ use lib.IntN.{ℤ, pos, negsuc}
 use lib.ListN.{length, drop}
 use Rattle.river.specs.declared.card.Card.{Card}
 use Rattle.river.specs.Refusal.{Answer, accepted, refused}
-use Rattle.river.specs.Accept.{acceptFile}
+use Rattle.flows.specs.Accept.{acceptFile}
 use Rattle.report.specs.Program.{reportedAt}
 use Rattle.report.specs.Record.{hasNitrification, Figures}
 

@@ -4,12 +4,12 @@ ghost use mathlib.Core.Bool.{true};
 ghost use mathlib.Core.List.{map};
 ghost use Prim.Native.Nat.{_≤_};
 ghost use lib.IntN.{pos};
-ghost use Rattle.river.specs.Stored.{oxygenOf};
+ghost use Rattle.flows.specs.Stored.{oxygenOf};
 ghost use Rattle.report.specs.Record.{figuresIn};
 ghost use Rattle.text.specs.Text.{numbersOf};
 ghost use Rattle.text.specs.Held.{numberCount};
+use flows::head::STORED_ZERO_WIDE;
 use report::record::Line;
-use river::head::STORED_ZERO_WIDE;
 
 // The numbers in a line, with nitrification and without.
 pub const NUMBERS: usize = 12;

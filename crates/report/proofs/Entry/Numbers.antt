@@ -11,10 +11,10 @@ use Rattle.river.specs.declared.card.Card.{Card}
 use Rattle.river.specs.Refusal.{Answer, accepted, refused, refuse, need, choose, after}
 use Rattle.river.specs.Optional.{Kind, readOptional, readOptionals}
 use Rattle.river.specs.Read.{readHeader, readReach, readReaches, readRest, readFile}
-use Rattle.river.specs.Flow.{reachChecks, checksFrom, flowCheck}
+use Rattle.flows.specs.Flow.{reachChecks, checksFrom, flowCheck}
 use Rattle.report.specs.Mean.{meanRoomAnswer, meanAnswer}
 use Rattle.report.specs.Report.{roomAnswer, reportAnswer, resultOf}
-use Rattle.river.specs.Accept.{acceptFile}
+use Rattle.flows.specs.Accept.{acceptFile}
 use Rattle.river.specs.Rewrite.{rewriteAnswer}
 
 -- a refusal's number is from 1 to 255

@@ -9,8 +9,8 @@ use borrow.Author.Tests.{lt-ltb}
 use mir.Facts.{toZ-ofZ}
 use mir.Syntax.{w32, w64}
 use mir.Val.{SFits, toZ, ofZ}
-use Rattle.river.specs.Stored.{storedZero, oxygenOf}
-use Rattle.river.proofs.head.Offset.{sub-pos, sub-neg, minus}
+use Rattle.flows.specs.Stored.{storedZero, oxygenOf}
+use Rattle.flows.proofs.head.Offset.{sub-pos, sub-neg, minus}
 
 module _ (n : ℕ) (h : n < 4_294_967_296) where
   -- stored oxygen is less than 2^31 from zero

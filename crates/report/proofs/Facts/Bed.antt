@@ -17,9 +17,9 @@ use Rattle.decay.proofs.Accuracy.{accuracy}
 use Rattle.decay.proofs.Algebra.{quote, ring-by, certify, certify-over, number, _⋅_, _&_, none as no-equations, ≈-refl, ≈-sym, ≈-trans, +ᶠ-cong, *ᶠ-cong, ≼-of-≈, ≼-antisym, ofℕ-≈, ofℕ-sub, ofℕ-+, ofℕ-*, positive-whole, ÷-cancel-pos, ÷-reciprocal, ÷-nonneg, ÷-cong, floor-low, floor-high, Within, within-by, within-weaken, within→distance, distance→within}
 use Rattle.decay.specs.declared.factors.Factors.{Factors}
 use Rattle.river.specs.declared.card.Card.{Card}
-use Rattle.river.specs.Flow.{Feeders, sludgeOf, reachFlow}
+use Rattle.flows.specs.Flow.{Feeders, sludgeOf, reachFlow}
 use Rattle.river.specs.declared.source.Demand.the-variants.{Bod}
-use Rattle.river.proofs.flow.Take.{flow-remains}
+use Rattle.flows.proofs.flow.Take.{flow-remains}
 use Rattle.report.specs.Bed.{bedBy, bedOf, lossWith}
 use Rattle.report.specs.Program.{factorsAlong, lossAlong}
 use Rattle.report.specs.Recurrence.{exactLoss}

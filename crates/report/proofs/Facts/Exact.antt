@@ -11,8 +11,8 @@ use Rattle.river.specs.declared.card.Dam.the-variants.{Absent, Aerating}
 use Rattle.river.specs.declared.card.Card.{Card}
 use Rattle.river.specs.declared.source.Demand.{Demand}
 use Rattle.river.specs.declared.source.Source.{Source}
-use Rattle.river.specs.Flow.{Feeders, more, fed, flowOf}
-use Rattle.river.specs.Saturation.{saturation, saturationThousandths, pressureOf, saturationOf}
+use Rattle.flows.specs.Flow.{Feeders, more, fed, flowOf}
+use Rattle.flows.specs.Saturation.{saturation, saturationThousandths, pressureOf, saturationOf}
 use Rattle.report.specs.Recurrence.{exactSaturation, exactMean, exactAerated, exactBelowDam, exactMixedDemand, exactMixedOxygen, exactDemandSum, exactOxygenSum}
 use Rattle.report.proofs.Forest.{AllAccepted, no-more, one-more}
 use Rattle.report.proofs.Facts.Head.{feeders-flow, damPart}

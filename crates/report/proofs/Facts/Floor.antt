@@ -9,7 +9,7 @@ use lib.IntN.{ℤ, pos, negsuc, negℤ, _-ℤ_, _*ℤ_}
 use lib.Signed.{shrZ}
 use Rattle.decay.specs.Fraction.{Fraction, _≈_, _≼_, ofℕ, ofℤ, _+ᶠ_, _-ᶠ_, _*ᶠ_}
 use Rattle.decay.proofs.Algebra.{quote, certify, slack, number, _⊞_, ≈-refl, ≈-trans, +ᶠ-cong, ofℤ-+, ofℤ-neg, floor-times, floor-next}
-use Rattle.river.specs.Head.{floor}
+use Rattle.flows.specs.Head.{floor}
 
 -- a whole multiple is divided exactly
 below-multiple : (k n d : ℕ) → 0 < d → n * d + d ≡ k → floor (negℤ (pos k)) d ≡ negsuc n

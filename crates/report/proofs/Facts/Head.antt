@@ -14,12 +14,12 @@ use Rattle.river.specs.declared.card.Card.{Card}
 use Rattle.river.specs.declared.source.Demand.{Demand}
 use Rattle.river.specs.declared.source.Source.{Source}
 use Rattle.river.specs.Card.{LawfulDam}
-use Rattle.river.specs.Flow.{Feeders, more, fed, flowOf}
-use Rattle.river.proofs.flow.Take.{flow-remains}
+use Rattle.flows.specs.Flow.{Feeders, more, fed, flowOf}
+use Rattle.flows.proofs.flow.Take.{flow-remains}
 use Rattle.river.specs.Source.{sourceOf}
 use Rattle.river.proofs.source.Ranges.{source-inflow}
-use Rattle.river.specs.Saturation.{saturationOf}
-use Rattle.river.specs.Head.{floor, upstreamDemand, upstreamOxygen, aerated, belowDam, mixedDemand, mixedOxygen}
+use Rattle.flows.specs.Saturation.{saturationOf}
+use Rattle.flows.specs.Head.{floor, upstreamDemand, upstreamOxygen, aerated, belowDam, mixedDemand, mixedOxygen}
 use Rattle.report.specs.Program.{demandSum, oxygenSum}
 use Rattle.report.proofs.Facts.Floor.{Rounded, floor-rounded, ofℤ-sub}
 use Rattle.report.proofs.Forest.{AllAccepted, no-more, one-more}

@@ -10,7 +10,7 @@ use Rattle.decay.specs.Factors.{AreShares}
 use Rattle.decay.specs.declared.factors.Factors.{Factors}
 use Rattle.decay.proofs.fixed.Digits.{one-pos}
 use Rattle.decay.proofs.Algebra.{Nonneg, quote, slack, _⊞_, multiple, ≈-refl, ≈-sym, ≈-trans, ≼-trans, ≼-of-≈, ofℤ-*, +ᶠ-cong, *ᶠ-cong, positive-whole, certify-over, ÷-cancel-pos, none as no-equations, ofℕ-mono, ofℕ-+}
-use Rattle.river.specs.Head.{floor}
+use Rattle.flows.specs.Head.{floor}
 use Rattle.report.specs.Program.{oxygenWith}
 use Rattle.report.proofs.Facts.Head.{share-of}
 use Rattle.report.proofs.Facts.Floor.{floor-rounded, ofℤ-sub}

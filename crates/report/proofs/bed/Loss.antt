@@ -18,7 +18,7 @@ use Rattle.decay.proofs.step.Shares.{step-fills}
 use Rattle.decay.proofs.factors.Instants.{deficit-lost}
 use Rattle.decay.proofs.mean.Averages.{mean-deficit-lost}
 use Rattle.river.specs.declared.card.Card.{Card}
-use Rattle.river.specs.Flow.{sludgeOf}
+use Rattle.flows.specs.Flow.{sludgeOf}
 use Rattle.report.specs.Bed.{bedBy, bedOf, noBed, lossWith, BedPasses, lossLimit, LossInRange, BedInRange}
 use Rattle.report.specs.Mean.{middle}
 use Rattle.report.specs.declared.bed.Bed.{Bed}

@@ -14,9 +14,9 @@ use Rattle.river.specs.declared.card.Card.{Card}
 use Rattle.river.specs.declared.card.Dam.the-variants.{Absent}
 use Rattle.river.specs.declared.card.Nitrification.the-variants.{Idle}
 use Rattle.river.specs.declared.card.Amount.the-variants.{Without, Given}
-use Rattle.river.specs.Flow.{none, fed, flowOf, reachFlow}
-use Rattle.river.specs.Saturation.{saturation, saturationThousandths, saturationOf}
-use Rattle.river.specs.Head.{floor, upstreamDemand, upstreamOxygen, belowDam, headDemand, headOxygen}
+use Rattle.flows.specs.Flow.{none, fed, flowOf, reachFlow}
+use Rattle.flows.specs.Saturation.{saturation, saturationThousandths, saturationOf}
+use Rattle.flows.specs.Head.{floor, upstreamDemand, upstreamOxygen, belowDam, headDemand, headOxygen}
 use Rattle.report.specs.Bed.{bedBy, bedOf, lossWith}
 use Rattle.report.specs.Program.{oxygenWith, factorsAlong, partsAlong, lossAlong, turnedAlong, oxygenAlong, demandSum, oxygenSum, demandAtHead, oxygenAtHead, oxygenAt}
 use Rattle.report.specs.Recurrence.{exactSaturation, exactMean, exactBelowDam, exactMixedDemand, exactMixedOxygen, exactHeadDemand, exactHeadOxygen, exactLoss, exactTurnedAlong, exactOxygenAlong, exactDemandSum, exactOxygenSum, exactDemandAtHead, exactOxygenAtHead, exactOxygenAt}

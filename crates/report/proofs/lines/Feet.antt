@@ -16,23 +16,23 @@ use lib.Seq.{sets}
 use Rattle.decay.specs.Fraction.{_≼_, ofℕ, ofℤ, _+ᶠ_}
 use Rattle.decay.proofs.Algebra.{quote, certify, slack, number, _⊞_, multiple, ≈-trans, ofℤ-≈, ofℕ-reflect}
 use Rattle.river.specs.declared.card.Card.{Card}
-use Rattle.river.specs.declared.flow.FlowTable.{FlowTable}
-use Rattle.river.specs.declared.head.Brought.{Brought}
-use Rattle.river.specs.declared.head.FootTable.{FootTable}
-use Rattle.river.specs.declared.head.Head.{Head}
+use Rattle.flows.specs.declared.flow.FlowTable.{FlowTable}
+use Rattle.flows.specs.declared.head.Brought.{Brought}
+use Rattle.flows.specs.declared.head.FootTable.{FootTable}
+use Rattle.flows.specs.declared.head.Head.{Head}
 use Rattle.river.specs.declared.source.Demand.{Demand}
 use Rattle.river.specs.declared.source.Demand.the-variants.{Bod, Nitrogenous}
 use Rattle.river.specs.Card.{blank}
 use Rattle.river.specs.Source.{sourceOf}
-use Rattle.river.specs.Flow.{Feeders, flowLimit, takeOf, cardOf, above, feedersAmong, fed, flowOf, reachFlow, flowAt, massAt, depthAt}
-use Rattle.river.specs.FlowTable.{feederSum}
-use Rattle.river.specs.Head.{headDemand, headOxygen}
-use Rattle.river.specs.HeadTable.{noFeet, footOf, withFoot, HeadInput, HeadOf, FootWithin, HeadTabled}
-use Rattle.river.specs.Stored.{storedZero, oxygenOf, storedOf}
-use Rattle.river.proofs.head.Offset.{sub-pos, sub-neg, minus}
-use Rattle.river.proofs.flow.Table.{entered, Adds, TableOf, sum-of-feeders}
-use Rattle.river.proofs.head.Feet.{AddsFlowTimes, StoredTable, oxygen-of-feeders, foot-within, carried-none, carried-next}
-use Rattle.river.proofs.head.Heads.{fedBy, quBy, sumsBy, flow-bounded, fed-here, flow-asked, qu-here, head-input, head-within}
+use Rattle.flows.specs.Flow.{Feeders, flowLimit, takeOf, cardOf, above, feedersAmong, fed, flowOf, reachFlow, flowAt, massAt, depthAt}
+use Rattle.flows.specs.FlowTable.{feederSum}
+use Rattle.flows.specs.Head.{headDemand, headOxygen}
+use Rattle.flows.specs.HeadTable.{noFeet, footOf, withFoot, HeadInput, HeadOf, FootWithin, HeadTabled}
+use Rattle.flows.specs.Stored.{storedZero, oxygenOf, storedOf}
+use Rattle.flows.proofs.head.Offset.{sub-pos, sub-neg, minus}
+use Rattle.flows.proofs.flow.Table.{entered, Adds, TableOf, sum-of-feeders}
+use Rattle.flows.proofs.head.Feet.{AddsFlowTimes, StoredTable, oxygen-of-feeders, foot-within, carried-none, carried-next}
+use Rattle.flows.proofs.head.Heads.{fedBy, quBy, sumsBy, flow-bounded, fed-here, flow-asked, qu-here, head-input, head-within}
 use Rattle.report.specs.Bed.{lossLimit}
 use Rattle.report.specs.Program.{demandSum, oxygenSum, demandAtHead, oxygenAtHead, demandAt, oxygenAt, figuresBelow, figuresOf, figuresAt, foot}
 use Rattle.report.specs.Ties.{footFigure}

@@ -14,8 +14,8 @@ use Rattle.decay.proofs.step.Shares.{step-sound, step-loses-nothing}
 use Rattle.river.specs.declared.card.Card.{Card}
 use Rattle.river.specs.declared.source.Demand.the-variants.{Nitrogenous}
 use Rattle.river.specs.Source.{rateOf}
-use Rattle.river.specs.Saturation.{saturationOf, SaturationInRange}
-use Rattle.river.proofs.head.Bounds.{saturation-of-small}
+use Rattle.flows.specs.Saturation.{saturationOf, SaturationInRange}
+use Rattle.flows.proofs.head.Bounds.{saturation-of-small}
 use Rattle.report.specs.Bed.{bedOf, BedPasses, lossLimit, BedInRange}
 use Rattle.report.specs.Program.{unitParts, factorsAlong, partsAlong, demandAlong, turnedAlong, lossAlong, oxygenAlong, foot, figuresBelow}
 use Rattle.report.specs.Profile.{StartInRange, startParts, Profiled, oxygenAfter}
@@ -26,8 +26,8 @@ use Rattle.report.specs.declared.profile.Start.{Start}
 use Rattle.report.specs.declared.profile.Profile.{Profile}
 use Rattle.report.proofs.bed.Loss.{bed-in-range}
 use Rattle.report.proofs.Lowest.{lowest-first}
-use Rattle.river.specs.Stored.{oxygenOf}
-use Rattle.river.specs.HeadTable.{demandLimit}
+use Rattle.flows.specs.Stored.{oxygenOf}
+use Rattle.flows.specs.HeadTable.{demandLimit}
 
 -- the ranges of a start, and the shares of its steps
 pub start-range :

@@ -7,14 +7,14 @@ use Prim.Native.Nat.{ℕ, suc, _+_, _≤_, _<_}
 use native.Mathlib.Omega.{arith}
 use lib.ListN.{length, getD, set, replicate}
 use Rattle.river.specs.declared.card.Cards.{Cards}
-use Rattle.river.specs.declared.flow.FlowTable.{FlowTable}
-use Rattle.river.specs.declared.head.Brought.{Brought}
-use Rattle.river.specs.declared.head.FootTable.{FootTable}
+use Rattle.flows.specs.declared.flow.FlowTable.{FlowTable}
+use Rattle.flows.specs.declared.head.Brought.{Brought}
+use Rattle.flows.specs.declared.head.FootTable.{FootTable}
 use Rattle.river.specs.Card.{cardList, blank}
-use Rattle.river.specs.Flow.{above, flowAt}
-use Rattle.river.specs.HeadTable.{noFeet, withFoot, BroughtFits, FootWithin}
-use Rattle.river.proofs.flow.Count.{card-of-river}
-use Rattle.river.proofs.head.Heads.{sumsBy, sums-fit}
+use Rattle.flows.specs.Flow.{above, flowAt}
+use Rattle.flows.specs.HeadTable.{noFeet, withFoot, BroughtFits, FootWithin}
+use Rattle.flows.proofs.flow.Count.{card-of-river}
+use Rattle.flows.proofs.head.Heads.{sumsBy, sums-fit}
 use Rattle.report.specs.Status.{isUsed}
 use Rattle.report.specs.Program.{usedAbove, figuresAt}
 use Rattle.report.specs.Lines.{footBy, FeetOf, Ready, LineAt}

@@ -13,9 +13,9 @@ use lib.ListN.{length, getD, set, replicate, length-set, length-replicate, getD-
 use lib.Seq.{getD-set-same, getD-set-other}
 use borrow.Author.Tests.{eqb-true, eqb-false}
 use Rattle.river.specs.declared.card.Card.{Card}
-use Rattle.river.specs.declared.flow.FlowTable.{FlowTable}
+use Rattle.flows.specs.declared.flow.FlowTable.{FlowTable}
 use Rattle.river.specs.Card.{blank}
-use Rattle.river.specs.Flow.{Feeders, more, joinedIf, feedersAmong, cardOf, above}
+use Rattle.flows.specs.Flow.{Feeders, more, joinedIf, feedersAmong, cardOf, above}
 use Rattle.river.proofs.range.Ranges.{asked-at, last-outlet, later-outlet}
 use Rattle.report.specs.Status.{statusBy, isUsed, usedBy}
 use Rattle.report.specs.Program.{oxygenAt, criticalOxygen, usedAbove, figuresOf, figuresAt}

@@ -17,8 +17,8 @@ use Rattle.decay.proofs.mean.Averages.{demand-sums-begin, demand-sums-next, fac
 use Rattle.river.specs.declared.card.Card.{Card}
 use Rattle.river.specs.declared.source.Demand.the-variants.{Bod, Nitrogenous}
 use Rattle.river.specs.Source.{rateOf}
-use Rattle.river.specs.Flow.{Feeders, reachFlow}
-use Rattle.river.specs.Saturation.{saturationOf}
+use Rattle.flows.specs.Flow.{Feeders, reachFlow}
+use Rattle.flows.specs.Saturation.{saturationOf}
 use Rattle.report.specs.Bed.{bedOf, lossWith}
 use Rattle.report.specs.Program.{oxygenWith, unitParts, demandAtHead, oxygenAtHead}
 use Rattle.report.specs.Mean.{middle, factorsMean, turnedMean, meanAlong, meanOxygen}

@@ -21,13 +21,13 @@ use Rattle.decay.proofs.fixed.Digits.{share-below, shares-below, product-mono}
 use Rattle.decay.proofs.step.Shares.{step-sound}
 use Rattle.decay.proofs.factors.Instants.{range, demand-range, left-never-rises}
 use Rattle.river.specs.declared.card.Card.{Card}
-use Rattle.river.specs.declared.head.Head.{Head}
+use Rattle.flows.specs.declared.head.Head.{Head}
 use Rattle.river.specs.declared.source.Demand.{Demand}
 use Rattle.river.specs.declared.source.Demand.the-variants.{Bod, Nitrogenous}
 use Rattle.river.specs.Source.{rateOf}
-use Rattle.river.specs.Saturation.{saturationOf}
-use Rattle.river.specs.Stored.{storedZero, oxygenOf, Stores}
-use Rattle.river.proofs.head.Offset.{sub-pos, minus}
+use Rattle.flows.specs.Saturation.{saturationOf}
+use Rattle.flows.specs.Stored.{storedZero, oxygenOf, Stores}
+use Rattle.flows.proofs.head.Offset.{sub-pos, minus}
 use Rattle.report.specs.Bed.{bedOf, lossWith, lossLimit}
 use Rattle.report.specs.Program.{unitParts, oxygenWith, factorsAlong, partsAlong, demandAlong, turnedAlong, lossAlong, oxygenAlong, lowest}
 use Rattle.report.specs.Profile.{StartInRange}

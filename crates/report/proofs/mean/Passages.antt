@@ -21,9 +21,9 @@ use Rattle.decay.proofs.mean.Averages.{demand-sums-fit, factor-sums-fit, mean-d
 use Rattle.river.specs.declared.card.Card.{Card}
 use Rattle.river.specs.declared.source.Demand.the-variants.{Bod, Nitrogenous}
 use Rattle.river.specs.Source.{rateOf}
-use Rattle.river.specs.Saturation.{saturationOf}
-use Rattle.river.specs.declared.head.Head.{Head}
-use Rattle.river.specs.Stored.{oxygenOf}
+use Rattle.flows.specs.Saturation.{saturationOf}
+use Rattle.flows.specs.declared.head.Head.{Head}
+use Rattle.flows.specs.Stored.{oxygenOf}
 use Rattle.report.specs.Bed.{bedOf, LossInRange, lossWith}
 use Rattle.report.specs.Program.{unitParts, factorsAlong, partsAlong, demandAlong, turnedAlong, lossAlong, oxygenAlong}
 use Rattle.report.specs.Profile.{oxygenOver}

@@ -9,8 +9,8 @@ use lib.Dec.{ltb}
 use lib.IntN.{ℤ, pos, negsuc, negℤ, subℕ, _-ℤ_}
 use lib.Signed.{ltZ}
 use Rattle.decay.specs.Fixed.{one}
-use Rattle.river.specs.Head.{floor}
-use Rattle.river.proofs.head.Offset.{sub-pos, sub-neg, sub-eq, minus}
+use Rattle.flows.specs.Head.{floor}
+use Rattle.flows.proofs.head.Offset.{sub-pos, sub-neg, sub-eq, minus}
 
 neg-less : (n c : ℕ) → negsuc n -ℤ pos c ≡ negsuc (n + c)
 neg-less n zero = sub-neg 0 (suc n) (omega arith) ∙ ap negsuc (omega arith)

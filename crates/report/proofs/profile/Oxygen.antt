@@ -5,8 +5,8 @@ use Prim.Native.Nat.{ℕ, suc, _+_, _-_, _*_, _/_, _≤_, _<_}
 use native.Mathlib.Nat.{add-mul, div-le-of-le-mul}
 use native.Mathlib.Omega.{arith}
 use lib.IntN.{ℤ, pos, negℤ, negℤ-negℤ, _-ℤ_, _*ℤ_}
-use Rattle.river.specs.Head.{floor}
-use Rattle.river.proofs.head.Offset.{sub-pos, sub-neg, sub-eq, minus, sub-plus}
+use Rattle.flows.specs.Head.{floor}
+use Rattle.flows.proofs.head.Offset.{sub-pos, sub-neg, sub-eq, minus, sub-plus}
 use Rattle.decay.specs.Fixed.{one, product}
 use Rattle.decay.specs.Factors.{AreShares}
 use Rattle.decay.specs.declared.factors.DemandFactors.{DemandFactors}
@@ -18,7 +18,7 @@ use Rattle.report.specs.Profile.{StartInRange}
 use Rattle.report.specs.declared.profile.Start.{Start}
 use Rattle.report.proofs.bed.Loss.{less-nothing}
 use Rattle.report.proofs.profile.Offset.{sub-less, less-sub, floor-surplus}
-use Rattle.river.specs.Stored.{storedZero, oxygenOf, Stores}
+use Rattle.flows.specs.Stored.{storedZero, oxygenOf, Stores}
 
 -- what is left of a deficit, and of a surplus, rounded down
 floor-deficit : (k Cs c : ℕ) → c ≤ Cs + storedZero → floor (pos k *ℤ (pos Cs -ℤ oxygenOf c)) one ≡ pos (product k (Cs + storedZero - c))

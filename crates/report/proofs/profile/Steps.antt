@@ -27,7 +27,7 @@ use Rattle.report.specs.declared.profile.Profile.{Profile}
 use Rattle.report.proofs.bed.Loss.{head-loss, loss-in-range}
 use Rattle.report.proofs.profile.Offset.{sub-order}
 use Rattle.report.proofs.profile.Oxygen.{nothing-less, no-parts}
-use Rattle.river.specs.Stored.{storedZero, oxygenOf, Stores}
+use Rattle.flows.specs.Stored.{storedZero, oxygenOf, Stores}
 
 module _ (at : ℕ → ℤ) (m o w : ℕ) (here : Stores o (at (suc m))) (so-far : Stores w (lowest at m .oxygen)) where
   pub lower-here : o < w → lowest at (suc m) ≡ record { instant = suc m; oxygen = at (suc m) }

@@ -6,8 +6,8 @@ use lib.IntN.{ℤ, pos, negsuc, _+ℤ_}
 use mir.Syntax.{w32, w64}
 use mir.Val.{Fits, SFits, toZ, ofZ}
 use mir.Facts.{sfits-widen, sfits-toZ, fits-ofZ, toZ-ofZ}
-use Rattle.river.specs.Stored.{storedZero, oxygenOf, storedOf}
-use Rattle.river.proofs.head.Offset.{sub-pos, sub-neg}
+use Rattle.flows.specs.Stored.{storedZero, oxygenOf, storedOf}
+use Rattle.flows.proofs.head.Offset.{sub-pos, sub-neg}
 
 -- the sum, and what it stands for
 sum-is : (z : ℤ) → SFits w32 z → z +ℤ pos storedZero ≡ pos (storedOf z)

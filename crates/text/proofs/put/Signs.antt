@@ -3,8 +3,8 @@ use mathlib.Core.Path.{_≡_, ap, _∙_}
 use mathlib.Core.List.{_++_}
 use Prim.Native.Nat.{ℕ, _-_, _≤_, _<_}
 use native.Mathlib.Omega.{arith}
-use Rattle.river.specs.Stored.{storedZero, oxygenOf}
-use Rattle.river.proofs.head.Offset.{sub-neg, sub-pos}
+use Rattle.flows.specs.Stored.{storedZero, oxygenOf}
+use Rattle.flows.proofs.head.Offset.{sub-neg, sub-pos}
 use Rattle.text.specs.Text.{ascii, number, signed}
 
 pub below : (n : ℕ) → n < storedZero → signed (oxygenOf n) ≡ ascii "-" ++ number (storedZero - n)

@@ -5,9 +5,9 @@ use Prim.Native.Nat.{_+_}
 use native.Mathlib.Omega.{arith}
 use lib.ListN.{getD}
 use Rattle.river.specs.Card.{cardList, blank}
-use Rattle.river.proofs.flow.Count.{card-of-river}
-use Rattle.river.proofs.head.Heads.{sums-fit, flow-asked, head-input, head-within, flow-bounded}
-use Rattle.river.proofs.head.Feet.{foot-within}
+use Rattle.flows.proofs.flow.Count.{card-of-river}
+use Rattle.flows.proofs.head.Heads.{sums-fit, flow-asked, head-input, head-within, flow-bounded}
+use Rattle.flows.proofs.head.Feet.{foot-within}
 use Rattle.head_vectors.proofs.shown.reach.Statement.{statement}
 use Rattle.head_vectors.proofs.shown.reach.Tie as tie
 

@@ -3,7 +3,7 @@ use Prim.Native.Nat.{_*_, _≤_}
 use native.Mathlib.Omega.{arith}
 use borrow.Author.Needs.{needs}
 use borrow.Author.Tests.{eq-eqb, ne-eqb}
-use Rattle.river.specs.Flow.{bedLimit}
+use Rattle.flows.specs.Flow.{bedLimit}
 use Rattle.report.specs.Bed.{bedBy, bedOf}
 use Rattle.report.proofs.bed.bed_of.Statement.{statement}
 use Rattle.report.proofs.bed.bed_of.Tie as tie

@@ -10,12 +10,12 @@ use native.Mathlib.Omega.{arith}
 use lib.ListN.{length, getD, set}
 use borrow.Author.Needs.{needs}
 use Rattle.river.specs.declared.card.Cards.{Cards}
-use Rattle.river.specs.declared.flow.FlowTable.{FlowTable}
-use Rattle.river.specs.declared.head.Brought.{Brought}
-use Rattle.river.specs.declared.head.FootTable.{FootTable}
+use Rattle.flows.specs.declared.flow.FlowTable.{FlowTable}
+use Rattle.flows.specs.declared.head.Brought.{Brought}
+use Rattle.flows.specs.declared.head.FootTable.{FootTable}
 use Rattle.river.specs.Card.{cardList, blank}
-use Rattle.river.specs.HeadTable.{withFoot}
-use Rattle.river.proofs.head.Heads.{sumsBy}
+use Rattle.flows.specs.HeadTable.{withFoot}
+use Rattle.flows.proofs.head.Heads.{sumsBy}
 use Rattle.report.specs.Program.{reportedAt}
 use Rattle.report.specs.Record.{hasNitrification, recordBytes, recordSize}
 use Rattle.report.specs.Report.{recordOf, reportSize}

@@ -10,13 +10,13 @@ use native.Mathlib.Omega.{arith}
 use lib.ListN.{getD, set}
 use borrow.Author.Needs.{needs}
 use Rattle.river.specs.declared.card.Cards.{Cards}
-use Rattle.river.specs.declared.flow.FlowTable.{FlowTable}
-use Rattle.river.specs.declared.head.FootTable.{FootTable}
+use Rattle.flows.specs.declared.flow.FlowTable.{FlowTable}
+use Rattle.flows.specs.declared.head.FootTable.{FootTable}
 use Rattle.river.specs.Card.{cardList, blank}
-use Rattle.river.specs.Flow.{cardOf, above}
-use Rattle.river.specs.HeadTable.{withFoot}
-use Rattle.river.specs.Stored.{storedLimit}
-use Rattle.river.proofs.flow.Count.{card-of-river}
+use Rattle.flows.specs.Flow.{cardOf, above}
+use Rattle.flows.specs.HeadTable.{withFoot}
+use Rattle.flows.specs.Stored.{storedLimit}
+use Rattle.flows.proofs.flow.Count.{card-of-river}
 use Rattle.report.specs.Program.{usedAbove}
 use Rattle.report.specs.Mean.{countedVolumeAt}
 use Rattle.report.specs.MeanLines.{volumeLimit, weighedWith, Weighs, MeansTabled, RoomToWeigh, ReachAveraged}

@@ -4,7 +4,7 @@ use Prim.Native.Nat.{_*_, _+_, _/_, _%_, _≤_, _<_}
 use native.Mathlib.Nat.{mod-lt}
 use native.Mathlib.Omega.{arith}
 use borrow.Author.Needs.{needs}
-use Rattle.river.specs.Stored.{storedLimit}
+use Rattle.flows.specs.Stored.{storedLimit}
 use Rattle.report.specs.MeanLines.{chunk, wholeSum, Divisible}
 use Rattle.report.specs.declared.mean.Weights.{Weights}
 use Rattle.report.proofs.mean.Weighing.{long-quotient, long-remainder, quotient-fits}

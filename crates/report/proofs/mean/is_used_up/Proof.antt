@@ -5,8 +5,8 @@ use Prim.Native.Nat.{ℕ}
 use borrow.Author.Needs.{needs}
 use Rattle.decay.specs.Exact.{foot}
 use Rattle.river.specs.declared.card.Card.{Card}
-use Rattle.river.specs.declared.head.Head.{Head}
-use Rattle.river.specs.Stored.{oxygenOf}
+use Rattle.flows.specs.declared.head.Head.{Head}
+use Rattle.flows.specs.Stored.{oxygenOf}
 use Rattle.report.specs.Record.{Figures}
 use Rattle.report.specs.Status.{statusBy, isUsed}
 use Rattle.report.specs.Lines.{LineReady, HeadFits}

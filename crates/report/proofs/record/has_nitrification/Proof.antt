@@ -7,7 +7,7 @@ use lib.ListN.{length, getD, drop}
 use borrow.Author.Needs.{needs}
 use Rattle.river.specs.declared.card.Cards.{Cards}
 use Rattle.river.specs.Card.{cardList, blank}
-use Rattle.river.proofs.flow.Count.{card-of-river}
+use Rattle.flows.proofs.flow.Count.{card-of-river}
 use Rattle.report.specs.Record.{isNitrified, hasNitrification}
 use Rattle.report.proofs.record.Nitrified.{found, goes-on, nowhere}
 use Rattle.report.proofs.record.has_nitrification.Statement.{statement}

@@ -1,6 +1,6 @@
 -- `text::line::plain` meets its contract. Assumes nothing.
 use borrow.Author.Needs.{needs}
-use Rattle.river.proofs.head.Stored.{saturated-stored}
+use Rattle.flows.proofs.head.Stored.{saturated-stored}
 use Rattle.text.proofs.line.plain.Statement.{statement}
 use Rattle.text.proofs.line.plain.Tie as tie
 

@@ -1,0 +1,4 @@
+-- What serves all of the crate, and its theorems. The laws of a module of src/ stand in the room of its name beside this file.
+pub mod Orders
+pub mod Acceptance
+pub mod Bench

@@ -1,0 +1,23 @@
+-- `river::head::foot_of` meets its contract: the products fit.
+use borrow.Author.Needs.{needs}
+use Prim.Native.Nat.{_≤_}
+use native.Mathlib.Nat.{mul-le-mul}
+use native.Mathlib.Omega.{arith}
+use Rattle.flows.specs.Stored.{storedLimit}
+use Rattle.flows.proofs.head.foot_of.Statement.{statement}
+use Rattle.flows.proofs.head.foot_of.Tie as tie
+
+mul-t6 : tie.Need-mul-t6
+mul-t6 c = let b : c .args .bod ≤ storedLimit = omega arith in omega (arith, mul-le-mul (c .pre) b)
+
+mul-t8 : tie.Need-mul-t8
+mul-t8 c = let n : c .args .nitrogenous ≤ storedLimit = omega arith in omega (arith, mul-le-mul (c .pre) n)
+
+mul-t10 : tie.Need-mul-t10
+mul-t10 c = let o : c .args .oxygen ≤ storedLimit = omega arith in omega (arith, mul-le-mul (c .pre) o)
+
+returns : tie.Need-returns
+returns c = search needs
+
+pub foot-of-spec : {M : Type 1} → statement M
+foot-of-spec = tie.close (tie.spec mul-t6 mul-t8 mul-t10 returns)

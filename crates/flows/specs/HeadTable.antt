@@ -1,0 +1,131 @@
+-- The tables that the program keeps of the reaches' feet, and what the head of a reach needs and promises. Nothing here has to be believed
+-- of the paper: laws tie the tables to its definitions.
+use mathlib.Core.Path.{_≡_}
+use mathlib.Core.Bool.{Bool, true}
+use mathlib.Core.List.{List}
+use Prim.Native.Nat.{ℕ, suc, _+_, _*_, _<_, _≤_, _^_}
+use lib.ListN.{length, getD, set, replicate}
+use Rattle.river.specs.declared.card.Dam.{Dam}
+use Rattle.river.specs.declared.card.Dam.the-variants.{Absent, Aerating}
+use Rattle.river.specs.declared.card.Card.{Card}
+use Rattle.river.specs.declared.source.Demand.the-variants.{Bod, Nitrogenous}
+use Rattle.river.specs.declared.source.Source.{Source}
+use Rattle.flows.specs.declared.flow.FlowTable.{FlowTable}
+use Rattle.flows.specs.declared.head.Brought.{Brought}
+use Rattle.flows.specs.declared.head.FootTable.{FootTable}
+use Rattle.flows.specs.declared.head.Head.{Head}
+use Rattle.river.specs.Card.{FieldsInRange, Lawful}
+use Rattle.flows.specs.Saturation.{SaturationInRange}
+use Rattle.river.specs.Source.{sourceOf, sourceMass}
+use Rattle.flows.specs.Flow.{flowLimit, massLimit, Flows, ownMass, flowAt, massAt}
+use Rattle.flows.specs.Head.{headDemand, headOxygen}
+use Rattle.flows.specs.FlowTable.{feederSum, Tabled}
+use Rattle.flows.specs.Stored.{storedLimit, oxygenOf, oxygenSumOf}
+
+-- a dam's share is at most 1,000, and its generating flow at most Qu
+abbrev pub DamWithin : Dam → (Qu : ℕ) → Type 0
+DamWithin Absent Qu = Unit
+DamWithin (Aerating share generating) Qu = (share ≤ 1_000) × (generating ≤ Qu)
+
+-- a part of a whole that is small enough for a product with 16 bits
+pub record PartOf (part whole : ℕ) : Type 0 where
+  pub some : 0 < whole
+  pub within : part ≤ whole
+  pub fits : whole ≤ 1_000 * flowLimit
+
+-- what an accepted river ensures of the water at the head of a reach, before its take: of its inflow, of whether it has feeders, and of Qu
+pub record HeadFlows (inflow : ℕ) (fed : Bool) (Qu : ℕ) : Type 0 where
+  pub flowing : 0 < Qu + inflow
+  pub bounded : Qu + inflow ≤ flowLimit
+  pub feeders-flow : fed ≡ true → 0 < Qu
+
+-- what it ensures of the reach's card too
+pub record HeadReady (card : Card) (fed : Bool) (Qu : ℕ) : Type 0 where
+  pub fields : FieldsInRange card
+  pub saturation : SaturationInRange card
+  pub dam : DamWithin (card .dam) Qu
+  pub flows : HeadFlows (card .inflow) fed Qu
+
+-- the most units of a demand at a head
+abbrev pub demandLimit : ℕ
+demandLimit = 1_000 * massLimit
+
+-- what it ensures of a demand there: what the feeders' feet and the source bring is at most the limit for each unit of flow
+pub record DemandReady (source : Source) (fed : Bool) (Qu sum : ℕ) : Type 0 where
+  pub flows : HeadFlows (source .inflow) fed Qu
+  pub within : sum + 1_000 * sourceMass source ≤ demandLimit * (Qu + source .inflow)
+
+-- what it ensures of oxygen there: each stored foot value fits four bytes
+pub record OxygenReady (card : Card) (fed : Bool) (Qu sum : ℕ) : Type 0 where
+  pub ready : HeadReady card fed Qu
+  pub within : sum ≤ storedLimit * Qu
+
+-- tables of no feet
+abbrev pub noFeet : FootTable
+noFeet = record { bod = replicate 128 0; nitrogenous = replicate 128 0; oxygen = replicate 128 0 }
+
+-- what a foot brings: flow × each demand and flow × stored oxygen
+abbrev pub footOf : (flow bod nitrogenous oxygen : ℕ) → Brought
+footOf flow bod nitrogenous oxygen = record { bod = flow * bod; nitrogenous = flow * nitrogenous; oxygen = flow * oxygen }
+
+-- tables with the foot of reach i + 1 entered
+abbrev pub withFoot : FootTable → ℕ → Brought → FootTable
+withFoot feet i foot =
+    record {
+      bod = set (feet .bod) i (foot .bod);
+      nitrogenous = set (feet .nitrogenous) i (foot .nitrogenous);
+      oxygen = set (feet .oxygen) i (foot .oxygen);
+    }
+
+-- what the feeders of reach i + 1 bring, by tables of outlets and of what each foot brings
+abbrev pub broughtTo : (outlets of-bod of-nitrogenous of-oxygen : List ℕ) (i : ℕ) → Brought
+broughtTo outlets of-bod of-nitrogenous of-oxygen i =
+    record {
+      bod = feederSum outlets of-bod i;
+      nitrogenous = feederSum outlets of-nitrogenous i;
+      oxygen = feederSum outlets of-oxygen i;
+    }
+
+-- what these sums need: they fit eight bytes
+pub record BroughtFits (outlets of-bod of-nitrogenous of-oxygen : List ℕ) (i : ℕ) : Type 0 where
+  pub few : i < 128
+  pub bod : feederSum outlets of-bod i < 2 ^ 64
+  pub nitrogenous : feederSum outlets of-nitrogenous i < 2 ^ 64
+  pub oxygen : feederSum outlets of-oxygen i < 2 ^ 64
+
+-- what the head of a reach needs, by its card, whether it has feeders, Qu, and what the feeders bring
+pub record HeadInput (card : Card) (fed : Bool) (Qu : ℕ) (sums : Brought) : Type 0 where
+  pub ready : HeadReady card fed Qu
+  pub demands : sums .bod + sums .nitrogenous + 1_000 * ownMass card ≤ demandLimit * (Qu + card .inflow)
+  pub oxygen : sums .oxygen ≤ storedLimit * Qu
+
+-- the head: each demand, and oxygen
+pub record HeadOf (card : Card) (fed : Bool) (Qu : ℕ) (sums : Brought) (r : Head) : Type 0 where
+  pub bod : r .bod ≡ headDemand (sourceOf Bod card) fed Qu (sums .bod)
+  pub nitrogenous : r .nitrogenous ≡ headDemand (sourceOf Nitrogenous card) fed Qu (sums .nitrogenous)
+  pub oxygen : oxygenOf (r .oxygen) ≡ headOxygen card fed Qu (oxygenSumOf Qu (sums .oxygen))
+
+-- the bounds that the foot of reach i + 1 has: flow × both demands is at most 1,000 × M, and stored oxygen fits four bytes
+pub record FootWithin (cards : List Card) (i : ℕ) (foot : Brought) : Type 0 where
+  pub demands : foot .bod + foot .nitrogenous ≤ 1_000 * massAt cards (suc i)
+  pub oxygen : foot .oxygen ≤ storedLimit * flowAt cards (suc i)
+
+-- tables of 128 feet
+pub record FullFeet (feet : FootTable) : Type 0 where
+  pub bod : length (feet .bod) ≡ 128
+  pub nitrogenous : length (feet .nitrogenous) ≡ 128
+  pub oxygen : length (feet .oxygen) ≡ 128
+
+-- tables of what the feet of the first n reaches bring, in these bounds
+pub record Carried (cards : List Card) (feet : FootTable) (n : ℕ) : Type 0 where
+  pub full : FullFeet feet
+  pub demands : (j : ℕ) → j < n → getD (feet .bod) j 0 + getD (feet .nitrogenous) j 0 ≤ 1_000 * massAt cards (suc j)
+  pub oxygen : (j : ℕ) → j < n → getD (feet .oxygen) j 0 ≤ storedLimit * flowAt cards (suc j)
+
+-- the tables before the head of reach i + 1: an accepted river, its flows and the feet of the reaches before
+pub record HeadTabled (cards : List Card) (flows : FlowTable) (feet : FootTable) (i : ℕ) : Type 0 where
+  pub lawful : Lawful cards
+  pub sound : Flows cards
+  pub within : i < length cards
+  pub tabled : Tabled cards (length cards) flows
+  pub carried : Carried cards feet i

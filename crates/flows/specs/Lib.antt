@@ -1,0 +1,8 @@
+pub mod Rates
+pub mod Flow
+pub mod Saturation
+pub mod Head
+pub mod Accept
+pub mod Stored
+pub mod FlowTable
+pub mod HeadTable
