@@ -17,9 +17,9 @@ use lib.Dec.{lit≤}
 use lib.Signed.{leZ-yes}
 use Rattle.decay.specs.Fraction.{Fraction, ofℕ, ofℤ, over, _+ᶠ_, _*ᶠ_, _÷_, _≈_, _≼_, distance}
 use Rattle.decay.specs.Exact.{exponent, S, F}
-use Rattle.decay.specs.Step.{RatesPass, stepOf}
-use Rattle.decay.specs.Factors.{demandFrom, demandIn, headFactors, factorsAt}
-use Rattle.decay.specs.Promise.{share, factorsOf, bodDistance, deficitDistance, Accurate, demandDistance, DemandAccurate}
+use Rattle.decay.specs.held.Step.{RatesPass, stepOf}
+use Rattle.decay.specs.held.Factors.{demandFrom, demandIn, headFactors, factorsAt}
+use Rattle.decay.specs.held.Promise.{share, factorsOf, bodDistance, deficitDistance, Accurate, demandDistance, DemandAccurate}
 use Rattle.decay.specs.Fixed.{one}
 use Rattle.decay.specs.declared.factors.DemandFactors.{DemandFactors}
 use Rattle.decay.specs.declared.factors.Factors.{Factors}

@@ -2,9 +2,10 @@
 use mathlib.Core.Path.{_≡_, refl}
 use lib.Dec.{lit≤}
 use Rattle.decay.specs.Fixed.{product, quotient}
-use Rattle.decay.specs.Step.{RatesPass, exponentOf, termOf, nextTerms, termsAt, termAt, withTerm, sumOf, countFrom, seriesOf, stepOf}
-use Rattle.decay.specs.Factors.{headFactors, nextFactors, factorsAt}
-use Rattle.decay.specs.Promise.{factorsOf, Accurate}
+use Rattle.decay.specs.held.Step.{RatesPass, exponentOf, stepOf}
+use Rattle.decay.specs.Series.{termOf, nextTerms, termsAt, termAt, withTerm, sumOf, countFrom, seriesOf}
+use Rattle.decay.specs.held.Factors.{headFactors, nextFactors, factorsAt}
+use Rattle.decay.specs.held.Promise.{factorsOf, Accurate}
 use Rattle.decay.proofs.Accuracy.{accuracy}
 
 passed : RatesPass 1000 1000 864000 10000

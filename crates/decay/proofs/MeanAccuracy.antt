@@ -10,10 +10,10 @@ use Rattle.decay.specs.Fraction.{Fraction, ofℕ, ofℤ, over, _+ᶠ_, _
 use Rattle.decay.specs.Exact.{foot, exponent, sum, S, F}
 use Rattle.decay.specs.Integral.{meanS, meanF}
 use Rattle.decay.specs.Fixed.{one}
-use Rattle.decay.specs.Step.{RatesPass, stepOf, meanStepOf}
-use Rattle.decay.specs.Factors.{demandFrom, factorsAt}
-use Rattle.decay.specs.Mean.{sumTo, averageDemand, averageFactors, meanDemand, meanDemandOf, meanFactors, meanFactorsOf}
-use Rattle.decay.specs.Promise.{share, bodDistance, demandDistance, deficitDistance, MeanDemandAccurate, MeanAccurate}
+use Rattle.decay.specs.held.Step.{RatesPass, stepOf, meanStepOf}
+use Rattle.decay.specs.held.Factors.{demandFrom, factorsAt}
+use Rattle.decay.specs.held.Mean.{sumTo, averageDemand, averageFactors, meanDemand, meanDemandOf, meanFactors, meanFactorsOf}
+use Rattle.decay.specs.held.Promise.{share, bodDistance, demandDistance, deficitDistance, MeanDemandAccurate, MeanAccurate}
 use Rattle.decay.specs.declared.factors.DemandFactors.{DemandFactors}
 use Rattle.decay.proofs.Algebra.{≈-refl, ≈-sym, ring, ring-by, _⋅_, _&_, none, quote, ≼-trans, ≼-of-≈, slack, number, _⊞_, _⊠_, multiple, certify, certify-by, certify-times, positive-whole, ÷-cancel-pos, ÷-reciprocal, ÷-nonneg, Within, within-of-≈, within-weaken, within-by, within-sum, within→distance}
 use Rattle.decay.proofs.step.Shares.{step-sound}

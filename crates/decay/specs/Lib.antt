@@ -2,7 +2,5 @@ pub mod Fraction
 pub mod Exact
 pub mod Integral
 pub mod Fixed
-pub mod Step
-pub mod Factors
-pub mod Mean
-pub mod Promise
+pub mod held
+pub mod Series

@@ -4,7 +4,7 @@ use crate::step::Step;
 ghost use mathlib.Core.Path.{_≡_};
 ghost use Prim.Native.Nat.{_+_, _≤_};
 ghost use Rattle.decay.specs.Fixed.{one};
-ghost use Rattle.decay.specs.Factors.{SoundStep, AreShares, nextDemand, headFactors, nextFactors};
+ghost use Rattle.decay.specs.held.Factors.{SoundStep, AreShares, nextDemand, headFactors, nextFactors};
 
 // The instant of the foot: a reach is 1,024 steps.
 pub const FOOT: u64 = 1_024;

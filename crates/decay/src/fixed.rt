@@ -1,7 +1,8 @@
 // Fixed-point numbers: a share of one is a whole number of parts of 2^-44.
 ghost use mathlib.Core.Path.{_≡_};
 ghost use Prim.Native.Nat.{_≤_, _<_};
-ghost use Rattle.decay.specs.Fixed.{one, small, large, product, quotient, chunked};
+ghost use Rattle.decay.specs.Fixed.{one, product, quotient};
+ghost use Rattle.decay.specs.held.Digits.{small, large, chunked};
 
 // The whole, 2^44.
 pub const ONE: u64 = 17_592_186_044_416;

@@ -8,8 +8,8 @@ ghost use mathlib.Core.Path.{_≡_};
 ghost use Prim.Native.Nat.{_/_, _≤_};
 ghost use Rattle.decay.specs.Exact.{foot};
 ghost use Rattle.decay.specs.Fixed.{one};
-ghost use Rattle.decay.specs.Factors.{SoundStep, nextDemand, nextFactors};
-ghost use Rattle.decay.specs.Mean.{nextDemandSums, nextFactorSums, DemandSummed, FactorsSummed, DemandSumsFit, FactorSumsFit};
+ghost use Rattle.decay.specs.held.Factors.{SoundStep, nextDemand, nextFactors};
+ghost use Rattle.decay.specs.held.Mean.{nextDemandSums, nextFactorSums, DemandSummed, FactorsSummed, DemandSumsFit, FactorSumsFit};
 
 // A demand that has come to an instant, and the sums of what was left of it and what had turned at the instants before.
 pub struct DemandSums {

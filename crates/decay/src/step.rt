@@ -2,8 +2,9 @@
 use crate::fixed;
 ghost use mathlib.Core.Path.{_≡_};
 ghost use Prim.Native.Nat.{_+_, _*_, _≤_, _<_};
-ghost use Rattle.decay.specs.Fixed.{small};
-ghost use Rattle.decay.specs.Step.{RatesPass, exponentOf, termOf, nextTerms, withTerm, SumsExactly, stepOf, mostTerms, meanSumOf, meanStepOf};
+ghost use Rattle.decay.specs.held.Digits.{small};
+ghost use Rattle.decay.specs.held.Step.{RatesPass, exponentOf, stepOf, meanSumOf, meanStepOf};
+ghost use Rattle.decay.specs.Series.{termOf, nextTerms, withTerm, SumsExactly, mostTerms};
 
 // BOD lost, BOD used (turned to deficit and not yet filled) and deficit filled in one step, as shares of one.
 pub struct Step {

@@ -3,8 +3,8 @@
 // flow, and exponents just below and at each place where a count of terms changes.
 use decay::factors::Factors;
 use decay::step::Step;
-ghost use Rattle.decay.specs.Step.{RatesPass};
-ghost use Rattle.decay.specs.Factors.{SoundStep, AreShares};
+ghost use Rattle.decay.specs.held.Step.{RatesPass};
+ghost use Rattle.decay.specs.held.Factors.{SoundStep, AreShares};
 
 // A label and three numbers on a line.
 fn line(label: &[u8], a: u64, b: u64, c: u64) {

@@ -24,14 +24,15 @@ use Rattle.river.specs.Read.{readFile}
 use Rattle.river.specs.River.{LawfulRiver}
 use Rattle.flows.specs.Rates.{inForce}
 use Rattle.flows.specs.Flow.{above, feedersAmong, joinedIf, Flows, flowCheck}
-use Rattle.flows.specs.Accept.{Accepts, AcceptedFile, acceptFile}
+use Rattle.flows.specs.Accept.{AcceptedFile, acceptFile}
+use Rattle.flows.specs.held.Accepts.{Accepts}
 use Rattle.river.proofs.Answers.{no-refusal, after-accepted, after-refused, went}
 use Rattle.river.proofs.Files.{reads-lawful, reads-only-lawful}
 use Rattle.river.proofs.range.Ranges.{asked-at, last-outlet, later-outlet}
 use Rattle.flows.proofs.rates.InForce.{regular-in-force, regular-of-lawful, lawful-of-flows}
 use Rattle.flows.proofs.flow.Checks.{first-tabled}
 use Rattle.flows.proofs.flow.FlowCheck.{flows-of-accepted, accepted-of-flows}
-use Rattle.flows.specs.FlowTable.{Underway, FlowChecked}
+use Rattle.flows.specs.held.FlowTable.{Underway, FlowChecked}
 use Rattle.river.specs.File.{riverRead, Reads}
 
 accepts-only : (file : List ℕ) (cards : List Card) → AreBytes file → acceptFile file ≡ accepted cards → AcceptedFile file cards

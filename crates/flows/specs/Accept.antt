@@ -2,16 +2,11 @@
 use mathlib.Core.Path.{_≡_}
 use mathlib.Core.List.{List}
 use Prim.Native.Nat.{ℕ}
-use lib.ListN.{length}
-use Rattle.river.specs.declared.refusal.Outcome.{Outcome}
-use Rattle.flows.specs.declared.accept.Acceptance.{Acceptance}
 use Rattle.river.specs.declared.card.Card.{Card}
-use Rattle.river.specs.Card.{Lawful, cardList}
 use Rattle.river.specs.River.{River, LawfulRiver}
 use Rattle.flows.specs.Rates.{inForce}
 use Rattle.flows.specs.Flow.{Flows, flowCheck}
-use Rattle.flows.specs.FlowTable.{Tabled}
-use Rattle.river.specs.Refusal.{outcomeOf, Answer, after}
+use Rattle.river.specs.Refusal.{Answer, after}
 use Rattle.river.specs.Read.{readFile}
 use Rattle.river.specs.Write.{encode}
 
@@ -26,11 +21,3 @@ pub record AcceptedFile (file : List ℕ) (cards : List Card) : Type 0 where
   pub lawful : LawfulRiver river
   pub in-force : cards ≡ inForce river
   pub flows : Flows cards
-
--- the answer of reading and flow check; the cards of an accepted river are lawful, too, with the rates in force, and pass the flow rules, and
--- the tables are theirs
-pub record Accepts (file : List ℕ) (r : Acceptance) : Type 0 where
-  pub answer : outcomeOf (r .outcome) (cardList (r .cards)) ≡ acceptFile file
-  pub lawful : r .outcome ≡ Outcome.Accepted → Lawful (cardList (r .cards))
-  pub sound : r .outcome ≡ Outcome.Accepted → Flows (cardList (r .cards))
-  pub tabled : r .outcome ≡ Outcome.Accepted → Tabled (cardList (r .cards)) (length (cardList (r .cards))) (r .flows)

@@ -3,6 +3,4 @@ pub mod Flow
 pub mod Saturation
 pub mod Head
 pub mod Accept
-pub mod Stored
-pub mod FlowTable
-pub mod HeadTable
+pub mod held

@@ -1,5 +1,5 @@
 // Acceptance of a river file: reading, then the flow check of its cards with the rates in force.
-ghost use Rattle.flows.specs.Accept.{Accepts};
+ghost use Rattle.flows.specs.held.Accepts.{Accepts};
 use crate::flow::FlowTable;
 use crate::flow::flow_check;
 use crate::flow::no_flows;

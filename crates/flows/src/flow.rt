@@ -6,7 +6,7 @@ ghost use lib.ListN.{length};
 ghost use Rattle.river.specs.Card.{Regular, cardList};
 ghost use Rattle.river.specs.Source.{SourcesInRange};
 ghost use Rattle.flows.specs.Flow.{flowLimit, takeOf, sludgeOf, ownMass, remainingMass, damFits, rateFits, flowRules, loadRule, takeRule, rangeRule, rateRules, bedRule, checksOf};
-ghost use Rattle.flows.specs.FlowTable.{Decides, tableSum, tableMax, SumsFit, upstreamOf, noFlows, Underway, CheckAt, NextBy, FlowChecked};
+ghost use Rattle.flows.specs.held.FlowTable.{Decides, tableSum, tableMax, SumsFit, upstreamOf, noFlows, Underway, CheckAt, NextBy, FlowChecked};
 use river::card::Card;
 use river::card::Cards;
 use river::card::Dam;

@@ -12,9 +12,9 @@ use lib.Dec.{lit<}
 use lib.IntN.{pos, _-ℤ_, _*ℤ_}
 use Rattle.decay.specs.Fraction.{Fraction, _≈_, _≼_, ofℕ, ofℤ, over, _+ᶠ_, -ᶠ_, _-ᶠ_, _*ᶠ_, _÷_, distance}
 use Rattle.decay.specs.Exact.{exponent, S, F}
-use Rattle.decay.specs.Promise.{share, factorsOf, bodDistance, deficitDistance, demandDistance}
+use Rattle.decay.specs.held.Promise.{share, factorsOf, bodDistance, deficitDistance, demandDistance}
 use Rattle.decay.specs.Fixed.{one, product}
-use Rattle.decay.specs.Factors.{AreShares}
+use Rattle.decay.specs.held.Factors.{AreShares}
 use Rattle.decay.specs.declared.factors.DemandFactors.{DemandFactors}
 use Rattle.decay.specs.declared.factors.Factors.{Factors}
 use Rattle.decay.proofs.fixed.Digits.{one-pos}
@@ -29,10 +29,12 @@ use Rattle.river.specs.declared.source.Demand.the-variants.{Bod, Nitrogenous}
 use Rattle.river.specs.Source.{sourceOf, rateOf}
 use Rattle.flows.specs.Head.{upstreamDemand, upstreamOxygen, belowDam, headDemand, headOxygen}
 use Rattle.flows.proofs.head.Bounds.{saturation-of-small}
-use Rattle.report.specs.Bed.{bedOf}
-use Rattle.report.specs.Program.{demandSum, oxygenSum, demandAtHead, oxygenAtHead, demandAt, oxygenAt, demandAlong, turnedAlong, lossAlong, oxygenAlong, oxygenWith, unitParts, factorsAlong, partsAlong, foot}
+use Rattle.report.specs.held.Bed.{bedOf}
+use Rattle.report.specs.Program.{demandSum, oxygenSum, demandAtHead, oxygenAtHead, demandAt, oxygenAt, foot}
+use Rattle.report.specs.held.Along.{demandAlong, turnedAlong, lossAlong, oxygenAlong, oxygenWith, unitParts, factorsAlong, partsAlong}
 use Rattle.report.specs.Recurrence.{exactSaturation, exactMean, exactBelowDam, exactHeadDemand, exactHeadOxygen, exactDemandSum, exactOxygenSum, exactDemandAtHead, exactOxygenAtHead, exactDemandAlong, exactTurnedAlong, exactOxygenAlong, exactDemandAt, exactOxygenAt}
-use Rattle.report.specs.Distance.{meanAllowance, allowanceSum, broughtAllowance, waterAllowance, lossDistance}
+use Rattle.report.specs.held.Water.{meanAllowance, allowanceSum, broughtAllowance, waterAllowance}
+use Rattle.report.specs.held.Loss.{lossDistance}
 use Rattle.report.proofs.Forest.{AcceptedReach, AllAccepted, no-more, one-more, rates-pass}
 use Rattle.report.proofs.Ties.{reach-step-sound}
 use Rattle.report.proofs.Facts.Head.{source-flow, damPart, demand-mean, oxygen-mean, below-dam, demand-mixed, oxygen-mixed}

@@ -12,8 +12,8 @@ use lib.IntN.{ℤ, pos, negsuc, _-ℤ_, _*ℤ_}
 use lib.Signed.{_≤ℤ_}
 use Rattle.decay.specs.Fraction.{Fraction, _≈_, _≼_, ofℕ, ofℤ, _+ᶠ_, -ᶠ_, _-ᶠ_, _*ᶠ_}
 use Rattle.decay.specs.Fixed.{product}
-use Rattle.decay.specs.Factors.{AreShares}
-use Rattle.decay.specs.Promise.{share}
+use Rattle.decay.specs.held.Factors.{AreShares}
+use Rattle.decay.specs.held.Promise.{share}
 use Rattle.decay.specs.declared.factors.Factors.{Factors}
 use Rattle.decay.proofs.Algebra.{Nonneg, quote, slack, number, _⊞_, _⊠_, multiple, certify, ring-by, _⋅_, _&_, ofℕ-≈, ≈-refl, ≈-sym, ≈-trans, ≼-trans, ≼-of-≈, ≼-by, ≼-refl, +ᶠ-cong, *ᶠ-cong, ofℤ-+, ofℤ-*, Positive, positive-whole, certify-over, none as no-equations, ofℕ-reflect, ofℤ-reflect, ofℕ-mono, ofℕ-+, ofℕ-*}
 use Rattle.river.specs.declared.card.Card.{Card}
@@ -26,9 +26,11 @@ use Rattle.river.specs.Source.{sourceOf, sourceMass}
 use Rattle.flows.specs.Head.{upstreamDemand, upstreamOxygen, belowDam, headDemand, headOxygen}
 use Rattle.flows.proofs.flow.Take.{flow-remains, mass-within, mass-scaled}
 use Rattle.flows.proofs.head.Bounds.{saturation-of-small, upstream-kept}
-use Rattle.report.specs.Bed.{bedOf, lossWith, lossLimit}
-use Rattle.report.specs.Program.{oxygenWith, demandSum, oxygenSum, demandAtHead, oxygenAtHead, demandAt, oxygenAt, turnedAlong, lossAlong, oxygenAlong, factorsAlong, foot}
-use Rattle.report.specs.Mean.{middle, factorsMean, turnedMean, meanAlong, meanOxygen}
+use Rattle.report.specs.held.Bed.{bedOf, lossWith, lossLimit}
+use Rattle.report.specs.Program.{demandSum, oxygenSum, demandAtHead, oxygenAtHead, demandAt, oxygenAt, foot}
+use Rattle.report.specs.held.Along.{oxygenWith, turnedAlong, lossAlong, oxygenAlong, factorsAlong}
+use Rattle.report.specs.Mean.{meanOxygen}
+use Rattle.report.specs.held.MeanAlong.{middle, factorsMean, turnedMean, meanAlong}
 use Rattle.report.proofs.Facts.Floor.{Rounded}
 use Rattle.report.proofs.Forest.{AcceptedReach, AllAccepted, no-more, one-more}
 use Rattle.report.proofs.Ties.{factors-range, mean-factors-range, loss-small, mean-loss-range, parts-within, mean-turned-within}

@@ -16,7 +16,8 @@ use Rattle.river.specs.Card.{Lawful}
 use Rattle.flows.specs.Flow.{Feeders, cardOf, above, reachDepth, Flows}
 use Rattle.report.specs.Program.{lowest, demandAt, oxygenAt, figuresOf, figuresAt, foot}
 use Rattle.report.specs.Recurrence.{exactOxygenAt}
-use Rattle.report.specs.Distance.{hasBed, stepUnits, allowanceAt, OxygenWithin, broughtAllowance, waterAllowance}
+use Rattle.report.specs.Distance.{hasBed, stepUnits, allowanceAt, OxygenWithin}
+use Rattle.report.specs.held.Water.{broughtAllowance, waterAllowance}
 use Rattle.report.specs.Record.{hasNitrification, Figures}
 use Rattle.report.proofs.Refutations
 use Rattle.report.proofs.UnitRows

@@ -22,8 +22,9 @@ use Rattle.river.specs.Bytes.{AreBytes}
 use Rattle.river.specs.Card.{cardList}
 use Rattle.river.specs.Refusal.{Answer, accepted, refused, refuse, after, codeOf, outcomeOf}
 use Rattle.flows.specs.Flow.{cardOf, above}
-use Rattle.flows.specs.Stored.{storedZero, storedLimit}
-use Rattle.flows.specs.Accept.{Accepts, acceptFile}
+use Rattle.flows.specs.held.Stored.{storedZero, storedLimit}
+use Rattle.flows.specs.Accept.{acceptFile}
+use Rattle.flows.specs.held.Accepts.{Accepts}
 use Rattle.flows.proofs.Acceptance.{accepts-exactly}
 use Rattle.river.proofs.Answers.{passed, went, need-true, need-false, after-accepted, after-refused}
 use Rattle.report.specs.Status.{shownOxygen}
@@ -32,7 +33,7 @@ use Rattle.report.specs.Distance.{allowanceAt, WithinAllowance}
 use Rattle.report.specs.Record.{hasNitrification, complement, fromComplement, recordSize, recordAt, readRecord, Figures}
 use Rattle.report.specs.Report.{recordOf, reportOf, reportSize, roomAnswer, reportAnswer, resultOf, bufferReported, figuresRead, Accepted, UsedUpAbove, Reports}
 use Rattle.report.specs.Ties.{Tied}
-use Rattle.report.specs.Lines.{Ready}
+use Rattle.report.specs.held.Lines.{Ready}
 use Rattle.report.proofs.Lowest.{lowest-first}
 use Rattle.report.proofs.Bounds.{Range}
 use Rattle.report.proofs.Orders.{reporting-order}

@@ -5,7 +5,7 @@ use Prim.Native.Nat.{ℕ, zero, suc, _*_, _≤_, _<_, zero-le}
 use native.Mathlib.Omega.{arith}
 use lib.ListN.{length, getD}
 use lib.Dec.{eqb}
-use Rattle.decay.specs.Step.{RatesPass}
+use Rattle.decay.specs.held.Step.{RatesPass}
 use Rattle.river.specs.declared.card.Card.{Card}
 use Rattle.river.specs.declared.card.Amount.{Amount}
 use Rattle.river.specs.declared.card.Amount.the-variants.{Without, Given}
@@ -20,7 +20,7 @@ use Rattle.flows.proofs.head.Bounds.{conditions-in-range}
 use Rattle.flows.proofs.flow.Table.{deepest-few}
 use Rattle.flows.proofs.flow.Take.{flow-remains, flow-within}
 use Rattle.flows.specs.Flow.{Feeders, none, more, joinedIf, feedersAmong, rateLimit, sludgeOf, reachFlow, reachDepth, ReachPasses, Flows}
-use Rattle.report.specs.Bed.{BedPasses}
+use Rattle.report.specs.held.Bed.{BedPasses}
 
 -- an accepted reach: its fields lie in range, and it passes the flow check
 pub record AcceptedReach (card : Card) (up : Feeders) : Type 0 where

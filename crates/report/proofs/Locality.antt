@@ -21,9 +21,10 @@ use Rattle.river.specs.Source.{sourceOf}
 use Rattle.flows.specs.Saturation.{saturationOf}
 use Rattle.flows.specs.Head.{belowDam, headDemand, headOxygen}
 use Rattle.report.specs.Record.{Figures}
-use Rattle.report.specs.Bed.{bedOf}
+use Rattle.report.specs.held.Bed.{bedOf}
 use Rattle.report.specs.Status.{isUsed, usedBy}
-use Rattle.report.specs.Program.{factorsAlong, partsAlong, demandAlong, turnedAlong, lossAlong, oxygenAlong, demandSum, oxygenSum, demandAtHead, oxygenAtHead, oxygenAt, criticalOxygen, usedAbove, figuresBelow, figuresOf}
+use Rattle.report.specs.Program.{demandSum, oxygenSum, demandAtHead, oxygenAtHead, oxygenAt, criticalOxygen, usedAbove, figuresBelow, figuresOf}
+use Rattle.report.specs.held.Along.{factorsAlong, partsAlong, demandAlong, turnedAlong, lossAlong, oxygenAlong}
 use Rattle.report.specs.Locality.{withOutlet, SameButOutlet, SameForest, bare, alike, exchanged, chained, SameReach, LiesAbove, feeds, through, SameCard, Agree}
 use Rattle.report.proofs.StatusRows
 

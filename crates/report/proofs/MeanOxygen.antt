@@ -13,7 +13,7 @@ use lib.ListN.{length}
 use lib.Signed.{_≤ℤ_, leZ-yes}
 use Rattle.decay.specs.Fraction.{ofℕ, ofℤ, _≈_, _≼_, distance}
 use Rattle.decay.specs.Integral.{meanOf, allTerms, meanS, meanF}
-use Rattle.decay.specs.Mean.{meanFactorsOf}
+use Rattle.decay.specs.held.Mean.{meanFactorsOf}
 use Rattle.decay.proofs.Algebra.{≈-refl, ≈-trans, Within, within-by, within-weaken, within→distance, ofℕ-mono, ofℤ-≈}
 use Rattle.decay.proofs.Exponential.{integral-of, S-value, F-value}
 use Rattle.decay.proofs.MeanAccuracy.{mean-accuracy, mean-demand-accuracy}
@@ -23,13 +23,16 @@ use Rattle.river.specs.declared.source.Demand.{Demand}
 use Rattle.river.specs.declared.source.Demand.the-variants.{Bod, Nitrogenous}
 use Rattle.river.specs.Source.{rateOf}
 use Rattle.flows.specs.Flow.{Feeders, reachFlow, reachDepth, cardOf, above}
-use Rattle.report.specs.Bed.{bedOf, lossWith}
-use Rattle.report.specs.Program.{unitParts, demandAtHead, oxygenAtHead, criticalOxygen, usedAbove, statusOf}
+use Rattle.report.specs.held.Bed.{bedOf, lossWith}
+use Rattle.report.specs.Program.{demandAtHead, oxygenAtHead, criticalOxygen, usedAbove, statusOf}
+use Rattle.report.specs.held.Along.{unitParts}
 use Rattle.report.specs.Recurrence.{exactTurnedAlong, exactLoss, exactOxygenAlong, exactOxygenAtHead, exactOxygenAt}
 use Rattle.report.specs.Ties.{NoChange}
-use Rattle.report.specs.Distance.{stepUnits, allowanceAt, broughtAllowance, waterAllowance}
+use Rattle.report.specs.Distance.{stepUnits, allowanceAt}
+use Rattle.report.specs.held.Water.{broughtAllowance, waterAllowance}
 use Rattle.report.specs.ExactMean.{exactMeanOxygenAlong, oxygenTermsAt, exactMeanOxygen, IsMean}
-use Rattle.report.specs.Mean.{middle, factorsMean, turnedMean, meanAlong, meanOxygen, meanAt, countedVolumeAt}
+use Rattle.report.specs.Mean.{meanOxygen, meanAt, countedVolumeAt}
+use Rattle.report.specs.held.MeanAlong.{middle, factorsMean, turnedMean, meanAlong}
 use Rattle.report.proofs.Statuses.{status-two, not-above}
 use Rattle.report.proofs.Forest.{AcceptedReach, AllAccepted, rates-pass, reach-shallow}
 use Rattle.report.proofs.Ties.{reach-step-sound, reach-mean-sound, reach-mean-stays}

@@ -8,8 +8,9 @@ use Rattle.decay.specs.Fraction.{_≼_, ofℕ, ofℤ, _+ᶠ_, -ᶠ_, _*ᶠ_, _�
 use Rattle.decay.specs.Exact.{foot, exponent, power, factorial, term, sum}
 use Rattle.decay.specs.Integral.{valueAt, integral, meanOf, constant, timesTime, seriesTerms, shareTerms}
 use Rattle.decay.specs.Fixed.{product, quotient}
-use Rattle.decay.specs.Step.{exponentOf, termOf, nextTerms, termsAt, termAt, withTerm, sumOf, countFrom, seriesOf, stepOf, meanSumOf, meanStepOf}
-use Rattle.decay.specs.Factors.{nextDemand, demandFrom, headFactors, nextFactors, factorsAt}
+use Rattle.decay.specs.held.Step.{exponentOf, stepOf, meanSumOf, meanStepOf}
+use Rattle.decay.specs.Series.{termOf, nextTerms, termsAt, termAt, withTerm, sumOf, countFrom, seriesOf}
+use Rattle.decay.specs.held.Factors.{nextDemand, demandFrom, headFactors, nextFactors, factorsAt}
 use Rattle.decay.specs.declared.factors.DemandFactors.{DemandFactors}
 use Rattle.decay.specs.declared.factors.Factors.{Factors}
 use Rattle.river.specs.declared.card.Card.{Card}
@@ -18,8 +19,9 @@ use Rattle.river.specs.Source.{rateOf}
 use Rattle.flows.specs.Flow.{cardOf, above, feedersAmong, joinedIf, fed, flowOf, deepest, reachFlow}
 use Rattle.flows.specs.Saturation.{saturation, saturationThousandths, saturationOf}
 use Rattle.flows.specs.Head.{floor, upstreamDemand, upstreamOxygen, belowDam, headDemand, headOxygen}
-use Rattle.report.specs.Bed.{bedBy, bedOf, lossWith}
-use Rattle.report.specs.Program.{oxygenWith, unitParts, factorsAlong, partsAlong, lossAlong, turnedAlong, oxygenAlong, demandSum, oxygenSum, demandAtHead, oxygenAtHead, oxygenAt}
+use Rattle.report.specs.held.Bed.{bedBy, bedOf, lossWith}
+use Rattle.report.specs.Program.{demandSum, oxygenSum, demandAtHead, oxygenAtHead, oxygenAt}
+use Rattle.report.specs.held.Along.{oxygenWith, unitParts, factorsAlong, partsAlong, lossAlong, turnedAlong, oxygenAlong}
 use Rattle.report.specs.Status.{usedBy}
 use Rattle.report.specs.Record.{nitrifies, isNitrified, hasNitrification}
 use Rattle.report.specs.Recurrence.{exactSaturation, exactMean, exactBelowDam, exactMixedDemand, exactMixedOxygen, exactHeadDemand, exactHeadOxygen, exactDemandSum, exactOxygenSum, exactDemandAtHead, exactOxygenAtHead}

@@ -9,8 +9,9 @@ use native.Mathlib.Omega.{arith}
 use lib.IntN.{ℤ, pos, negsuc}
 use lib.Signed.{_≤ℤ_}
 use Rattle.decay.specs.Fixed.{product, quotient}
-use Rattle.decay.specs.Step.{exponentOf, termOf, nextTerms, termsAt, termAt, withTerm, sumOf, countFrom, seriesOf, stepOf, meanSumOf, meanStepOf}
-use Rattle.decay.specs.Factors.{demandFrom, headFactors, nextFactors, factorsAt}
+use Rattle.decay.specs.held.Step.{exponentOf, stepOf, meanSumOf, meanStepOf}
+use Rattle.decay.specs.Series.{termOf, nextTerms, termsAt, termAt, withTerm, sumOf, countFrom, seriesOf}
+use Rattle.decay.specs.held.Factors.{demandFrom, headFactors, nextFactors, factorsAt}
 use Rattle.river.specs.declared.card.Card.{Card}
 use Rattle.river.specs.declared.card.Dam.the-variants.{Absent}
 use Rattle.river.specs.declared.card.Nitrification.the-variants.{Idle}
@@ -25,8 +26,9 @@ use Rattle.flows.specs.Head.{floor, upstreamDemand, upstreamOxygen, aerated, be
 use Rattle.flows.proofs.flow.FlowCheck.{flows-of-accepted}
 use Rattle.river.proofs.Bench.{reach, two}
 use Rattle.flows.proofs.Bench.{bench as flow-bench}
-use Rattle.report.specs.Bed.{bedBy, bedOf, lossWith}
-use Rattle.report.specs.Program.{oxygenWith, factorsAlong, partsAlong, lossAlong, demandAlong, turnedAlong, oxygenAlong, demandSum, oxygenSum, demandAtHead, oxygenAtHead, oxygenAt, foot, criticalOxygen, usedAbove, statusOf}
+use Rattle.report.specs.held.Bed.{bedBy, bedOf, lossWith}
+use Rattle.report.specs.Program.{demandSum, oxygenSum, demandAtHead, oxygenAtHead, oxygenAt, foot, criticalOxygen, usedAbove, statusOf}
+use Rattle.report.specs.held.Along.{oxygenWith, factorsAlong, partsAlong, lossAlong, demandAlong, turnedAlong, oxygenAlong}
 use Rattle.report.specs.Status.{statusBy, isUsed, usedBy}
 use Rattle.report.specs.Mean.{meanAt, countedVolume, weightedSum, restOf, dividedBy, weightedMean, riverMean, meanRoomAnswer, volumeSum}
 use Rattle.report.proofs.Lowest.{lowest-first}

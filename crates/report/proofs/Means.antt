@@ -17,8 +17,9 @@ use Rattle.river.specs.Card.{cardList}
 use Rattle.river.specs.Refusal.{Answer, accepted, refused, refuse, after as then, codeOf, outcomeOf}
 use Rattle.flows.specs.Flow.{cardOf, above}
 use Rattle.river.specs.Card.{Lawful}
-use Rattle.flows.specs.Stored.{oxygenOf}
-use Rattle.flows.specs.Accept.{Accepts, acceptFile}
+use Rattle.flows.specs.held.Stored.{oxygenOf}
+use Rattle.flows.specs.Accept.{acceptFile}
+use Rattle.flows.specs.held.Accepts.{Accepts}
 use Rattle.flows.proofs.Acceptance.{accepts-exactly}
 use Rattle.river.proofs.Answers.{never, passed, went, need-true, need-false, after-accepted, after-refused}
 use Rattle.report.specs.Record.{complement, fromComplement}
@@ -26,7 +27,7 @@ use Rattle.report.specs.Report.{firstRows, resultOf}
 use Rattle.report.specs.Distance.{allowanceAt}
 use Rattle.report.specs.ExactMean.{exactMeanOxygen}
 use Rattle.report.specs.Mean.{meanAt, countedVolumeAt, countedVolume, weightedSum, riverMean, meanBytes, meanRow, meansOf, meansSize, meanRoomAnswer, meanAnswer, bufferAveraged, meaningOf, Weighted, Averages, Averaged, meanRead, Means}
-use Rattle.report.specs.MeanLines.{volumeLimit, Weighs, Divisible, quotientOf, MeansTabled, AllAveraged, storedRow}
+use Rattle.report.specs.held.MeanLines.{volumeLimit, Weighs, Divisible, quotientOf, MeansTabled, AllAveraged, storedRow}
 use Rattle.report.specs.declared.mean.RiverMean.{RiverMean}
 use Rattle.report.specs.declared.mean.RiverMean.the-variants.{Refused, Weighed}
 use Rattle.report.specs.declared.mean.MeanTable.{MeanTable}

@@ -7,8 +7,9 @@ use lib.Signed.{leZ-yes}
 use Rattle.decay.specs.Fraction.{_≼_, ofℕ, ofℤ, _+ᶠ_, -ᶠ_, _*ᶠ_, _÷_, over}
 use Rattle.decay.specs.Exact.{foot, exponent, power, factorial, term, sum, S, F}
 use Rattle.decay.specs.Fixed.{product, quotient}
-use Rattle.decay.specs.Step.{exponentOf, termOf, nextTerms, termsAt, termAt, withTerm, sumOf, countFrom, seriesOf, stepOf}
-use Rattle.decay.specs.Factors.{demandFrom, headFactors, nextFactors, factorsAt}
+use Rattle.decay.specs.held.Step.{exponentOf, stepOf}
+use Rattle.decay.specs.Series.{termOf, nextTerms, termsAt, termAt, withTerm, sumOf, countFrom, seriesOf}
+use Rattle.decay.specs.held.Factors.{demandFrom, headFactors, nextFactors, factorsAt}
 use Rattle.river.specs.declared.card.Card.{Card}
 use Rattle.river.specs.declared.card.Dam.the-variants.{Absent}
 use Rattle.river.specs.declared.card.Amount.the-variants.{Without}
@@ -18,8 +19,9 @@ use Rattle.river.specs.declared.source.Demand.the-variants.{Bod, Nitrogenous}
 use Rattle.flows.specs.Flow.{Feeders, none, more, fed, flowOf}
 use Rattle.flows.specs.Saturation.{saturation, saturationThousandths, saturationOf}
 use Rattle.flows.specs.Head.{floor, upstreamDemand, upstreamOxygen, aerated, belowDam, headDemand, headOxygen}
-use Rattle.report.specs.Bed.{bedBy, bedOf, lossWith}
-use Rattle.report.specs.Program.{oxygenWith, factorsAlong, partsAlong, lossAlong, demandAlong, turnedAlong, oxygenAlong, demandSum, oxygenSum, demandAtHead, oxygenAtHead, demandAt, oxygenAt}
+use Rattle.report.specs.held.Bed.{bedBy, bedOf, lossWith}
+use Rattle.report.specs.Program.{demandSum, oxygenSum, demandAtHead, oxygenAtHead, demandAt, oxygenAt}
+use Rattle.report.specs.held.Along.{oxygenWith, factorsAlong, partsAlong, lossAlong, demandAlong, turnedAlong, oxygenAlong}
 use Rattle.report.specs.Recurrence.{exactSaturation, exactMean, exactBelowDam, exactMixedDemand, exactMixedOxygen, exactHeadDemand, exactHeadOxygen, exactDemandAlong, exactTurnedAlong, exactLoss, exactOxygenAlong, exactDemandSum, exactOxygenSum, exactDemandAtHead, exactOxygenAtHead, exactDemandAt, exactOxygenAt}
 
 -- a reach, by its nitrification; its oxygen is 14 mg/L

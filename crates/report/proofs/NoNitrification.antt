@@ -7,8 +7,8 @@ use native.Mathlib.Nat.{le-refl, mul-zero, zero-div}
 use native.Mathlib.Omega.{arith}
 use lib.ListN.{length, getD}
 use lib.Dec.{eqb}
-use Rattle.decay.specs.Step.{stepOf}
-use Rattle.decay.specs.Factors.{demandFrom}
+use Rattle.decay.specs.held.Step.{stepOf}
+use Rattle.decay.specs.held.Factors.{demandFrom}
 use Rattle.decay.specs.declared.step.Step.{Step}
 use Rattle.river.specs.declared.card.Card.{Card}
 use Rattle.river.specs.declared.card.Nitrification.{Nitrification}
@@ -19,7 +19,8 @@ use Rattle.river.specs.Source.{nitrogenousSource, sourceOf, rateOf}
 use Rattle.flows.specs.Flow.{Feeders, joinedIf, feedersAmong, fed, flowOf}
 use Rattle.flows.specs.Head.{upstreamDemand, headDemand}
 use Rattle.river.proofs.Answers.{clash}
-use Rattle.report.specs.Program.{partsAlong, demandAlong, demandSum, demandAtHead, figuresOf, figuresAt}
+use Rattle.report.specs.Program.{demandSum, demandAtHead, figuresOf, figuresAt}
+use Rattle.report.specs.held.Along.{partsAlong, demandAlong}
 use Rattle.report.specs.Record.{nitrifies, isNitrified, hasNitrification}
 use Rattle.report.proofs.record.Nitrified.{at-no-reach}
 

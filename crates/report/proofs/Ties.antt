@@ -7,8 +7,8 @@ use native.Mathlib.Omega.{arith}
 use lib.Dec.{lit<}
 use lib.IntN.{ℤ, pos, negℤ, _+ℤ_, _-ℤ_, +ℤ-assoc, +ℤ-idl, +ℤ-invr, negℤ-negℤ, negℤ-+ℤ}
 use Rattle.decay.specs.Fixed.{one, product}
-use Rattle.decay.specs.Step.{stepOf, meanStepOf}
-use Rattle.decay.specs.Factors.{SoundStep, AreShares, demandFrom, headFactors, factorsAt}
+use Rattle.decay.specs.held.Step.{stepOf, meanStepOf}
+use Rattle.decay.specs.held.Factors.{SoundStep, AreShares, demandFrom, headFactors, factorsAt}
 use Rattle.decay.proofs.fixed.Digits.{one-pos, shares-below}
 use Rattle.decay.proofs.step.Shares.{step-sound, step-loses-nothing}
 use Rattle.decay.proofs.factors.Instants.{range, demand-range, demand-kept, bod-tie, deficit-tie}
@@ -21,9 +21,11 @@ use Rattle.river.specs.declared.source.Demand.{Demand}
 use Rattle.river.specs.declared.source.Demand.the-variants.{Bod, Nitrogenous}
 use Rattle.river.specs.Source.{rateOf}
 use Rattle.flows.specs.Saturation.{saturationOf}
-use Rattle.report.specs.Bed.{bedOf, lossLimit, LossInRange}
-use Rattle.report.specs.Mean.{middle, factorsMean, turnedMean, meanAlong, meanOxygen}
-use Rattle.report.specs.Program.{unitParts, oxygenWith, factorsAlong, partsAlong, demandAlong, turnedAlong, lossAlong, oxygenAlong, demandAt, oxygenAt, demandAtHead, oxygenAtHead, Critical, criticalOxygen, usedAbove, figuresOf, foot}
+use Rattle.report.specs.held.Bed.{bedOf, lossLimit, LossInRange}
+use Rattle.report.specs.Mean.{meanOxygen}
+use Rattle.report.specs.held.MeanAlong.{middle, factorsMean, turnedMean, meanAlong}
+use Rattle.report.specs.Program.{demandAt, oxygenAt, demandAtHead, oxygenAtHead, Critical, criticalOxygen, usedAbove, figuresOf, foot}
+use Rattle.report.specs.held.Along.{unitParts, oxygenWith, factorsAlong, partsAlong, demandAlong, turnedAlong, lossAlong, oxygenAlong}
 use Rattle.report.specs.Status.{statusBy}
 use Rattle.report.proofs.NitrificationRows
 use Rattle.report.proofs.Lowest.{lowest-constant}

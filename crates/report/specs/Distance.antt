@@ -1,16 +1,14 @@
 -- Demand 3 for a reach: how far its reported figures may stray from the exact recurrence at the series length N.
 use mathlib.Core.Bool.{Bool, true, false, _||_, cond}
 use mathlib.Core.List.{List, [], _∷_}
-use Prim.Native.Nat.{ℕ, _+_, _*_, _≤_}
-use Rattle.decay.specs.Fraction.{Fraction, ofℕ, ofℤ, _≼_, _+ᶠ_, _-ᶠ_, _*ᶠ_, _÷_, distance}
+use Prim.Native.Nat.{ℕ, _*_, _≤_}
+use Rattle.decay.specs.Fraction.{Fraction, ofℕ, ofℤ, _≼_, _+ᶠ_, _-ᶠ_, distance}
 use Rattle.decay.specs.Exact.{foot}
-use Rattle.decay.specs.Promise.{deficitDistance}
 use Rattle.river.specs.declared.card.Card.{Card}
 use Rattle.river.specs.declared.source.Demand.the-variants.{Bod, Nitrogenous}
 use Rattle.river.specs.declared.card.Amount.{Amount}
 use Rattle.river.specs.declared.card.Amount.the-variants.{Without, Given}
-use Rattle.flows.specs.Flow.{Feeders, none, more, flowOf, reachFlow, reachDepth, above}
-use Rattle.report.specs.Bed.{bedOf}
+use Rattle.flows.specs.Flow.{Feeders, reachDepth, above}
 use Rattle.report.specs.Recurrence.{exactDemandAtHead, exactOxygenAtHead, exactDemandAt, exactOxygenAt}
 use Rattle.report.specs.Record.{Figures, hasNitrification}
 
@@ -69,29 +67,3 @@ pub record WithinAllowance (N : ℕ) (card : Card) (up : Feeders) (f : Figures) 
       allowed
   -- and with the error of oxygen
   pub oxygen : f .status ≤ 1 → OxygenWithin N card up f allowed
-
--- How near the exact loss to a bed the program's is: 2 units of rounding, and 2^-31 of the loss in the end, by which the share of the deficit
--- left may be off. That loss is 1,000,000 × demand / k2, so that a small k2 costs digits: 32.52 units at most at k2 = 1, 8.11 at 5, 2.07 at 500.
-abbrev pub lossDistance : Card → (Q : ℕ) → Fraction
-lossDistance card Q = ofℕ 2 +ᶠ deficitDistance *ᶠ ofℕ (bedOf card Q .eventual + 1)
-
--- What the proof carries down the river is the allowance by water, which is at most that by depth.
-
--- the mean of the feeders' allowances, weighed by flow, inflow water counting as zero; sum is that of Q × allowance, each after the feeder's
--- own take, and is divided by Qm = Qu + inflow, the flow before the reach's own
-unfoldable pub meanAllowance : Card → (Qu : ℕ) (sum : Fraction) → Fraction
-meanAllowance card Qu sum = sum ÷ ofℕ (Qu + card .inflow)
-
-module _ (units : ℕ) where
-  -- the sum over the feeders of Q × allowance
-  unfoldable pub allowanceSum : Feeders → Fraction
-  allowanceSum none = ofℕ 0
-  allowanceSum (more card up rest) =
-      ofℕ (reachFlow card up) *ᶠ (ofℕ units +ᶠ meanAllowance card (flowOf up) (allowanceSum up)) +ᶠ allowanceSum rest
-
-  -- the mean that is brought to a reach, and its allowance by water: its own units and that mean
-  unfoldable pub broughtAllowance : Card → Feeders → Fraction
-  broughtAllowance card up = meanAllowance card (flowOf up) (allowanceSum up)
-
-  abbrev pub waterAllowance : Card → Feeders → Fraction
-  waterAllowance card up = ofℕ units +ᶠ broughtAllowance card up

@@ -1,4 +1,3 @@
-pub mod Bed
 pub mod Status
 pub mod Program
 pub mod Recurrence
@@ -6,10 +5,8 @@ pub mod ExactMean
 pub mod Distance
 pub mod Ties
 pub mod Locality
-pub mod Profile
 pub mod Record
 pub mod Report
 pub mod Rewrite
-pub mod Lines
 pub mod Mean
-pub mod MeanLines
+pub mod held

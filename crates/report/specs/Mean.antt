@@ -1,4 +1,4 @@
--- "Mean oxygen" of the river file paper: what the program computes for a reach, the mean of the river weighted by volume, and what a call of the entry
+-- "Mean oxygen" of the river file paper: the mean of a reach as it is reported, the mean of the river weighted by volume, and what a call of the entry
 -- returns and leaves in the buffer.
 use mathlib.Core.Path.{_≡_}
 use mathlib.Core.Logic.{_↔_}
@@ -6,23 +6,18 @@ use mathlib.Core.Bool.{cond}
 use mathlib.Core.List.{List, _++_}
 use Prim.Native.Nat.{ℕ, zero, suc, _+_, _-_, _*_, _/_, _%_, _≤_, _<_}
 use lib.Dec.{leb, ltb}
-use lib.IntN.{ℤ, pos, negsuc, _+ℤ_, _-ℤ_, _*ℤ_}
+use lib.IntN.{ℤ, pos, negsuc, _+ℤ_, _*ℤ_}
 use lib.ListN.{length, drop}
 use Rattle.decay.specs.Fraction.{ofℤ, _≼_, distance}
-use Rattle.decay.specs.Mean.{meanFactorsOf, meanDemandOf}
-use Rattle.decay.specs.declared.factors.Factors.{Factors}
 use Rattle.river.specs.declared.card.Card.{Card}
 use Rattle.river.specs.declared.source.Demand.the-variants.{Bod, Nitrogenous}
 use Rattle.river.specs.Bytes.{fourBytes, fourAt}
-use Rattle.river.specs.Source.{rateOf}
 use Rattle.flows.specs.Flow.{Feeders, reachFlow, cardOf, above}
-use Rattle.flows.specs.Saturation.{saturationOf}
 use Rattle.flows.specs.Head.{floor}
-use Rattle.flows.specs.Stored.{oxygenOf}
+use Rattle.flows.specs.held.Stored.{oxygenOf}
 use Rattle.river.specs.Refusal.{Answer, accepted, refused, refuse, need, after as then}
 use Rattle.flows.specs.Accept.{acceptFile, AcceptedFile}
-use Rattle.report.specs.Bed.{bedOf, lossWith}
-use Rattle.report.specs.Program.{oxygenWith, unitParts, demandAtHead, oxygenAtHead, usedAbove, statusOf}
+use Rattle.report.specs.Program.{demandAtHead, oxygenAtHead, usedAbove, statusOf}
 use Rattle.report.specs.Record.{complement, fromComplement}
 use Rattle.report.specs.Distance.{allowanceAt}
 use Rattle.report.specs.Ties.{NoChange}
@@ -30,22 +25,7 @@ use Rattle.report.specs.ExactMean.{exactMeanOxygen, IsMean}
 use Rattle.report.specs.Report.{firstRows, resultOf}
 use Rattle.report.specs.declared.mean.RiverMean.{RiverMean}
 use Rattle.report.specs.declared.mean.RiverMean.the-variants.{Refused, Weighed}
-
--- the instant half way down a reach, where a loss that grows in equal steps has its mean
-abbrev pub middle : ℕ
-middle = 512
-
--- the means of the factors of BOD and deficit along a reach with flow Q, and what of nitrogenous BOD, with head value L, has turned on average
-unfoldable pub factorsMean : Card → (Q : ℕ) → Factors
-factorsMean card Q = meanFactorsOf (card .k1) (card .k2) (card .volume) Q
-
-unfoldable pub turnedMean : Card → (Q L : ℕ) → ℕ
-turnedMean card Q L = meanDemandOf (unitParts * L) (rateOf Nitrogenous card) (card .k2) (card .volume) Q .turned / unitParts
-
--- mean oxygen along a reach with flow Q, head BOD L, head nitrogenous BOD Ln and head oxygen C: oxygen where the means of the factors hold
-unfoldable pub meanAlong : Card → (Q L Ln : ℕ) (C : ℤ) → ℤ
-meanAlong card Q L Ln C =
-    oxygenWith (factorsMean card Q) (saturationOf card) L C -ℤ pos (turnedMean card Q Ln) -ℤ pos (lossWith (factorsMean card Q) (bedOf card Q) middle)
+use Rattle.report.specs.held.MeanAlong.{meanAlong}
 
 -- mean oxygen of a reach
 unfoldable pub meanOxygen : Card → Feeders → ℤ

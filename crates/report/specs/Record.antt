@@ -11,8 +11,6 @@ use Rattle.river.specs.declared.card.Card.{Card}
 use Rattle.river.specs.declared.card.Nitrification.{Nitrification}
 use Rattle.river.specs.declared.card.Nitrification.the-variants.{Idle, Nitrifying}
 use Rattle.river.specs.Bytes.{Mark, mark, markBytes, twoBytes, fourBytes, byteAt, twoAt, fourAt}
-use Rattle.flows.specs.Stored.{storedZero, storedLimit, oxygenOf}
-use Rattle.report.specs.declared.record.Line.{Line}
 
 -- whether a reach has an `NT` record, of zeros too
 unfoldable pub nitrifies : Nitrification → Bool
@@ -41,30 +39,13 @@ pub record Figures : Type 0 where
   pub head-nitrogenous : ℕ
   pub foot-nitrogenous : ℕ
 
--- the figures that a line of the program stands for
-abbrev pub figuresIn : Line → Figures
-figuresIn l =
-    record {
-      depth = l .depth;
-      flow = l .flow;
-      head-bod = l .«head_bod»;
-      foot-bod = l .«foot_bod»;
-      head-oxygen = oxygenOf (l .«head_oxygen»);
-      critical-instant = l .«critical_instant»;
-      critical-oxygen = oxygenOf (l .«critical_oxygen»);
-      foot-oxygen = oxygenOf (l .«foot_oxygen»);
-      status = l .status;
-      head-nitrogenous = l .«head_nitrogenous»;
-      foot-nitrogenous = l .«foot_nitrogenous»;
-    }
-
--- oxygen in two's complement, as the whole number in its four bytes, and back; `storedZero` is 2^31 and `storedLimit` is 2^32 - 1
+-- oxygen in two's complement, as the whole number in its four bytes, and back; 4,294,967,295 is 2^32 - 1, and 2,147,483,648 is 2^31
 unfoldable pub complement : ℤ → ℕ
 complement (pos n) = n
-complement (negsuc n) = storedLimit - n
+complement (negsuc n) = 4_294_967_295 - n
 
 unfoldable pub fromComplement : ℕ → ℤ
-fromComplement n = cond (ltb n storedZero) (pos n) (negsuc (storedLimit - n))
+fromComplement n = cond (ltb n 2_147_483_648) (pos n) (negsuc (4_294_967_295 - n))
 
 -- the marks of `RP` and `RN` records, and how many bytes each has
 abbrev pub RP : Mark

@@ -6,9 +6,9 @@ use flows::flow;
 use river::card::Card;
 ghost use mathlib.Core.Path.{_≡_};
 ghost use Prim.Native.Nat.{_≤_};
-ghost use Rattle.decay.specs.Factors.{AreShares};
+ghost use Rattle.decay.specs.held.Factors.{AreShares};
 ghost use Rattle.flows.specs.Flow.{flowLimit};
-ghost use Rattle.report.specs.Bed.{BedPasses, bedOf, lossWith, LossInRange};
+ghost use Rattle.report.specs.held.Bed.{BedPasses, bedOf, lossWith, LossInRange};
 
 // Units in a mg/L.
 const UNITS: u64 = 1_000_000;

@@ -18,7 +18,7 @@ ghost use Prim.Native.Nat.{_/_, _%_};
 ghost use Rattle.report.specs.Report.{Reports, TellsSize};
 ghost use Rattle.report.specs.Rewrite.{Rewrites};
 ghost use Rattle.report.specs.Mean.{Means};
-ghost use Rattle.flows.specs.Stored.{oxygenOf};
+ghost use Rattle.flows.specs.held.Stored.{oxygenOf};
 
 // The number of the refusal in a result.
 pub fn refusal_number(result: u32) -> u32

@@ -20,14 +20,14 @@ ghost use mathlib.Core.Path.{_≡_};
 ghost use mathlib.Core.List.{_++_};
 ghost use Prim.Native.Nat.{_≤_};
 ghost use lib.ListN.{length, drop};
-ghost use Rattle.decay.specs.Step.{RatesPass, stepOf};
+ghost use Rattle.decay.specs.held.Step.{RatesPass, stepOf};
 ghost use Rattle.river.specs.Card.{cardList};
 ghost use Rattle.river.specs.declared.source.Demand.the-variants.{Nitrogenous};
 ghost use Rattle.river.specs.Source.{rateOf};
-ghost use Rattle.flows.specs.Stored.{oxygenOf};
+ghost use Rattle.flows.specs.held.Stored.{oxygenOf};
 ghost use Rattle.report.specs.Program.{figuresBelow};
-ghost use Rattle.report.specs.Record.{figuresIn};
-ghost use Rattle.report.specs.Lines.{Ready, LineReady, HeadFits, LineAt, HeadBy, LineBy, PlacedAt, ReportedBy};
+ghost use Rattle.report.specs.held.LineFigures.{figuresIn};
+ghost use Rattle.report.specs.held.Lines.{Ready, LineReady, HeadFits, LineAt, HeadBy, LineBy, PlacedAt, ReportedBy};
 ghost use Rattle.report.specs.Report.{reportOf, reportSize};
 
 // What the foot of a reach brings, and whether the status of the reach is 1 or 2.

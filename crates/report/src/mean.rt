@@ -33,17 +33,17 @@ ghost use mathlib.Core.List.{_++_};
 ghost use Prim.Native.Nat.{_*_, _≤_};
 ghost use lib.ListN.{length, drop};
 ghost use Rattle.decay.specs.Fixed.{one};
-ghost use Rattle.decay.specs.Step.{RatesPass};
+ghost use Rattle.decay.specs.held.Step.{RatesPass};
 ghost use Rattle.river.specs.Card.{cardList};
 ghost use Rattle.river.specs.declared.source.Demand.the-variants.{Nitrogenous};
 ghost use Rattle.river.specs.Source.{rateOf};
-ghost use Rattle.flows.specs.Stored.{oxygenOf};
-ghost use Rattle.report.specs.Lines.{Ready, LineReady, HeadFits, LineAt};
+ghost use Rattle.flows.specs.held.Stored.{oxygenOf};
+ghost use Rattle.report.specs.held.Lines.{Ready, LineReady, HeadFits, LineAt};
 ghost use Rattle.report.specs.Program.{figuresBelow};
 ghost use Rattle.report.specs.Status.{isUsed};
 ghost use Rattle.report.specs.Report.{firstRows};
 ghost use Rattle.report.specs.Mean.{meanBytes, Averages};
-ghost use Rattle.report.specs.MeanLines.{demandsAlong, PassageReady, HandsOn, PassageBelow, PassedBelow, TellsNeverBelow, AveragedBy, weighedWith, RoomToWeigh, Divisible, quotientOf, AllAveraged, storedRow};
+ghost use Rattle.report.specs.held.MeanLines.{demandsAlong, PassageReady, HandsOn, PassageBelow, PassedBelow, TellsNeverBelow, AveragedBy, weighedWith, RoomToWeigh, Divisible, quotientOf, AllAveraged, storedRow};
 
 // How many bytes a mean has.
 pub const MEAN_SIZE: usize = 4;

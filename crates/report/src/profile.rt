@@ -11,11 +11,12 @@ ghost use mathlib.Core.Path.{_≡_};
 ghost use Prim.Native.Nat.{_+_, _/_, _≤_, _<_};
 ghost use mathlib.Core.Bool.{false};
 ghost use lib.IntN.{pos, _-ℤ_};
-ghost use Rattle.decay.specs.Factors.{SoundStep, AreShares, demandFrom};
-ghost use Rattle.report.specs.Bed.{noBed, lossLimit, LossInRange, BedInRange};
-ghost use Rattle.report.specs.Program.{foot, unitParts, oxygenWith};
-ghost use Rattle.report.specs.Profile.{StartInRange, Begun, noStep, startParts, wholeDemand, oxygenOver, WalkedTo, BothWalkedTo, seenAt, Profiled};
-ghost use Rattle.flows.specs.Stored.{oxygenOf, Stores};
+ghost use Rattle.decay.specs.held.Factors.{SoundStep, AreShares, demandFrom};
+ghost use Rattle.report.specs.held.Bed.{noBed, lossLimit, LossInRange, BedInRange};
+ghost use Rattle.report.specs.Program.{foot};
+ghost use Rattle.report.specs.held.Along.{unitParts, oxygenWith};
+ghost use Rattle.report.specs.held.Profile.{StartInRange, Begun, noStep, startParts, wholeDemand, oxygenOver, WalkedTo, BothWalkedTo, seenAt, Profiled};
+ghost use Rattle.flows.specs.held.Stored.{oxygenOf, Stores};
 
 // Nitrogenous BOD is stepped in parts of a unit, so that no product is needed for its units.
 pub const UNIT_PARTS: u64 = 16_384;

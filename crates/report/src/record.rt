@@ -11,8 +11,9 @@ ghost use Prim.Native.Nat.{_+_, _*_, _≤_, _<_};
 ghost use lib.ListN.{length};
 ghost use Rattle.river.specs.Bytes.{Put, markBytes, twoBytes, fourBytes, fourAt};
 ghost use Rattle.river.specs.Card.{cardList};
-ghost use Rattle.flows.specs.Stored.{oxygenOf};
-ghost use Rattle.report.specs.Record.{isNitrified, hasNitrification, complement, fromComplement, RP, nitrogenousBytes, encodeNitrogenous, encodeRecord, recordBytes, recordSize, recordAt, nitrogenousAt, readRecord, figuresIn};
+ghost use Rattle.flows.specs.held.Stored.{oxygenOf};
+ghost use Rattle.report.specs.Record.{isNitrified, hasNitrification, complement, fromComplement, RP, nitrogenousBytes, encodeNitrogenous, encodeRecord, recordBytes, recordSize, recordAt, nitrogenousAt, readRecord};
+ghost use Rattle.report.specs.held.LineFigures.{figuresIn};
 ghost use Rattle.report.specs.Report.{reportSize};
 
 // How many bytes an `RP` record has, and an `RN` record.

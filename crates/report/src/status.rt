@@ -5,8 +5,8 @@ use river::card::REACHES;
 ghost use mathlib.Core.Path.{_≡_};
 ghost use mathlib.Core.Bool.{_||_, cond};
 ghost use lib.IntN.{pos};
-ghost use Rattle.flows.specs.Stored.{oxygenOf};
-ghost use Rattle.report.specs.Record.{figuresIn};
+ghost use Rattle.flows.specs.held.Stored.{oxygenOf};
+ghost use Rattle.report.specs.held.LineFigures.{figuresIn};
 ghost use Rattle.report.specs.Status.{statusBy, isUsed, reported};
 
 // The status where critical oxygen is not below zero.

@@ -7,7 +7,7 @@ use lib.IntN.{ℤ}
 use lib.ListN.{length}
 use Rattle.river.specs.Bytes.{AreBytes, twoAt}
 use Rattle.river.specs.Refusal.{accepted}
-use Rattle.flows.specs.Stored.{oxygenOf}
+use Rattle.flows.specs.held.Stored.{oxygenOf}
 use Rattle.report.proofs.Means.{averaged}
 use Rattle.report.specs.Mean.{meanAt, meanAnswer, Averaged, Means}
 use Rattle.text.specs.Text.{refusalLine}

@@ -6,7 +6,7 @@ use Prim.Native.Nat.{ℕ, pred, _+_, _≤_}
 use lib.IntN.{ℤ}
 use lib.ListN.{getD}
 use Rattle.river.specs.Bytes.{Put}
-use Rattle.flows.specs.Stored.{oxygenOf}
+use Rattle.flows.specs.held.Stored.{oxygenOf}
 use Rattle.report.specs.Record.{Figures, recordBytes, recordAt, readRecord}
 use Rattle.report.specs.Mean.{meanRead}
 use Rattle.text.specs.Text.{signed}

@@ -12,7 +12,7 @@ ghost use mathlib.Core.Path.{_≡_};
 ghost use mathlib.Core.List.{_++_};
 ghost use Prim.Native.Nat.{_+_, _*_, _≤_};
 ghost use lib.ListN.{length};
-ghost use Rattle.flows.specs.Stored.{oxygenOf};
+ghost use Rattle.flows.specs.held.Stored.{oxygenOf};
 ghost use Rattle.report.specs.Mean.{meanBytes, meanRead};
 ghost use Rattle.text.specs.MeanText.{meanLine, meanLines, riverLine};
 ghost use Rattle.text.specs.Held.{longestMeanLine, longestRiverLine, meanHeld, PutWithin};

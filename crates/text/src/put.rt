@@ -3,7 +3,7 @@ use flows::head::STORED_ZERO_WIDE;
 ghost use mathlib.Core.List.{_++_};
 ghost use Prim.Native.Nat.{suc, _+_, _*_, _≤_, _<_};
 ghost use lib.ListN.{length, drop};
-ghost use Rattle.flows.specs.Stored.{oxygenOf};
+ghost use Rattle.flows.specs.held.Stored.{oxygenOf};
 ghost use Rattle.text.specs.Text.{number, signed, afterWord, line};
 ghost use Rattle.text.specs.Held.{wordAt, wordsOf, PutWithin};
 

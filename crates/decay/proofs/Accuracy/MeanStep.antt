@@ -4,8 +4,9 @@ use Prim.Native.Nat.{ℕ, _*_, _^_, _≤_}
 use lib.Dec.{lit<}
 use Rattle.decay.specs.Fraction.{Fraction, ofℕ, _-ᶠ_, _*ᶠ_, _÷_, _≼_}
 use Rattle.decay.specs.Exact.{exponent}
-use Rattle.decay.specs.Step.{RatesPass, exponentOf, mostTerms, meanSumOf, meanStepOf}
-use Rattle.decay.specs.Promise.{share}
+use Rattle.decay.specs.held.Step.{RatesPass, exponentOf, meanSumOf, meanStepOf}
+use Rattle.decay.specs.Series.{mostTerms}
+use Rattle.decay.specs.held.Promise.{share}
 use Rattle.decay.proofs.Algebra.{≈-refl, quote, Nonneg, slack, number, _⊞_, _⊠_, multiple, certify-times, positive-whole, ÷-cancel-pos, ÷-nonneg, Within}
 use Rattle.decay.proofs.step.Shares.{exponent-small}
 use Rattle.decay.proofs.step.MeanShares.{mean-step-sound}

@@ -6,10 +6,11 @@ use lib.Dec.{lit<, lit≤}
 use lib.Signed.{leZ-yes}
 use Rattle.decay.specs.Fraction.{Fraction, ofℕ, ofℤ, over, _+ᶠ_, -ᶠ_, _-ᶠ_, _*ᶠ_, _÷_, _≈_, _≼_}
 use Rattle.decay.specs.Exact.{power, factorial, exponent, S, F}
-use Rattle.decay.specs.Fixed.{small}
-use Rattle.decay.specs.Step.{RatesPass, exponentOf, seriesOf, stepOf}
-use Rattle.decay.specs.Factors.{SoundStep}
-use Rattle.decay.specs.Promise.{share}
+use Rattle.decay.specs.held.Digits.{small}
+use Rattle.decay.specs.held.Step.{RatesPass, exponentOf, stepOf}
+use Rattle.decay.specs.Series.{seriesOf}
+use Rattle.decay.specs.held.Factors.{SoundStep}
+use Rattle.decay.specs.held.Promise.{share}
 use Rattle.decay.specs.declared.step.Step.{Step}
 use Rattle.decay.proofs.Algebra.{≈-sym, ≈-trans, ring-by, _⋅_, _&_, none, quote, ≼-of-≈, ≼-trans, Nonneg, slack, number, _⊞_, _⊠_, multiple, certify, certify-times, positive-whole, ÷-cancel-pos, ofℕ-≈, Within}
 use Rattle.decay.proofs.step.Shares.{exponent-small, step-sound}

@@ -7,9 +7,10 @@ use native.Mathlib.Numerals.{add-two}
 use native.Mathlib.Omega.{arith}
 use lib.Dec.{lit≤}
 use Rattle.decay.specs.Fraction.{Fraction, ofℕ, _+ᶠ_, -ᶠ_, _-ᶠ_, _*ᶠ_, _÷_, _≈_, _≼_}
-use Rattle.decay.specs.Fixed.{small}
-use Rattle.decay.specs.Step.{nextTerms, termsAt, termAt, seriesOf, mostTerms, meanSumOf}
-use Rattle.decay.specs.Promise.{share}
+use Rattle.decay.specs.held.Digits.{small}
+use Rattle.decay.specs.held.Step.{meanSumOf}
+use Rattle.decay.specs.Series.{nextTerms, termsAt, termAt, seriesOf, mostTerms}
+use Rattle.decay.specs.held.Promise.{share}
 use Rattle.decay.proofs.Algebra.{≈-refl, ≈-sym, ≈-trans, +ᶠ-cong, *ᶠ-cong, ring, ring-by, _⋅_, _&_, none, quote, ≼-by, slack, number, _⊞_, _⊠_, multiple, certify}
 use Rattle.decay.proofs.step.Shares.{first-lost, first-term, term-alone, series-sum}
 use Rattle.decay.proofs.step.MeanShares.{mean-sum}

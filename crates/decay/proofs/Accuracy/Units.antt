@@ -8,8 +8,9 @@ use lib.Dec.{lit<}
 use lib.IntN.{pos}
 use Rattle.decay.specs.Fraction.{Fraction, ofℕ, ofℤ, over, _+ᶠ_, _*ᶠ_, _÷_, _≈_, _≼_}
 use Rattle.decay.specs.Fixed.{one, product, quotient}
-use Rattle.decay.specs.Step.{termOf, exponentOf}
-use Rattle.decay.specs.Promise.{share}
+use Rattle.decay.specs.held.Step.{exponentOf}
+use Rattle.decay.specs.Series.{termOf}
+use Rattle.decay.specs.held.Promise.{share}
 use Rattle.decay.proofs.Algebra.{
   nonneg-pos,
   replaced,

@@ -4,8 +4,8 @@ use Prim.Native.Nat.{ℕ, _+_, _-_, _≤_}
 use native.Mathlib.Nat.{sub-add-cancel}
 use Rattle.decay.specs.Fraction.{Fraction, ofℕ, _+ᶠ_, -ᶠ_, _-ᶠ_, _*ᶠ_, _≈_}
 use Rattle.decay.specs.Fixed.{product}
-use Rattle.decay.specs.Factors.{SoundStep, nextDemand, nextFactors}
-use Rattle.decay.specs.Promise.{share}
+use Rattle.decay.specs.held.Factors.{SoundStep, nextDemand, nextFactors}
+use Rattle.decay.specs.held.Promise.{share}
 use Rattle.decay.specs.declared.step.Step.{Step}
 use Rattle.decay.specs.declared.factors.DemandFactors.{DemandFactors}
 use Rattle.decay.specs.declared.factors.Factors.{Factors}

@@ -6,8 +6,8 @@ use Prim.Native.Nat.{ℕ, zero, suc, _+_, _*_, _≤_}
 use native.Mathlib.Nat.{le-trans, sub-le, mul-zero, zero-mul, zero-div}
 use native.Mathlib.Omega.{arith}
 use Rattle.decay.specs.Fixed.{one, product}
-use Rattle.decay.specs.Step.{RatesPass, stepOf}
-use Rattle.decay.specs.Factors.{SoundStep, AreShares, nextDemand, demandFrom, demandIn, headFactors, nextFactors, factorsAt}
+use Rattle.decay.specs.held.Step.{RatesPass, stepOf}
+use Rattle.decay.specs.held.Factors.{SoundStep, AreShares, nextDemand, demandFrom, demandIn, headFactors, nextFactors, factorsAt}
 use Rattle.decay.specs.declared.step.Step.{Step}
 use Rattle.decay.specs.declared.factors.DemandFactors.{DemandFactors}
 use Rattle.decay.specs.declared.factors.Factors.{Factors}

@@ -22,7 +22,8 @@ use native.Mathlib.Nat.{
 }
 use native.Mathlib.Omega.{arith}
 use lib.Dec.{lit<}
-use Rattle.decay.specs.Fixed.{one, small, product, chunked}
+use Rattle.decay.specs.Fixed.{one, product}
+use Rattle.decay.specs.held.Digits.{small, chunked}
 use Rattle.decay.specs.declared.fixed.Division.{Division}
 
 -- a product in two halves of its second factor, for any place at which it is cut

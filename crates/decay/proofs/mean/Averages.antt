@@ -7,9 +7,9 @@ use native.Mathlib.Numerals.{add-one}
 use native.Mathlib.Omega.{arith}
 use Rattle.decay.specs.Exact.{foot}
 use Rattle.decay.specs.Fixed.{one}
-use Rattle.decay.specs.Step.{RatesPass, stepOf, meanStepOf}
-use Rattle.decay.specs.Factors.{SoundStep, AreShares, nextDemand, demandFrom, demandIn, headFactors, nextFactors, factorsAt}
-use Rattle.decay.specs.Mean.{sumTo, average, averageDemand, averageFactors, meanDemand, meanFactors, meanFactorsOf, nextDemandSums, nextFactorSums, DemandSummed, FactorsSummed, DemandSumsFit, FactorSumsFit}
+use Rattle.decay.specs.held.Step.{RatesPass, stepOf, meanStepOf}
+use Rattle.decay.specs.held.Factors.{SoundStep, AreShares, nextDemand, demandFrom, demandIn, headFactors, nextFactors, factorsAt}
+use Rattle.decay.specs.held.Mean.{sumTo, average, averageDemand, averageFactors, meanDemand, meanFactors, meanFactorsOf, nextDemandSums, nextFactorSums, DemandSummed, FactorsSummed, DemandSumsFit, FactorSumsFit}
 use Rattle.decay.specs.declared.step.Step.{Step}
 use Rattle.decay.specs.declared.factors.DemandFactors.{DemandFactors}
 use Rattle.decay.specs.declared.mean.DemandSums.{DemandSums}

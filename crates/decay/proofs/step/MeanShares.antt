@@ -5,9 +5,11 @@ use Prim.Native.Nat.{ℕ, zero, suc, _+_, _*_, _/_, _≤_, _<_, zero-le}
 use native.Mathlib.Nat.{le-trans, mul-le-mul-right}
 use native.Mathlib.Numerals.{add-one}
 use native.Mathlib.Omega.{arith}
-use Rattle.decay.specs.Fixed.{small, product}
-use Rattle.decay.specs.Step.{RatesPass, exponentOf, termOf, nextTerms, termsAt, termAt, withTerm, mostTerms, seriesOf, meanSumOf, stepOf, meanStepOf}
-use Rattle.decay.specs.Factors.{SoundStep}
+use Rattle.decay.specs.Fixed.{product}
+use Rattle.decay.specs.held.Digits.{small}
+use Rattle.decay.specs.held.Step.{RatesPass, exponentOf, meanSumOf, stepOf, meanStepOf}
+use Rattle.decay.specs.Series.{termOf, nextTerms, termsAt, termAt, withTerm, mostTerms, seriesOf}
+use Rattle.decay.specs.held.Factors.{SoundStep}
 use Rattle.decay.proofs.step.Shares.{first-term, term-alone, terms-fall, series-sum, exponent-small, step-sound, step-loses-nothing, step-fills-nothing}
 
 -- the mean of the first term, and the sum with one more, as the loop makes it

@@ -2,8 +2,9 @@
 -- They are named by the laws of the series, so that these rows are checked first.
 use mathlib.Core.Path.{_≡_, refl}
 use Prim.Native.Nat.{ℕ}
-use Rattle.decay.specs.Fixed.{small, product}
-use Rattle.decay.specs.Step.{termOf, nextTerms, termsAt, termAt, withTerm, sumOf, countFrom, seriesOf}
+use Rattle.decay.specs.Fixed.{product}
+use Rattle.decay.specs.held.Digits.{small}
+use Rattle.decay.specs.Series.{termOf, nextTerms, termsAt, termAt, withTerm, sumOf, countFrom, seriesOf}
 use Rattle.decay.specs.declared.step.SeriesSum.{SeriesSum}
 
 -- a sum and a count

@@ -9,9 +9,11 @@ use native.Mathlib.Numerals.{add-one, add-two}
 use native.Mathlib.Omega.{arith}
 use lib.Dec.{eqb}
 use borrow.Author.Tests.{eqb-true, eqb-false, eq-eqb, ne-eqb}
-use Rattle.decay.specs.Fixed.{one, small, product, quotient}
-use Rattle.decay.specs.Step.{RatesPass, exponentOf, termOf, nextTerms, termsAt, termAt, withTerm, sumOf, mostTerms, countFrom, seriesOf, SumsExactly, stepOf}
-use Rattle.decay.specs.Factors.{SoundStep}
+use Rattle.decay.specs.Fixed.{one, product, quotient}
+use Rattle.decay.specs.held.Digits.{small}
+use Rattle.decay.specs.held.Step.{RatesPass, exponentOf, stepOf}
+use Rattle.decay.specs.Series.{termOf, nextTerms, termsAt, termAt, withTerm, sumOf, mostTerms, countFrom, seriesOf, SumsExactly}
+use Rattle.decay.specs.held.Factors.{SoundStep}
 use Rattle.decay.proofs.fixed.Digits.{product-small, product-mono}
 use Rattle.decay.proofs.step.SeriesRows
 

@@ -1,7 +1,7 @@
 -- `decay_vectors::after` meets its contract: a step keeps the factors in range. The measure is the steps that are left. Assumes nothing.
 use Prim.Native.Nat.{_≤_, _-_}
 use native.Mathlib.Omega.{arith}
-use Rattle.decay.specs.Factors.{AreShares}
+use Rattle.decay.specs.held.Factors.{AreShares}
 use Rattle.decay.proofs.factors.Instants.{next-range}
 use Rattle.decay_vectors.proofs.after.Statement.{statement}
 use Rattle.decay_vectors.proofs.after.Tie as tie

@@ -12,7 +12,7 @@ use Rattle.flows.specs.declared.flow.FlowTable.{FlowTable}
 use Rattle.river.specs.declared.refusal.Refusal.{Refusal}
 use Rattle.flows.specs.declared.flow.Upstream.{Upstream}
 use Rattle.flows.specs.Flow.{flowLimit, massLimit, cardOf, above, flowOf, massOf, deepest, takeOf, reachFlow, remainingMass, reachMass, reachDepth, ownMass, flowAt, massAt, depthAt, checksOf, reachChecks}
-use Rattle.flows.specs.FlowTable.{Decides, feederSum, SumsFit, upstreamBy, Tabled, Underway, NextChecked}
+use Rattle.flows.specs.held.FlowTable.{Decides, feederSum, SumsFit, upstreamBy, Tabled, Underway, NextChecked}
 use Rattle.river.proofs.Answers.{no-refusal}
 use Rattle.flows.proofs.flow.Take.{flow-within, mass-bounded}
 use Rattle.flows.proofs.flow.Table.{entered, Adds, TableOf, sum-of-feeders, sum-bounded, max-of-feeders, deepest-few, fed-deepest}

@@ -19,7 +19,7 @@ use Rattle.flows.specs.declared.flow.ReachChecked.{ReachChecked}
 use Rattle.river.specs.Refusal.{accepted, outcomeOf, goOn}
 use Rattle.river.specs.Card.{Regular}
 use Rattle.flows.specs.Flow.{Feeders, cardOf, above, fed, flowOf, mixedFlow, mixedMass, damFits, DamRule, ReachPasses, Flows, reachChecks, checksFrom, flowCheck}
-use Rattle.flows.specs.FlowTable.{Underway, NextChecked, FlowChecked}
+use Rattle.flows.specs.held.FlowTable.{Underway, NextChecked, FlowChecked}
 use Rattle.river.proofs.Answers.{no-refusal, both-true, both}
 use Rattle.flows.proofs.flow.Groups.{Asks, checks-ask, decided}
 use Rattle.flows.proofs.flow.Checks.{Full, withReach, next-table}

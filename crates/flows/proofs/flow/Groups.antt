@@ -15,7 +15,7 @@ use Rattle.river.specs.Refusal.{Answer, accepted, need, goOn}
 use Rattle.river.specs.Card.{RatesInRange}
 use Rattle.river.specs.Source.{rateOf}
 use Rattle.flows.specs.Flow.{flowLimit, massLimit, rateLimit, bedLimit, takeOf, sludgeOf, damFits, rateFits, Checks, _then_, flowRules, loadRule, takeRule, rangeRule, rateRules, bedRule, checksOf}
-use Rattle.flows.specs.FlowTable.{Decides}
+use Rattle.flows.specs.held.FlowTable.{Decides}
 use Rattle.river.proofs.Answers.{need-true, passed}
 use Rattle.flows.proofs.Orders
 use Rattle.river.proofs.range.Ranges.{ratesInRange-true, true-ratesInRange}

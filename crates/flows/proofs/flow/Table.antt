@@ -14,7 +14,7 @@ use lib.Dec.{eqb, ltb}
 use borrow.Author.Tests.{eq-eqb, ne-eqb, lt-ltb}
 use Rattle.river.specs.declared.card.Card.{Card}
 use Rattle.flows.specs.Flow.{Feeders, none, more, feedersAmong, joinedIf, deepest, reachDepth, fed}
-use Rattle.flows.specs.FlowTable.{onlyIf, tableSum, tableMax}
+use Rattle.flows.specs.held.FlowTable.{onlyIf, tableSum, tableMax}
 use Rattle.river.specs.Card.{blank}
 
 lower : {j n : ℕ} → j < n → j < suc n

@@ -16,8 +16,8 @@ use Rattle.river.specs.Source.{sourceMass}
 use Rattle.flows.specs.Flow.{flowLimit}
 use Rattle.flows.specs.Saturation.{saturation, saturationThousandths, standardPressure, pressureOf, saturationOf, ConditionsInRange, SaturationInRange}
 use Rattle.flows.specs.Head.{upstreamDemand, mixedDemand, headDemand}
-use Rattle.flows.specs.HeadTable.{DamWithin, demandLimit, DemandReady}
-use Rattle.flows.specs.Stored.{storedZero, storedLimit}
+use Rattle.flows.specs.held.HeadTable.{DamWithin, demandLimit, DemandReady}
+use Rattle.flows.specs.held.Stored.{storedZero, storedLimit}
 use Rattle.flows.proofs.head.SaturationRows
 
 -- the falling terms of the polynomial are at most the others

@@ -15,9 +15,9 @@ use Rattle.flows.specs.declared.head.FootTable.{FootTable}
 use Rattle.flows.specs.Flow.{Feeders, none, more, feedersAmong, joinedIf, flowOf, reachFlow, flowAt, massAt}
 use Rattle.flows.proofs.flow.Table.{entered}
 use Rattle.flows.proofs.head.Offset.{sub-add, times-sub}
-use Rattle.flows.specs.FlowTable.{onlyIf, tableSum}
-use Rattle.flows.specs.Stored.{storedZero, storedLimit, oxygenOf, oxygenSumOf}
-use Rattle.flows.specs.HeadTable.{noFeet, footOf, withFoot, FootWithin, FullFeet, Carried}
+use Rattle.flows.specs.held.FlowTable.{onlyIf, tableSum}
+use Rattle.flows.specs.held.Stored.{storedZero, storedLimit, oxygenOf, oxygenSumOf}
+use Rattle.flows.specs.held.HeadTable.{noFeet, footOf, withFoot, FootWithin, FullFeet, Carried}
 use Rattle.river.specs.Card.{blank}
 
 -- a foot whose demands together are at most a head's is in bounds

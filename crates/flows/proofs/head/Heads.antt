@@ -27,10 +27,10 @@ use Rattle.flows.proofs.flow.Table.{sum-of-feeders, sum-scaled, sums-sc
 use Rattle.flows.proofs.flow.Take.{flow-remains, flow-within, flow-and-take, mixed-bounded, mass-scaled, still-within}
 use Rattle.flows.proofs.head.Bounds.{head-demand-kept, conditions-in-range}
 use Rattle.flows.proofs.flow.Checks.{first-tabled, flows-add, masses-add, flow-table, mass-table}
-use Rattle.flows.specs.FlowTable.{feederSum, Tabled}
+use Rattle.flows.specs.held.FlowTable.{feederSum, Tabled}
 use Rattle.river.specs.Source.{sourceOf, sourceMass}
-use Rattle.flows.specs.Stored.{storedLimit}
-use Rattle.flows.specs.HeadTable.{DamWithin, HeadReady, DemandReady, broughtTo, BroughtFits, HeadInput, HeadOf, HeadTabled}
+use Rattle.flows.specs.held.Stored.{storedLimit}
+use Rattle.flows.specs.held.HeadTable.{DamWithin, HeadReady, DemandReady, broughtTo, BroughtFits, HeadInput, HeadOf, HeadTabled}
 
 -- feeders that pass have water
 pub flow-of-fed : (cards : List Card) (n i : ℕ) → ((j : ℕ) → j < n → ReachPasses (cardOf cards (suc j)) (above cards (suc j))) → fed (feedersAmong cards n i) ≡ true → 0 < flowOf (feedersAmong cards n i)

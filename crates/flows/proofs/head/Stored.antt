@@ -6,7 +6,7 @@ use native.Mathlib.Omega.{arith}
 use lib.IntN.{ℤ, pos, subℕ, _+ℤ_, _-ℤ_, _*ℤ_}
 use Rattle.flows.specs.Head.{floor}
 use Rattle.flows.proofs.head.Offset.{sub-pos, sub-eq, sub-plus, sub-add, sub-minus, sub-times, times-sub, floor-offset}
-use Rattle.flows.specs.Stored.{storedZero, oxygenOf, oxygenSumOf}
+use Rattle.flows.specs.held.Stored.{storedZero, oxygenOf, oxygenSumOf}
 
 -- saturation
 pub saturated-stored : (s : ℕ) → oxygenOf (storedZero + s) ≡ pos s

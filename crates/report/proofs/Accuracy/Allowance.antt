@@ -8,7 +8,8 @@ use Rattle.decay.specs.Fraction.{_≼_, ofℕ, _*ᶠ_}
 use Rattle.decay.proofs.Algebra.{quote, certify, slack, number, _⊞_, _⊠_, ÷-le, positive-whole, ofℕ-mono}
 use Rattle.river.specs.declared.card.Card.{Card}
 use Rattle.flows.specs.Flow.{Feeders, flowOf, reachFlow, deepest}
-use Rattle.report.specs.Distance.{allowance, meanAllowance, allowanceSum, broughtAllowance, waterAllowance}
+use Rattle.report.specs.Distance.{allowance}
+use Rattle.report.specs.held.Water.{meanAllowance, allowanceSum, broughtAllowance, waterAllowance}
 use Rattle.report.proofs.Forest.{AcceptedReach, AllAccepted, no-more, one-more}
 
 -- two waters together

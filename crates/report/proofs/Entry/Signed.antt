@@ -9,7 +9,7 @@ use borrow.Author.Tests.{lt-ltb}
 use mir.Facts.{toZ-ofZ}
 use mir.Syntax.{w32, w64}
 use mir.Val.{SFits, toZ, ofZ}
-use Rattle.flows.specs.Stored.{storedZero, oxygenOf}
+use Rattle.flows.specs.held.Stored.{storedZero, oxygenOf}
 use Rattle.flows.proofs.head.Offset.{sub-pos, sub-neg, minus}
 
 module _ (n : ℕ) (h : n < 4_294_967_296) where

@@ -10,7 +10,7 @@ use lib.Dec.{eqb, lit<}
 use Rattle.decay.specs.Fraction.{Fraction, _≈_, _≼_, ofℕ, _+ᶠ_, -ᶠ_, _-ᶠ_, _*ᶠ_, _÷_, distance}
 use Rattle.decay.specs.Exact.{foot, exponent, S}
 use Rattle.decay.specs.Fixed.{one, product}
-use Rattle.decay.specs.Promise.{share, deficitDistance}
+use Rattle.decay.specs.held.Promise.{share, deficitDistance}
 use Rattle.decay.proofs.fixed.Digits.{one-pos}
 use Rattle.decay.proofs.factors.Instants.{product-zero}
 use Rattle.decay.proofs.Accuracy.{accuracy}
@@ -20,10 +20,10 @@ use Rattle.river.specs.declared.card.Card.{Card}
 use Rattle.flows.specs.Flow.{Feeders, sludgeOf, reachFlow}
 use Rattle.river.specs.declared.source.Demand.the-variants.{Bod}
 use Rattle.flows.proofs.flow.Take.{flow-remains}
-use Rattle.report.specs.Bed.{bedBy, bedOf, lossWith}
-use Rattle.report.specs.Program.{factorsAlong, lossAlong}
+use Rattle.report.specs.held.Bed.{bedBy, bedOf, lossWith}
+use Rattle.report.specs.held.Along.{factorsAlong, lossAlong}
 use Rattle.report.specs.Recurrence.{exactLoss}
-use Rattle.report.specs.Distance.{lossDistance}
+use Rattle.report.specs.held.Loss.{lossDistance}
 use Rattle.report.specs.declared.bed.Bed.{Bed}
 use Rattle.report.proofs.Forest.{AcceptedReach, rates-pass}
 use Rattle.report.proofs.Ties.{factors-range}

@@ -15,7 +15,7 @@ use Rattle.river.specs.declared.card.Card.{Card}
 use Rattle.river.specs.declared.source.Demand.the-variants.{Bod, Nitrogenous}
 use Rattle.river.specs.Source.{rateOf}
 use Rattle.flows.specs.Flow.{sludgeOf}
-use Rattle.report.specs.Mean.{middle}
+use Rattle.report.specs.held.MeanAlong.{middle}
 use Rattle.report.specs.Recurrence.{exactSaturation}
 use Rattle.report.specs.ExactMean.{lossTerms, oxygenTerms}
 

@@ -5,13 +5,13 @@ use native.Mathlib.Omega.{arith}
 use lib.IntN.{ℤ, pos, _-ℤ_, _*ℤ_}
 use Rattle.decay.specs.Fraction.{Fraction, _≈_, _≼_, ofℕ, ofℤ, _+ᶠ_, -ᶠ_, _-ᶠ_, _*ᶠ_, _÷_}
 use Rattle.decay.specs.Fixed.{one, product}
-use Rattle.decay.specs.Promise.{share}
-use Rattle.decay.specs.Factors.{AreShares}
+use Rattle.decay.specs.held.Promise.{share}
+use Rattle.decay.specs.held.Factors.{AreShares}
 use Rattle.decay.specs.declared.factors.Factors.{Factors}
 use Rattle.decay.proofs.fixed.Digits.{one-pos}
 use Rattle.decay.proofs.Algebra.{Nonneg, quote, slack, _⊞_, multiple, ≈-refl, ≈-sym, ≈-trans, ≼-trans, ≼-of-≈, ofℤ-*, +ᶠ-cong, *ᶠ-cong, positive-whole, certify-over, ÷-cancel-pos, none as no-equations, ofℕ-mono, ofℕ-+}
 use Rattle.flows.specs.Head.{floor}
-use Rattle.report.specs.Program.{oxygenWith}
+use Rattle.report.specs.held.Along.{oxygenWith}
 use Rattle.report.proofs.Facts.Head.{share-of}
 use Rattle.report.proofs.Facts.Floor.{floor-rounded, ofℤ-sub}
 

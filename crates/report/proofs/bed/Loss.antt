@@ -9,9 +9,9 @@ use lib.Dec.{eqb}
 use lib.IntN.{ℤ, pos, _-ℤ_, +ℤ-idr}
 use Rattle.decay.specs.Exact.{foot}
 use Rattle.decay.specs.Fixed.{one, product}
-use Rattle.decay.specs.Step.{RatesPass, stepOf}
-use Rattle.decay.specs.Factors.{SoundStep, factorsAt}
-use Rattle.decay.specs.Mean.{meanFactors}
+use Rattle.decay.specs.held.Step.{RatesPass, stepOf}
+use Rattle.decay.specs.held.Factors.{SoundStep, factorsAt}
+use Rattle.decay.specs.held.Mean.{meanFactors}
 use Rattle.decay.specs.declared.step.Step.{Step}
 use Rattle.decay.specs.declared.factors.Factors.{Factors}
 use Rattle.decay.proofs.step.Shares.{step-fills}
@@ -19,8 +19,8 @@ use Rattle.decay.proofs.factors.Instants.{deficit-lost}
 use Rattle.decay.proofs.mean.Averages.{mean-deficit-lost}
 use Rattle.river.specs.declared.card.Card.{Card}
 use Rattle.flows.specs.Flow.{sludgeOf}
-use Rattle.report.specs.Bed.{bedBy, bedOf, noBed, lossWith, BedPasses, lossLimit, LossInRange, BedInRange}
-use Rattle.report.specs.Mean.{middle}
+use Rattle.report.specs.held.Bed.{bedBy, bedOf, noBed, lossWith, BedPasses, lossLimit, LossInRange, BedInRange}
+use Rattle.report.specs.held.MeanAlong.{middle}
 use Rattle.report.specs.declared.bed.Bed.{Bed}
 use Rattle.report.proofs.bed.Rows
 

@@ -7,8 +7,9 @@ use lib.Signed.{leZ-yes}
 use Rattle.decay.specs.Fraction.{_≈_, _≼_, ofℕ, ofℤ, _+ᶠ_, -ᶠ_, _*ᶠ_, _÷_, over}
 use Rattle.decay.specs.Exact.{foot, exponent, power, factorial, term, sum, S, F}
 use Rattle.decay.specs.Fixed.{one, product, quotient}
-use Rattle.decay.specs.Step.{exponentOf, termOf, nextTerms, termsAt, termAt, withTerm, sumOf, countFrom, seriesOf, stepOf}
-use Rattle.decay.specs.Factors.{demandFrom, headFactors, nextFactors, factorsAt}
+use Rattle.decay.specs.held.Step.{exponentOf, stepOf}
+use Rattle.decay.specs.Series.{termOf, nextTerms, termsAt, termAt, withTerm, sumOf, countFrom, seriesOf}
+use Rattle.decay.specs.held.Factors.{demandFrom, headFactors, nextFactors, factorsAt}
 use Rattle.decay.specs.declared.factors.Factors.{Factors}
 use Rattle.river.specs.declared.card.Card.{Card}
 use Rattle.river.specs.declared.card.Dam.the-variants.{Absent}
@@ -17,8 +18,9 @@ use Rattle.river.specs.declared.card.Amount.the-variants.{Without, Given}
 use Rattle.flows.specs.Flow.{none, fed, flowOf, reachFlow}
 use Rattle.flows.specs.Saturation.{saturation, saturationThousandths, saturationOf}
 use Rattle.flows.specs.Head.{floor, upstreamDemand, upstreamOxygen, belowDam, headDemand, headOxygen}
-use Rattle.report.specs.Bed.{bedBy, bedOf, lossWith}
-use Rattle.report.specs.Program.{oxygenWith, factorsAlong, partsAlong, lossAlong, turnedAlong, oxygenAlong, demandSum, oxygenSum, demandAtHead, oxygenAtHead, oxygenAt}
+use Rattle.report.specs.held.Bed.{bedBy, bedOf, lossWith}
+use Rattle.report.specs.Program.{demandSum, oxygenSum, demandAtHead, oxygenAtHead, oxygenAt}
+use Rattle.report.specs.held.Along.{oxygenWith, factorsAlong, partsAlong, lossAlong, turnedAlong, oxygenAlong}
 use Rattle.report.specs.Recurrence.{exactSaturation, exactMean, exactBelowDam, exactMixedDemand, exactMixedOxygen, exactHeadDemand, exactHeadOxygen, exactLoss, exactTurnedAlong, exactOxygenAlong, exactDemandSum, exactOxygenSum, exactDemandAtHead, exactOxygenAtHead, exactOxygenAt}
 
 -- the reach, by its rate k2; no BOD comes into it, and its oxygen is 14 mg/L

@@ -25,26 +25,27 @@ use Rattle.river.specs.declared.source.Demand.the-variants.{Bod, Nitrogenous}
 use Rattle.river.specs.Card.{blank}
 use Rattle.river.specs.Source.{sourceOf}
 use Rattle.flows.specs.Flow.{Feeders, flowLimit, takeOf, cardOf, above, feedersAmong, fed, flowOf, reachFlow, flowAt, massAt, depthAt}
-use Rattle.flows.specs.FlowTable.{feederSum}
+use Rattle.flows.specs.held.FlowTable.{feederSum}
 use Rattle.flows.specs.Head.{headDemand, headOxygen}
-use Rattle.flows.specs.HeadTable.{noFeet, footOf, withFoot, HeadInput, HeadOf, FootWithin, HeadTabled}
-use Rattle.flows.specs.Stored.{storedZero, oxygenOf, storedOf}
+use Rattle.flows.specs.held.HeadTable.{noFeet, footOf, withFoot, HeadInput, HeadOf, FootWithin, HeadTabled}
+use Rattle.flows.specs.held.Stored.{storedZero, oxygenOf, storedOf}
 use Rattle.flows.proofs.head.Offset.{sub-pos, sub-neg, minus}
 use Rattle.flows.proofs.flow.Table.{entered, Adds, TableOf, sum-of-feeders}
 use Rattle.flows.proofs.head.Feet.{AddsFlowTimes, StoredTable, oxygen-of-feeders, foot-within, carried-none, carried-next}
 use Rattle.flows.proofs.head.Heads.{fedBy, quBy, sumsBy, flow-bounded, fed-here, flow-asked, qu-here, head-input, head-within}
-use Rattle.report.specs.Bed.{lossLimit}
+use Rattle.report.specs.held.Bed.{lossLimit}
 use Rattle.report.specs.Program.{demandSum, oxygenSum, demandAtHead, oxygenAtHead, demandAt, oxygenAt, figuresBelow, figuresOf, figuresAt, foot}
 use Rattle.report.specs.Ties.{footFigure}
-use Rattle.report.specs.Record.{hasNitrification, encodeRecord, figuresIn, Figures}
+use Rattle.report.specs.Record.{hasNitrification, encodeRecord, Figures}
+use Rattle.report.specs.held.LineFigures.{figuresIn}
 use Rattle.report.specs.Status.{isUsed, reported}
 use Rattle.report.specs.declared.record.Line.{Line}
 use Rattle.report.specs.Mean.{meanOxygen}
-use Rattle.report.specs.MeanLines.{PassageBelow, ReachAveraged}
+use Rattle.report.specs.held.MeanLines.{PassageBelow, ReachAveraged}
 use Rattle.report.specs.declared.lines.HandedOn.{HandedOn}
 use Rattle.report.specs.declared.mean.Passage.{Passage}
 use Rattle.report.specs.declared.mean.Passed.{Passed}
-use Rattle.report.specs.Lines.{LineReady, HeadFits, footBy, Ready, FeetOf, LineOf, LineAt, UsedAt, HeadOfReach, ReachReported}
+use Rattle.report.specs.held.Lines.{LineReady, HeadFits, footBy, Ready, FeetOf, LineOf, LineAt, UsedAt, HeadOfReach, ReachReported}
 use Rattle.report.proofs.Facts.Floor.{ofℤ-sub}
 use Rattle.report.proofs.Bounds.{mostBelow}
 use Rattle.report.proofs.Forest.{rates-pass, bed-passes, reach-accepted}

@@ -5,8 +5,8 @@ use mathlib.Core.Bool.{Bool}
 use Prim.Native.Nat.{ℕ, _+_, _≤_, _<_}
 use native.Mathlib.Nat.{zero-mul, div-le-of-le-mul}
 use native.Mathlib.Omega.{arith}
-use Rattle.decay.specs.Step.{RatesPass, stepOf}
-use Rattle.decay.specs.Factors.{SoundStep, factorsAt}
+use Rattle.decay.specs.held.Step.{RatesPass, stepOf}
+use Rattle.decay.specs.held.Factors.{SoundStep, factorsAt}
 use Rattle.decay.specs.declared.step.Step.{Step}
 use Rattle.decay.proofs.fixed.Digits.{share-below}
 use Rattle.decay.proofs.factors.Instants.{range, demand-range}
@@ -16,18 +16,19 @@ use Rattle.river.specs.declared.source.Demand.the-variants.{Nitrogenous}
 use Rattle.river.specs.Source.{rateOf}
 use Rattle.flows.specs.Saturation.{saturationOf, SaturationInRange}
 use Rattle.flows.proofs.head.Bounds.{saturation-of-small}
-use Rattle.report.specs.Bed.{bedOf, BedPasses, lossLimit, BedInRange}
-use Rattle.report.specs.Program.{unitParts, factorsAlong, partsAlong, demandAlong, turnedAlong, lossAlong, oxygenAlong, foot, figuresBelow}
-use Rattle.report.specs.Profile.{StartInRange, startParts, Profiled, oxygenAfter}
-use Rattle.report.specs.Record.{figuresIn}
+use Rattle.report.specs.held.Bed.{bedOf, BedPasses, lossLimit, BedInRange}
+use Rattle.report.specs.Program.{foot, figuresBelow}
+use Rattle.report.specs.held.Along.{unitParts, factorsAlong, partsAlong, demandAlong, turnedAlong, lossAlong, oxygenAlong}
+use Rattle.report.specs.held.Profile.{StartInRange, startParts, Profiled, oxygenAfter}
+use Rattle.report.specs.held.LineFigures.{figuresIn}
 use Rattle.report.specs.Status.{statusBy}
 use Rattle.report.specs.declared.bed.Bed.{Bed}
 use Rattle.report.specs.declared.profile.Start.{Start}
 use Rattle.report.specs.declared.profile.Profile.{Profile}
 use Rattle.report.proofs.bed.Loss.{bed-in-range}
 use Rattle.report.proofs.Lowest.{lowest-first}
-use Rattle.flows.specs.Stored.{oxygenOf}
-use Rattle.flows.specs.HeadTable.{demandLimit}
+use Rattle.flows.specs.held.Stored.{oxygenOf}
+use Rattle.flows.specs.held.HeadTable.{demandLimit}
 
 -- the ranges of a start, and the shares of its steps
 pub start-range :

@@ -12,12 +12,12 @@ use Rattle.flows.specs.declared.head.Brought.{Brought}
 use Rattle.flows.specs.declared.head.FootTable.{FootTable}
 use Rattle.river.specs.Card.{cardList, blank}
 use Rattle.flows.specs.Flow.{above, flowAt}
-use Rattle.flows.specs.HeadTable.{noFeet, withFoot, BroughtFits, FootWithin}
+use Rattle.flows.specs.held.HeadTable.{noFeet, withFoot, BroughtFits, FootWithin}
 use Rattle.flows.proofs.flow.Count.{card-of-river}
 use Rattle.flows.proofs.head.Heads.{sumsBy, sums-fit}
 use Rattle.report.specs.Status.{isUsed}
 use Rattle.report.specs.Program.{usedAbove, figuresAt}
-use Rattle.report.specs.Lines.{footBy, FeetOf, Ready, LineAt}
+use Rattle.report.specs.held.Lines.{footBy, FeetOf, Ready, LineAt}
 use Rattle.report.proofs.lines.Feet.{head-tabled, feet-next, no-feet-yet}
 use Rattle.report.proofs.lines.Used.{UsedOf, none-used, used-here, outlet-few, used-next}
 

@@ -19,7 +19,7 @@ use Rattle.flows.specs.Flow.{Feeders, more, joinedIf, feedersAmong, cardOf, abo
 use Rattle.river.proofs.range.Ranges.{asked-at, last-outlet, later-outlet}
 use Rattle.report.specs.Status.{statusBy, isUsed, usedBy}
 use Rattle.report.specs.Program.{oxygenAt, criticalOxygen, usedAbove, figuresOf, figuresAt}
-use Rattle.report.specs.Lines.{Ready}
+use Rattle.report.specs.held.Lines.{Ready}
 
 -- a table by reach number: whether oxygen is used up at any of the first n reaches that flow into that reach, or above one of these
 pub record UsedOf (cards : List Card) (used : List Bool) (n : ℕ) : Type 0 where

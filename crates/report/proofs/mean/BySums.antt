@@ -5,9 +5,9 @@ use Prim.Native.Nat.{ℕ, zero, suc, _*_, _/_}
 use native.Mathlib.Numerals.{add-one}
 use lib.IntN.{ℤ, pos, _-ℤ_}
 use Rattle.decay.specs.Exact.{foot}
-use Rattle.decay.specs.Step.{stepOf, meanStepOf}
-use Rattle.decay.specs.Factors.{nextDemand, headFactors, nextFactors}
-use Rattle.decay.specs.Mean.{meanDemand, meanFactors, nextDemandSums, nextFactorSums, DemandSummed, FactorsSummed}
+use Rattle.decay.specs.held.Step.{stepOf, meanStepOf}
+use Rattle.decay.specs.held.Factors.{nextDemand, headFactors, nextFactors}
+use Rattle.decay.specs.held.Mean.{meanDemand, meanFactors, nextDemandSums, nextFactorSums, DemandSummed, FactorsSummed}
 use Rattle.decay.specs.declared.step.Step.{Step}
 use Rattle.decay.specs.declared.factors.DemandFactors.{DemandFactors}
 use Rattle.decay.specs.declared.factors.Factors.{Factors}
@@ -19,9 +19,11 @@ use Rattle.river.specs.declared.source.Demand.the-variants.{Bod, Nitrogenous}
 use Rattle.river.specs.Source.{rateOf}
 use Rattle.flows.specs.Flow.{Feeders, reachFlow}
 use Rattle.flows.specs.Saturation.{saturationOf}
-use Rattle.report.specs.Bed.{bedOf, lossWith}
-use Rattle.report.specs.Program.{oxygenWith, unitParts, demandAtHead, oxygenAtHead}
-use Rattle.report.specs.Mean.{middle, factorsMean, turnedMean, meanAlong, meanOxygen}
+use Rattle.report.specs.held.Bed.{bedOf, lossWith}
+use Rattle.report.specs.Program.{demandAtHead, oxygenAtHead}
+use Rattle.report.specs.held.Along.{oxygenWith, unitParts}
+use Rattle.report.specs.Mean.{meanOxygen}
+use Rattle.report.specs.held.MeanAlong.{middle, factorsMean, turnedMean, meanAlong}
 
 -- the sums at instant m
 unfoldable pub factorSums : Step → ℕ → FactorSums

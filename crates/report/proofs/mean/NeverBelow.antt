@@ -12,8 +12,8 @@ use lib.IntN.{ℤ, pos, negsuc, _-ℤ_}
 use lib.Signed.{ltZ, _≤ℤ_}
 use Rattle.decay.specs.Exact.{foot}
 use Rattle.decay.specs.Fixed.{one, product}
-use Rattle.decay.specs.Step.{stepOf}
-use Rattle.decay.specs.Factors.{AreShares, demandFrom, nextFactors, factorsAt}
+use Rattle.decay.specs.held.Step.{stepOf}
+use Rattle.decay.specs.held.Factors.{AreShares, demandFrom, nextFactors, factorsAt}
 use Rattle.decay.specs.declared.step.Step.{Step}
 use Rattle.decay.specs.declared.factors.Factors.{Factors}
 use Rattle.decay.proofs.Exponential.{UpTo, here, further, upTo}
@@ -26,13 +26,14 @@ use Rattle.river.specs.declared.source.Demand.{Demand}
 use Rattle.river.specs.declared.source.Demand.the-variants.{Bod, Nitrogenous}
 use Rattle.river.specs.Source.{rateOf}
 use Rattle.flows.specs.Saturation.{saturationOf}
-use Rattle.flows.specs.Stored.{storedZero, oxygenOf, Stores}
+use Rattle.flows.specs.held.Stored.{storedZero, oxygenOf, Stores}
 use Rattle.flows.proofs.head.Offset.{sub-pos, minus}
-use Rattle.report.specs.Bed.{bedOf, lossWith, lossLimit}
-use Rattle.report.specs.Program.{unitParts, oxygenWith, factorsAlong, partsAlong, demandAlong, turnedAlong, lossAlong, oxygenAlong, lowest}
-use Rattle.report.specs.Profile.{StartInRange}
-use Rattle.report.specs.Lines.{LineReady, HeadFits}
-use Rattle.report.specs.MeanLines.{PassageBelow}
+use Rattle.report.specs.held.Bed.{bedOf, lossWith, lossLimit}
+use Rattle.report.specs.Program.{lowest}
+use Rattle.report.specs.held.Along.{unitParts, oxygenWith, factorsAlong, partsAlong, demandAlong, turnedAlong, lossAlong, oxygenAlong}
+use Rattle.report.specs.held.Profile.{StartInRange}
+use Rattle.report.specs.held.Lines.{LineReady, HeadFits}
+use Rattle.report.specs.held.MeanLines.{PassageBelow}
 use Rattle.report.specs.declared.profile.Start.{Start}
 use Rattle.report.specs.declared.mean.Passage.{Passage}
 use Rattle.report.proofs.Lowest.{lowest-first}

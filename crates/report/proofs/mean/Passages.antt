@@ -5,9 +5,9 @@ use native.Mathlib.Nat.{le-refl, zero-mul}
 use native.Mathlib.Omega.{arith}
 use Rattle.decay.specs.Exact.{foot}
 use Rattle.decay.specs.Fixed.{one, product}
-use Rattle.decay.specs.Step.{RatesPass, stepOf, meanStepOf}
-use Rattle.decay.specs.Factors.{SoundStep, AreShares, nextDemand, nextFactors}
-use Rattle.decay.specs.Mean.{meanDemand, meanFactors, DemandSummed, FactorsSummed, DemandSumsFit, FactorSumsFit}
+use Rattle.decay.specs.held.Step.{RatesPass, stepOf, meanStepOf}
+use Rattle.decay.specs.held.Factors.{SoundStep, AreShares, nextDemand, nextFactors}
+use Rattle.decay.specs.held.Mean.{meanDemand, meanFactors, DemandSummed, FactorsSummed, DemandSumsFit, FactorSumsFit}
 use Rattle.decay.specs.declared.step.Step.{Step}
 use Rattle.decay.specs.declared.factors.DemandFactors.{DemandFactors}
 use Rattle.decay.specs.declared.factors.Factors.{Factors}
@@ -23,13 +23,13 @@ use Rattle.river.specs.declared.source.Demand.the-variants.{Bod, Nitrogenous}
 use Rattle.river.specs.Source.{rateOf}
 use Rattle.flows.specs.Saturation.{saturationOf}
 use Rattle.flows.specs.declared.head.Head.{Head}
-use Rattle.flows.specs.Stored.{oxygenOf}
-use Rattle.report.specs.Bed.{bedOf, LossInRange, lossWith}
-use Rattle.report.specs.Program.{unitParts, factorsAlong, partsAlong, demandAlong, turnedAlong, lossAlong, oxygenAlong}
-use Rattle.report.specs.Profile.{oxygenOver}
-use Rattle.report.specs.Mean.{middle, factorsMean, turnedMean, meanAlong}
-use Rattle.report.specs.MeanLines.{demandsAlong, PassageReady, HandsOn, PassageBelow}
-use Rattle.report.specs.Lines.{LineReady, HeadFits}
+use Rattle.flows.specs.held.Stored.{oxygenOf}
+use Rattle.report.specs.held.Bed.{bedOf, LossInRange, lossWith}
+use Rattle.report.specs.held.Along.{unitParts, factorsAlong, partsAlong, demandAlong, turnedAlong, lossAlong, oxygenAlong}
+use Rattle.report.specs.held.Profile.{oxygenOver}
+use Rattle.report.specs.held.MeanAlong.{middle, factorsMean, turnedMean, meanAlong}
+use Rattle.report.specs.held.MeanLines.{demandsAlong, PassageReady, HandsOn, PassageBelow}
+use Rattle.report.specs.held.Lines.{LineReady, HeadFits}
 use Rattle.report.specs.declared.bed.Bed.{Bed}
 use Rattle.report.specs.declared.profile.Start.{Start}
 use Rattle.report.specs.declared.mean.Passage.{Passage}

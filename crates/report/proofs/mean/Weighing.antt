@@ -10,12 +10,12 @@ use lib.IntN.{ℤ, pos, negsuc, negℤ, subℕ, _+ℤ_, _*ℤ_, +ℤ-comm}
 use lib.ListN.{replicate, set, length-replicate, length-set}
 use Rattle.river.specs.declared.card.Card.{Card}
 use Rattle.flows.specs.Head.{floor}
-use Rattle.flows.specs.Stored.{storedZero, storedLimit, oxygenOf, oxygenSumOf}
+use Rattle.flows.specs.held.Stored.{storedZero, storedLimit, oxygenOf, oxygenSumOf}
 use Rattle.flows.proofs.flow.Table.{entered}
 use Rattle.flows.proofs.head.Offset.{sub-pos, sub-neg, minus, sub-add, times-sub, floor-offset}
 use Rattle.report.proofs.MeanRows
 use Rattle.report.specs.Mean.{meanAt, countedVolumeAt, weightedSum, restOf, dividedBy, volumeSum}
-use Rattle.report.specs.MeanLines.{chunk, volumeLimit, weighedWith, wholeSum, Weighs, MeansTabled}
+use Rattle.report.specs.held.MeanLines.{chunk, volumeLimit, weighedWith, wholeSum, Weighs, MeansTabled}
 use Rattle.report.specs.declared.mean.Weights.{Weights}
 
 -- ---- long division by chunks of 16 bits

@@ -8,17 +8,17 @@ use lib.IntN.{ℤ, pos, negℤ, negℤ-negℤ, _-ℤ_, _*ℤ_}
 use Rattle.flows.specs.Head.{floor}
 use Rattle.flows.proofs.head.Offset.{sub-pos, sub-neg, sub-eq, minus, sub-plus}
 use Rattle.decay.specs.Fixed.{one, product}
-use Rattle.decay.specs.Factors.{AreShares}
+use Rattle.decay.specs.held.Factors.{AreShares}
 use Rattle.decay.specs.declared.factors.DemandFactors.{DemandFactors}
 use Rattle.decay.specs.declared.factors.Factors.{Factors}
 use Rattle.decay.proofs.fixed.Digits.{share-below}
-use Rattle.report.specs.Bed.{lossLimit}
-use Rattle.report.specs.Program.{unitParts, oxygenWith}
-use Rattle.report.specs.Profile.{StartInRange}
+use Rattle.report.specs.held.Bed.{lossLimit}
+use Rattle.report.specs.held.Along.{unitParts, oxygenWith}
+use Rattle.report.specs.held.Profile.{StartInRange}
 use Rattle.report.specs.declared.profile.Start.{Start}
 use Rattle.report.proofs.bed.Loss.{less-nothing}
 use Rattle.report.proofs.profile.Offset.{sub-less, less-sub, floor-surplus}
-use Rattle.flows.specs.Stored.{storedZero, oxygenOf, Stores}
+use Rattle.flows.specs.held.Stored.{storedZero, oxygenOf, Stores}
 
 -- what is left of a deficit, and of a surplus, rounded down
 floor-deficit : (k Cs c : ℕ) → c ≤ Cs + storedZero → floor (pos k *ℤ (pos Cs -ℤ oxygenOf c)) one ≡ pos (product k (Cs + storedZero - c))

@@ -11,14 +11,15 @@ use lib.Signed.{ltZ}
 use lib.Dec.{ltb, lit<}
 use borrow.Author.Tests.{lt-ltb, le-ltb, ltb-true, ltb-false}
 use Rattle.decay.specs.Fixed.{one, product}
-use Rattle.decay.specs.Factors.{SoundStep, AreShares, nextDemand, demandFrom, headFactors, nextFactors, factorsAt}
+use Rattle.decay.specs.held.Factors.{SoundStep, AreShares, nextDemand, demandFrom, headFactors, nextFactors, factorsAt}
 use Rattle.decay.specs.declared.step.Step.{Step}
 use Rattle.decay.specs.declared.factors.DemandFactors.{DemandFactors}
 use Rattle.decay.specs.declared.factors.Factors.{Factors}
 use Rattle.decay.proofs.factors.Instants.{range, demand-range, demand-kept}
-use Rattle.report.specs.Program.{Critical, lower, lowest, unitParts, foot}
-use Rattle.report.specs.Bed.{LossInRange, BedInRange}
-use Rattle.report.specs.Profile.{StartInRange, Begun, noStep, startParts, wholeDemand, oxygenOver, oxygenAfter, WalkedTo, BothWalkedTo, seenAt, Profiled}
+use Rattle.report.specs.Program.{Critical, lower, lowest, foot}
+use Rattle.report.specs.held.Along.{unitParts}
+use Rattle.report.specs.held.Bed.{LossInRange, BedInRange}
+use Rattle.report.specs.held.Profile.{StartInRange, Begun, noStep, startParts, wholeDemand, oxygenOver, oxygenAfter, WalkedTo, BothWalkedTo, seenAt, Profiled}
 use Rattle.report.specs.declared.bed.Bed.{Bed}
 use Rattle.report.specs.declared.profile.Start.{Start}
 use Rattle.report.specs.declared.profile.Walk.{Walk}
@@ -27,7 +28,7 @@ use Rattle.report.specs.declared.profile.Profile.{Profile}
 use Rattle.report.proofs.bed.Loss.{head-loss, loss-in-range}
 use Rattle.report.proofs.profile.Offset.{sub-order}
 use Rattle.report.proofs.profile.Oxygen.{nothing-less, no-parts}
-use Rattle.flows.specs.Stored.{storedZero, oxygenOf, Stores}
+use Rattle.flows.specs.held.Stored.{storedZero, oxygenOf, Stores}
 
 module _ (at : ℕ → ℤ) (m o w : ℕ) (here : Stores o (at (suc m))) (so-far : Stores w (lowest at m .oxygen)) where
   pub lower-here : o < w → lowest at (suc m) ≡ record { instant = suc m; oxygen = at (suc m) }

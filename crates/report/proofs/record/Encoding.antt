@@ -10,7 +10,7 @@ use borrow.Author.Tests.{lt-ltb, le-ltb}
 use lib.IntN.{pos, negsuc}
 use lib.ListN.{length, take}
 use Rattle.flows.proofs.head.Offset.{sub-pos, sub-neg}
-use Rattle.flows.specs.Stored.{storedZero, oxygenOf}
+use Rattle.flows.specs.held.Stored.{storedZero, oxygenOf}
 use Rattle.report.specs.Record.{complement, fromComplement, plainBytes, nitrogenousBytes, encodePlain, encodeNitrogenous, encodeRecord, recordBytes, nitrogenousAt, readRecord, Figures}
 use Rattle.report.proofs.record.Bytes
 

@@ -6,7 +6,7 @@ use lib.IntN.{ℤ, pos, negsuc, _+ℤ_}
 use mir.Syntax.{w32, w64}
 use mir.Val.{Fits, SFits, toZ, ofZ}
 use mir.Facts.{sfits-widen, sfits-toZ, fits-ofZ, toZ-ofZ}
-use Rattle.flows.specs.Stored.{storedZero, oxygenOf, storedOf}
+use Rattle.flows.specs.held.Stored.{storedZero, oxygenOf, storedOf}
 use Rattle.flows.proofs.head.Offset.{sub-pos, sub-neg}
 
 -- the sum, and what it stands for

@@ -3,7 +3,7 @@ use mathlib.Core.Path.{_≡_, ap, _∙_}
 use mathlib.Core.List.{_++_}
 use Prim.Native.Nat.{ℕ, _-_, _≤_, _<_}
 use native.Mathlib.Omega.{arith}
-use Rattle.flows.specs.Stored.{storedZero, oxygenOf}
+use Rattle.flows.specs.held.Stored.{storedZero, oxygenOf}
 use Rattle.flows.proofs.head.Offset.{sub-neg, sub-pos}
 use Rattle.text.specs.Text.{ascii, number, signed}
 

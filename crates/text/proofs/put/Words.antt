@@ -6,7 +6,7 @@ use native.Mathlib.Numerals.{add-one}
 use native.Mathlib.Omega.{arith}
 use lib.ListN.{length, drop, length-map, List·getD-map, drop-of-length-le}
 use lib.Seq.{drop-cons}
-use Rattle.flows.specs.Stored.{oxygenOf}
+use Rattle.flows.specs.held.Stored.{oxygenOf}
 use Rattle.text.specs.Text.{ascii, signed, afterWord, line}
 use Rattle.text.specs.Held.{wordAt, wordsOf}
 

@@ -1,7 +1,7 @@
 -- `factors::next` meets its contract: nothing that a step takes is more than what is there. Assumes nothing.
 use native.Mathlib.Omega.{arith}
 use borrow.Author.Needs.{needs}
-use Rattle.decay.specs.Factors.{nextFactors}
+use Rattle.decay.specs.held.Factors.{nextFactors}
 use Rattle.decay.proofs.factors.Instants.{filled-kept}
 use Rattle.decay.proofs.factors.next.Statement.{statement}
 use Rattle.decay.proofs.factors.next.Tie as tie

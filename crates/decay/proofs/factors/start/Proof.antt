@@ -1,6 +1,6 @@
 -- `factors::start` meets its contract. Assumes nothing.
 use mathlib.Core.Path.{refl}
-use Rattle.decay.specs.Factors.{headFactors}
+use Rattle.decay.specs.held.Factors.{headFactors}
 use Rattle.decay.proofs.factors.start.Statement.{statement}
 use Rattle.decay.proofs.factors.start.Tie as tie
 

@@ -3,7 +3,8 @@ use Prim.Native.Nat.{ℕ, _*_, _/_, _%_, _≤_}
 use native.Mathlib.Nat.{mul-le-mul, mod-lt, le-of-lt}
 use native.Mathlib.Omega.{arith}
 use lib.Dec.{lit<}
-use Rattle.decay.specs.Fixed.{one, small}
+use Rattle.decay.specs.Fixed.{one}
+use Rattle.decay.specs.held.Digits.{small}
 use Rattle.decay.proofs.fixed.Digits.{product-halves}
 use Rattle.decay.proofs.fixed.product.Statement.{statement}
 use Rattle.decay.proofs.fixed.product.Tie as tie

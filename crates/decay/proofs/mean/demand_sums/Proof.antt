@@ -4,7 +4,7 @@ use mathlib.Core.Path.{_≡_}
 use Prim.Native.Nat.{_≤_, _-_}
 use native.Mathlib.Omega.{arith}
 use Rattle.decay.specs.Exact.{foot}
-use Rattle.decay.specs.Mean.{DemandSummed}
+use Rattle.decay.specs.held.Mean.{DemandSummed}
 use Rattle.decay.proofs.mean.Averages.{demand-sums-begin, demand-sums-next, demand-sums-fit}
 use Rattle.decay.proofs.mean.demand_sums.Statement.{statement}
 use Rattle.decay.proofs.mean.demand_sums.Tie as tie

@@ -5,7 +5,7 @@ use Prim.Native.Nat.{_≤_, _-_}
 use native.Mathlib.Omega.{arith}
 use borrow.Author.Needs.{needs}
 use Rattle.decay.specs.Exact.{foot}
-use Rattle.decay.specs.Mean.{FactorsSummed}
+use Rattle.decay.specs.held.Mean.{FactorsSummed}
 use Rattle.decay.proofs.mean.Averages.{factor-sums-begin, factor-sums-next, factor-sums-fit}
 use Rattle.decay.proofs.mean.factor_sums.Statement.{statement}
 use Rattle.decay.proofs.mean.factor_sums.Tie as tie

@@ -1,7 +1,7 @@
 -- `step::exponent` meets its contract: the arguments of the quotient are in range by check 11, and so is the quotient. Assumes nothing.
 use mathlib.Core.Path.{_≡_}
 use borrow.Author.Needs.{needs}
-use Rattle.decay.specs.Step.{exponentOf}
+use Rattle.decay.specs.held.Step.{exponentOf}
 use Rattle.decay.proofs.step.Shares.{exponent-small}
 use Rattle.decay.proofs.step.exponent.Statement.{statement}
 use Rattle.decay.proofs.step.exponent.Tie as tie

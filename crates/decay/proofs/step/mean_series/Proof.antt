@@ -2,7 +2,8 @@
 use mathlib.Core.Path.{_≡_, refl, sym, _∙_, ap}
 use Prim.Native.Nat.{ℕ, _+_, _-_, _/_, _≤_, _<_}
 use native.Mathlib.Omega.{arith}
-use Rattle.decay.specs.Step.{nextTerms, termsAt, termAt, withTerm, mostTerms, meanSumOf}
+use Rattle.decay.specs.held.Step.{meanSumOf}
+use Rattle.decay.specs.Series.{nextTerms, termsAt, termAt, withTerm, mostTerms}
 use Rattle.decay.specs.declared.step.Terms.{Terms}
 use Rattle.decay.proofs.step.Shares.{next-term, terms-small}
 use Rattle.decay.proofs.step.MeanShares.{mean-first, mean-next, mean-fits}

@@ -1,6 +1,6 @@
 -- `step::mean_step_of` meets its contract: the exponents are small, and the shares are the means of the series. Assumes nothing.
 use borrow.Author.Needs.{needs}
-use Rattle.decay.specs.Step.{meanStepOf}
+use Rattle.decay.specs.held.Step.{meanStepOf}
 use Rattle.decay.proofs.step.mean_step_of.Statement.{statement}
 use Rattle.decay.proofs.step.mean_step_of.Tie as tie
 

@@ -1,6 +1,6 @@
 -- `step::next_terms` meets its contract: each term is in range. Assumes nothing.
 use borrow.Author.Needs.{needs}
-use Rattle.decay.specs.Step.{nextTerms}
+use Rattle.decay.specs.Series.{nextTerms}
 use Rattle.decay.proofs.step.next_terms.Statement.{statement}
 use Rattle.decay.proofs.step.next_terms.Tie as tie
 

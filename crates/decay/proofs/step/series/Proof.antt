@@ -2,7 +2,7 @@
 use mathlib.Core.Path.{_≡_, refl, sym, _∙_, ap, subst}
 use Prim.Native.Nat.{ℕ, _+_, _-_, _≤_, _<_}
 use native.Mathlib.Omega.{arith}
-use Rattle.decay.specs.Step.{nextTerms, termsAt, termAt, withTerm, sumOf, mostTerms, countFrom, seriesOf, SumsExactly}
+use Rattle.decay.specs.Series.{nextTerms, termsAt, termAt, withTerm, sumOf, mostTerms, countFrom, seriesOf, SumsExactly}
 use Rattle.decay.specs.declared.step.Terms.{Terms}
 use Rattle.decay.proofs.step.Shares.{next-term, next-sum, stops-here, ends-here, counts-next, series-exact, terms-small, first-sum, sum-fits}
 use Rattle.decay.proofs.step.series.Statement.{statement}

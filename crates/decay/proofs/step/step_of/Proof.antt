@@ -1,6 +1,6 @@
 -- `step::step_of` meets its contract: the exponents are small, and the shares are the sums of the series. Assumes nothing.
 use borrow.Author.Needs.{needs}
-use Rattle.decay.specs.Step.{stepOf}
+use Rattle.decay.specs.held.Step.{stepOf}
 use Rattle.decay.proofs.step.step_of.Statement.{statement}
 use Rattle.decay.proofs.step.step_of.Tie as tie
 

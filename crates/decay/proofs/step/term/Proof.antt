@@ -1,6 +1,6 @@
 -- `step::term` meets its contract: it is one product and one quotient. Assumes nothing.
 use borrow.Author.Needs.{needs}
-use Rattle.decay.specs.Step.{termOf}
+use Rattle.decay.specs.Series.{termOf}
 use Rattle.decay.proofs.step.term.Statement.{statement}
 use Rattle.decay.proofs.step.term.Tie as tie
 

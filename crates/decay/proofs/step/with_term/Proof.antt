@@ -1,7 +1,7 @@
 -- `step::with_term` meets its contract: the term is no larger than the sum, which is small. Assumes nothing.
 use borrow.Author.Needs.{needs}
 use borrow.Author.Tests.{eq-eqb, ne-eqb}
-use Rattle.decay.specs.Step.{withTerm}
+use Rattle.decay.specs.Series.{withTerm}
 use Rattle.decay.proofs.step.with_term.Statement.{statement}
 use Rattle.decay.proofs.step.with_term.Tie as tie
 

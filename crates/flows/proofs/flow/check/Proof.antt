@@ -4,7 +4,7 @@ use borrow.Author.Needs.{needs}
 use native.Mathlib.Omega.{arith}
 use Rattle.river.specs.declared.refusal.Outcome.{Outcome}
 use Rattle.flows.specs.Flow.{Checks, _then_, takeOf, flowRules, loadRule, takeRule, checksOf}
-use Rattle.flows.specs.FlowTable.{Decides}
+use Rattle.flows.specs.held.FlowTable.{Decides}
 use Rattle.flows.proofs.flow.Groups.{flow-rules-ask, take-rule-asks, decided, stops, leaves}
 use Rattle.flows.proofs.flow.check.Statement.{statement}
 use Rattle.flows.proofs.flow.check.Tie as tie

@@ -10,7 +10,7 @@ use Rattle.flows.specs.declared.flow.FlowTable.{FlowTable}
 use Rattle.flows.specs.declared.flow.Upstream.{Upstream}
 use Rattle.river.specs.Card.{cardList, blank}
 use Rattle.flows.specs.Flow.{cardOf}
-use Rattle.flows.specs.FlowTable.{Underway, CheckAt, upstreamBy}
+use Rattle.flows.specs.held.FlowTable.{Underway, CheckAt, upstreamBy}
 use Rattle.flows.proofs.flow.Count.{card-of-river}
 use Rattle.flows.proofs.flow.Checks.{Full, full-next, sums-fit}
 use Rattle.flows.proofs.flow.FlowCheck.{at-refusal, at-next, at-end}

@@ -6,7 +6,7 @@ use native.Mathlib.Omega.{arith}
 use Prim.Native.Nat.{_<_}
 use lib.ListN.{length}
 use Rattle.river.specs.Card.{FieldsInRange}
-use Rattle.flows.specs.FlowTable.{Underway}
+use Rattle.flows.specs.held.FlowTable.{Underway}
 use Rattle.flows.proofs.flow.Count.{card-in-range, card-sources, own-mass-few}
 use Rattle.flows.proofs.flow.Groups.{checks-ask, decided}
 use Rattle.flows.proofs.flow.Checks.{gathered-small, next-refused, next-passed}

@@ -6,7 +6,7 @@ use native.Mathlib.Omega.{arith}
 use borrow.Author.Needs.{needs}
 use Rattle.flows.proofs.flow.Table.{max-feeder, max-other}
 use Rattle.flows.proofs.flow.feeder_depth.Statement.{statement}
-use Rattle.flows.specs.FlowTable.{tableMax}
+use Rattle.flows.specs.held.FlowTable.{tableMax}
 use Rattle.flows.proofs.flow.feeder_depth.Tie as tie
 
 abbrev Inv-loop : tie.InvT-loop

@@ -5,7 +5,7 @@ use Prim.Native.Nat.{ℕ, _+_, _≤_, _-_}
 use native.Mathlib.Omega.{arith}
 use Rattle.flows.proofs.flow.Table.{sum-feeder, sum-other, sum-grows}
 use Rattle.flows.proofs.flow.feeder_sum.Statement.{statement}
-use Rattle.flows.specs.FlowTable.{tableSum}
+use Rattle.flows.specs.held.FlowTable.{tableSum}
 use Rattle.flows.proofs.flow.feeder_sum.Tie as tie
 
 abbrev Inv-loop : tie.InvT-loop

@@ -3,7 +3,7 @@ use borrow.Author.Needs.{needs}
 use Prim.Native.Nat.{_≤_}
 use native.Mathlib.Nat.{mul-le-mul}
 use native.Mathlib.Omega.{arith}
-use Rattle.flows.specs.Stored.{storedLimit}
+use Rattle.flows.specs.held.Stored.{storedLimit}
 use Rattle.flows.proofs.head.foot_of.Statement.{statement}
 use Rattle.flows.proofs.head.foot_of.Tie as tie
 

@@ -3,7 +3,7 @@ use borrow.Author.Needs.{needs}
 use Prim.Native.Nat.{_≤_}
 use native.Mathlib.Omega.{arith}
 use Rattle.flows.specs.Head.{headOxygen}
-use Rattle.flows.specs.Stored.{storedLimit}
+use Rattle.flows.specs.held.Stored.{storedLimit}
 use Rattle.flows.proofs.head.Bounds.{oxygen-total, oxygen-small}
 use Rattle.flows.proofs.head.Stored.{mixed-stored}
 use Rattle.flows.proofs.head.head_oxygen.Statement.{statement}

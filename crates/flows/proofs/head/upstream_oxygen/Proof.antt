@@ -7,7 +7,7 @@ use native.Mathlib.Omega.{arith}
 use Rattle.flows.specs.Head.{upstreamOxygen, belowDam}
 use Rattle.flows.proofs.head.Stored.{mean-stored}
 use Rattle.flows.proofs.head.upstream_oxygen.Statement.{statement}
-use Rattle.flows.specs.Stored.{oxygenOf}
+use Rattle.flows.specs.held.Stored.{oxygenOf}
 use Rattle.flows.proofs.head.upstream_oxygen.Tie as tie
 
 div-below-dam : tie.Need-div-below-dam

@@ -6,7 +6,7 @@ use lib.ListN.{length}
 use native.Mathlib.Omega.{arith}
 use borrow.Author.Needs.{needs}
 use Rattle.river.specs.Card.{cardList}
-use Rattle.flows.specs.HeadTable.{Carried}
+use Rattle.flows.specs.held.HeadTable.{Carried}
 use Rattle.flows.proofs.head.Feet.{carried-none, carried-next}
 use Rattle.head_vectors.proofs.shown.reaches.Statement.{statement}
 use Rattle.head_vectors.proofs.shown.reaches.Tie as tie

@@ -4,7 +4,7 @@ use native.Mathlib.Omega.{arith}
 use borrow.Author.Needs.{needs}
 use borrow.Author.Tests.{eq-eqb, ne-eqb}
 use Rattle.flows.specs.Flow.{bedLimit}
-use Rattle.report.specs.Bed.{bedBy, bedOf}
+use Rattle.report.specs.held.Bed.{bedBy, bedOf}
 use Rattle.report.proofs.bed.bed_of.Statement.{statement}
 use Rattle.report.proofs.bed.bed_of.Tie as tie
 

@@ -2,7 +2,7 @@
 use native.Mathlib.Nat.{mul-le-mul}
 use native.Mathlib.Omega.{arith}
 use borrow.Author.Needs.{needs}
-use Rattle.report.specs.Bed.{lossWith}
+use Rattle.report.specs.held.Bed.{lossWith}
 use Rattle.report.proofs.bed.loss_with.Statement.{statement}
 use Rattle.report.proofs.bed.loss_with.Tie as tie
 

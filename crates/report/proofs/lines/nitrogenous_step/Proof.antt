@@ -2,7 +2,7 @@
 use mathlib.Core.Path.{_≡_, sym, ap, _∙_}
 use Prim.Native.Nat.{ℕ}
 use borrow.Author.Needs.{needs}
-use Rattle.decay.specs.Step.{RatesPass, stepOf}
+use Rattle.decay.specs.held.Step.{RatesPass, stepOf}
 use Rattle.decay.specs.declared.step.Step.{Step}
 use Rattle.report.proofs.lines.Lines.{idle-step, filled-alike}
 use Rattle.report.proofs.lines.nitrogenous_step.Statement.{statement}

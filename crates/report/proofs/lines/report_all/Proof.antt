@@ -14,13 +14,13 @@ use Rattle.flows.specs.declared.flow.FlowTable.{FlowTable}
 use Rattle.flows.specs.declared.head.Brought.{Brought}
 use Rattle.flows.specs.declared.head.FootTable.{FootTable}
 use Rattle.river.specs.Card.{cardList, blank}
-use Rattle.flows.specs.HeadTable.{withFoot}
+use Rattle.flows.specs.held.HeadTable.{withFoot}
 use Rattle.flows.proofs.head.Heads.{sumsBy}
 use Rattle.report.specs.Program.{reportedAt}
 use Rattle.report.specs.Record.{hasNitrification, recordBytes, recordSize}
 use Rattle.report.specs.Report.{recordOf, reportSize}
 use Rattle.report.specs.declared.lines.HandedOn.{HandedOn}
-use Rattle.report.specs.Lines.{PlacedAt, ReachReported}
+use Rattle.report.specs.held.Lines.{PlacedAt, ReachReported}
 use Rattle.report.proofs.record.Encoding.{record-length}
 use Rattle.report.proofs.record.Rows.{Filled, fill-start, fill-more, row-fits}
 use Rattle.report.proofs.lines.Reaches.{Reaches, none-yet, all-reaches, here, few, outlet-here, sums-asked, used-told, line-here, one-further}

@@ -14,12 +14,12 @@ use Rattle.flows.specs.declared.flow.FlowTable.{FlowTable}
 use Rattle.flows.specs.declared.head.FootTable.{FootTable}
 use Rattle.river.specs.Card.{cardList, blank}
 use Rattle.flows.specs.Flow.{cardOf, above}
-use Rattle.flows.specs.HeadTable.{withFoot}
-use Rattle.flows.specs.Stored.{storedLimit}
+use Rattle.flows.specs.held.HeadTable.{withFoot}
+use Rattle.flows.specs.held.Stored.{storedLimit}
 use Rattle.flows.proofs.flow.Count.{card-of-river}
 use Rattle.report.specs.Program.{usedAbove}
 use Rattle.report.specs.Mean.{countedVolumeAt}
-use Rattle.report.specs.MeanLines.{volumeLimit, weighedWith, Weighs, MeansTabled, RoomToWeigh, ReachAveraged}
+use Rattle.report.specs.held.MeanLines.{volumeLimit, weighedWith, Weighs, MeansTabled, RoomToWeigh, ReachAveraged}
 use Rattle.report.specs.declared.mean.Passed.{Passed}
 use Rattle.report.specs.declared.mean.Weights.{Weights}
 use Rattle.report.proofs.Forest.{reach-accepted}

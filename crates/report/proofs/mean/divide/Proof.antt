@@ -4,8 +4,8 @@ use Prim.Native.Nat.{_*_, _+_, _/_, _%_, _≤_, _<_}
 use native.Mathlib.Nat.{mod-lt}
 use native.Mathlib.Omega.{arith}
 use borrow.Author.Needs.{needs}
-use Rattle.flows.specs.Stored.{storedLimit}
-use Rattle.report.specs.MeanLines.{chunk, wholeSum, Divisible}
+use Rattle.flows.specs.held.Stored.{storedLimit}
+use Rattle.report.specs.held.MeanLines.{chunk, wholeSum, Divisible}
 use Rattle.report.specs.declared.mean.Weights.{Weights}
 use Rattle.report.proofs.mean.Weighing.{long-quotient, long-remainder, quotient-fits}
 use Rattle.report.proofs.mean.divide.Statement.{statement}

@@ -6,11 +6,11 @@ use borrow.Author.Needs.{needs}
 use Rattle.decay.specs.Exact.{foot}
 use Rattle.river.specs.declared.card.Card.{Card}
 use Rattle.flows.specs.declared.head.Head.{Head}
-use Rattle.flows.specs.Stored.{oxygenOf}
+use Rattle.flows.specs.held.Stored.{oxygenOf}
 use Rattle.report.specs.Record.{Figures}
 use Rattle.report.specs.Status.{statusBy, isUsed}
-use Rattle.report.specs.Lines.{LineReady, HeadFits}
-use Rattle.report.specs.MeanLines.{PassageBelow, PassedBelow}
+use Rattle.report.specs.held.Lines.{LineReady, HeadFits}
+use Rattle.report.specs.held.MeanLines.{PassageBelow, PassedBelow}
 use Rattle.report.specs.declared.mean.Passage.{Passage}
 use Rattle.report.proofs.mean.NeverBelow.{lowest-above}
 use Rattle.report.proofs.mean.is_used_up.Statement.{statement}

@@ -8,7 +8,7 @@ use native.Mathlib.Omega.{arith}
 use lib.ListN.{length}
 use borrow.Author.Needs.{needs}
 use Rattle.report.specs.Mean.{meanBytes}
-use Rattle.report.specs.MeanLines.{storedRow}
+use Rattle.report.specs.held.MeanLines.{storedRow}
 use Rattle.report.proofs.record.Rows.{Filled, fill-start, fill-more, row-fits}
 use Rattle.report.proofs.mean.put_table.Statement.{statement}
 use Rattle.report.proofs.mean.put_table.Tie as tie

@@ -5,7 +5,7 @@ use borrow.Author.Needs.{needs}
 use native.Mathlib.Omega.{arith}
 use Rattle.decay.specs.Fixed.{one}
 use Rattle.decay.proofs.fixed.Digits.{share-below}
-use Rattle.flows.specs.Stored.{storedZero}
+use Rattle.flows.specs.held.Stored.{storedZero}
 use Rattle.report.proofs.profile.Oxygen.{turned-below, holds-under, holds-over}
 use Rattle.report.proofs.profile.oxygen_with.Statement.{statement}
 use Rattle.report.proofs.profile.oxygen_with.Tie as tie

@@ -3,7 +3,7 @@ use borrow.Author.Needs.{needs}
 use native.Mathlib.Nat.{le-refl}
 use native.Mathlib.Omega.{arith}
 use Rattle.report.specs.Program.{foot}
-use Rattle.report.specs.Profile.{noStep}
+use Rattle.report.specs.held.Profile.{noStep}
 use Rattle.report.proofs.profile.Steps.{walk-shares, walk-loss, alone-ends}
 use Rattle.report.proofs.profile.profile_alone.Statement.{statement}
 use Rattle.report.proofs.profile.profile_alone.Tie as tie

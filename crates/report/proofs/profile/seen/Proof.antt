@@ -1,6 +1,6 @@
 -- `report::profile::seen` meets its contract, by the test of the lowest oxygen. Assumes nothing.
 use borrow.Author.Tests.{lt-ltb, le-ltb}
-use Rattle.report.specs.Profile.{seenAt}
+use Rattle.report.specs.held.Profile.{seenAt}
 use Rattle.report.proofs.profile.seen.Statement.{statement}
 use Rattle.report.proofs.profile.seen.Tie as tie
 

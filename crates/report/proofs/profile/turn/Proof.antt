@@ -4,8 +4,8 @@ use Prim.Native.Nat.{suc}
 use native.Mathlib.Numerals.{add-one}
 use borrow.Author.Needs.{needs}
 use Rattle.decay.proofs.factors.Instants.{range, demand-kept}
-use Rattle.report.specs.Bed.{noBed}
-use Rattle.report.specs.Profile.{noStep, startParts}
+use Rattle.report.specs.held.Bed.{noBed}
+use Rattle.report.specs.held.Profile.{noStep, startParts}
 use Rattle.report.proofs.bed.Loss.{no-bed-loss}
 use Rattle.report.proofs.profile.Oxygen.{nothing-less, no-parts}
 use Rattle.report.proofs.profile.Steps.{next-shares, walk-seen}

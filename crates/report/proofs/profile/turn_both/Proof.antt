@@ -2,7 +2,7 @@
 use Prim.Native.Nat.{suc, _+_}
 use native.Mathlib.Numerals.{add-one}
 use borrow.Author.Needs.{needs}
-use Rattle.report.specs.Bed.{noBed}
+use Rattle.report.specs.held.Bed.{noBed}
 use Rattle.report.proofs.bed.Loss.{no-bed-loss}
 use Rattle.report.proofs.profile.Oxygen.{nothing-less}
 use Rattle.report.proofs.profile.Steps.{walk-shares, next-shares, demand-parts, walk-seen}

@@ -4,7 +4,7 @@ use Prim.Native.Nat.{suc}
 use native.Mathlib.Numerals.{add-one}
 use borrow.Author.Needs.{needs}
 use Rattle.decay.proofs.factors.Instants.{range, demand-kept}
-use Rattle.report.specs.Profile.{noStep, startParts}
+use Rattle.report.specs.held.Profile.{noStep, startParts}
 use Rattle.report.proofs.profile.Steps.{next-shares, next-loss, walk-seen}
 use Rattle.report.proofs.profile.turn_over.Statement.{statement}
 use Rattle.report.proofs.profile.turn_over.Tie as tie

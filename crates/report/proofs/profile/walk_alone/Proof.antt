@@ -3,7 +3,7 @@ use mathlib.Core.Path.{_≡_, refl, subst, sym}
 use mathlib.Core.Bool.{Bool, true, false, not}
 use borrow.Author.Needs.{needs}
 use Rattle.report.specs.Program.{foot}
-use Rattle.report.specs.Profile.{noStep, WalkedTo}
+use Rattle.report.specs.held.Profile.{noStep, WalkedTo}
 use Rattle.report.specs.declared.bed.Bed.{Bed}
 use Rattle.report.proofs.profile.walk_alone.Statement.{statement}
 use Rattle.report.proofs.profile.walk_alone.Tie as tie

@@ -3,9 +3,9 @@
 use mathlib.Core.Path.{_≡_}
 use Prim.Native.Nat.{_≤_, _-_}
 use native.Mathlib.Omega.{arith}
-use Rattle.report.specs.Bed.{noBed}
+use Rattle.report.specs.held.Bed.{noBed}
 use Rattle.report.specs.Program.{foot}
-use Rattle.report.specs.Profile.{noStep, WalkedTo}
+use Rattle.report.specs.held.Profile.{noStep, WalkedTo}
 use Rattle.report.proofs.profile.Steps.{walk-begins}
 use Rattle.report.proofs.profile.walk_down.Statement.{statement}
 use Rattle.report.proofs.profile.walk_down.Tie as tie

@@ -4,9 +4,9 @@ use mathlib.Core.Path.{_≡_, _∙_}
 use Prim.Native.Nat.{_≤_, _-_}
 use native.Mathlib.Omega.{arith}
 use borrow.Author.Needs.{needs}
-use Rattle.decay.specs.Factors.{demandFrom}
+use Rattle.decay.specs.held.Factors.{demandFrom}
 use Rattle.report.specs.Program.{foot}
-use Rattle.report.specs.Profile.{startParts, WalkedTo}
+use Rattle.report.specs.held.Profile.{startParts, WalkedTo}
 use Rattle.report.proofs.profile.Steps.{walk-begins, demand-shares, demand-after}
 use Rattle.report.proofs.profile.walk_over_both.Statement.{statement}
 use Rattle.report.proofs.profile.walk_over_both.Tie as tie

@@ -2,7 +2,7 @@
 use mathlib.Core.Path.{subst, sym}
 use borrow.Author.Needs.{needs}
 use Rattle.report.specs.Program.{foot}
-use Rattle.report.specs.Profile.{BothWalkedTo}
+use Rattle.report.specs.held.Profile.{BothWalkedTo}
 use Rattle.report.specs.declared.bed.Bed.{Bed}
 use Rattle.report.proofs.profile.walk_to_foot.Statement.{statement}
 use Rattle.report.proofs.profile.walk_to_foot.Tie as tie

@@ -1,6 +1,6 @@
 -- `report::status::reported` meets its contract, by its test of the status. Assumes nothing.
 use borrow.Author.Tests.{eq-eqb, ne-eqb}
-use Rattle.flows.specs.Stored.{oxygenOf}
+use Rattle.flows.specs.held.Stored.{oxygenOf}
 use Rattle.report.specs.Status.{shownNumber, shownOxygen}
 use Rattle.report.proofs.status.reported.Statement.{statement}
 use Rattle.report.proofs.status.reported.Tie as tie

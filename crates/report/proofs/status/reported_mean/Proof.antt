@@ -1,5 +1,5 @@
 -- `report::status::reported_mean` meets its contract. Assumes nothing.
-use Rattle.flows.specs.Stored.{oxygenOf}
+use Rattle.flows.specs.held.Stored.{oxygenOf}
 use Rattle.report.proofs.status.reported_mean.Statement.{statement}
 use Rattle.report.proofs.status.reported_mean.Tie as tie
 

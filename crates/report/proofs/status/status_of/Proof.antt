@@ -5,7 +5,7 @@ use borrow.Author.Tests.{lt-ltb, le-ltb}
 use lib.Dec.{ltb}
 use lib.IntN.{pos}
 use lib.Signed.{ltZ}
-use Rattle.flows.specs.Stored.{storedZero, oxygenOf}
+use Rattle.flows.specs.held.Stored.{storedZero, oxygenOf}
 use Rattle.report.specs.Status.{statusBy}
 use Rattle.report.proofs.profile.Offset.{sub-order}
 use Rattle.report.proofs.status.status_of.Statement.{statement}

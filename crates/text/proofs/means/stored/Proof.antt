@@ -7,7 +7,7 @@ use lib.Signed.{nonNeg}
 use mir.Syntax.{w32, w64}
 use mir.Val.{Fits, SFits}
 use mir.Facts.{sfits-widen, sfits-toZ, fits-ofZ}
-use Rattle.flows.specs.Stored.{oxygenOf}
+use Rattle.flows.specs.held.Stored.{oxygenOf}
 use Rattle.text.proofs.means.Units.{stands-for, sum-fits, stored-fits, sum-held, sum-read}
 use Rattle.text.proofs.means.stored.Statement.{statement}
 use Rattle.text.proofs.means.stored.Tie as tie

@@ -5,9 +5,9 @@ use Rattle.decay.specs.Fraction.{Fraction, ofℕ, _+ᶠ_, _*ᶠ_, _÷_, 
 use Rattle.decay.specs.Exact.{exponent, S, F}
 use Rattle.decay.specs.Integral.{meanS, meanF}
 use Rattle.decay.specs.Fixed.{one}
-use Rattle.decay.specs.Step.{stepOf}
-use Rattle.decay.specs.Factors.{demandFrom, factorsAt}
-use Rattle.decay.specs.Mean.{meanFactorsOf, meanDemandOf}
+use Rattle.decay.specs.held.Step.{stepOf}
+use Rattle.decay.specs.held.Factors.{demandFrom, factorsAt}
+use Rattle.decay.specs.held.Mean.{meanFactorsOf, meanDemandOf}
 use Rattle.decay.specs.declared.factors.Factors.{Factors}
 
 -- a fixed-point number as a share of one

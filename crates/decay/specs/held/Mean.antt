@@ -4,8 +4,8 @@ use mathlib.Core.Path.{_≡_}
 use Prim.Native.Nat.{ℕ, zero, suc, _+_, _*_, _/_, _≤_}
 use Rattle.decay.specs.Exact.{foot}
 use Rattle.decay.specs.Fixed.{one}
-use Rattle.decay.specs.Step.{meanStepOf, stepOf}
-use Rattle.decay.specs.Factors.{AreShares, nextDemand, demandFrom, nextFactors, factorsAt}
+use Rattle.decay.specs.held.Step.{meanStepOf, stepOf}
+use Rattle.decay.specs.held.Factors.{AreShares, nextDemand, demandFrom, nextFactors, factorsAt}
 use Rattle.decay.specs.declared.step.Step.{Step}
 use Rattle.decay.specs.declared.factors.DemandFactors.{DemandFactors}
 use Rattle.decay.specs.declared.factors.Factors.{Factors}

@@ -9,9 +9,9 @@ use lib.ListN.{length, getD}
 use lib.Signed.{_≤ℤ_}
 use Rattle.decay.specs.Exact.{foot}
 use Rattle.decay.specs.Fixed.{product}
-use Rattle.decay.specs.Mean.{meanDemandOf, meanFactors}
-use Rattle.decay.specs.Factors.{SoundStep, demandFrom, factorsAt}
-use Rattle.decay.specs.Step.{stepOf}
+use Rattle.decay.specs.held.Mean.{meanDemandOf, meanFactors}
+use Rattle.decay.specs.held.Factors.{SoundStep, demandFrom, factorsAt}
+use Rattle.decay.specs.held.Step.{stepOf}
 use Rattle.river.specs.declared.card.Card.{Card}
 use Rattle.flows.specs.declared.head.Brought.{Brought}
 use Rattle.flows.specs.declared.head.Head.{Head}
@@ -19,18 +19,20 @@ use Rattle.river.specs.declared.source.Demand.the-variants.{Bod, Nitrogenous}
 use Rattle.river.specs.Source.{rateOf}
 use Rattle.river.specs.Bytes.{fourBytes}
 use Rattle.flows.specs.Flow.{flowAt}
-use Rattle.flows.specs.HeadTable.{FootWithin}
-use Rattle.flows.specs.Stored.{storedLimit, oxygenOf, oxygenSumOf}
+use Rattle.flows.specs.held.HeadTable.{FootWithin}
+use Rattle.flows.specs.held.Stored.{storedLimit, oxygenOf, oxygenSumOf}
 use Rattle.decay.specs.declared.step.Step.{Step}
-use Rattle.report.specs.Bed.{lossWith, BedInRange}
-use Rattle.report.specs.Profile.{StartInRange, startParts, oxygenOver}
+use Rattle.report.specs.held.Bed.{lossWith, BedInRange}
+use Rattle.report.specs.held.Profile.{StartInRange, startParts, oxygenOver}
 use Rattle.report.specs.declared.bed.Bed.{Bed}
 use Rattle.report.specs.declared.profile.Start.{Start}
-use Rattle.report.specs.Program.{unitParts, demandAlong, lossAlong, oxygenAlong, figuresAt}
+use Rattle.report.specs.Program.{figuresAt}
+use Rattle.report.specs.held.Along.{unitParts, demandAlong, lossAlong, oxygenAlong}
 use Rattle.report.specs.Record.{complement}
 use Rattle.report.specs.Status.{isUsed}
-use Rattle.report.specs.Lines.{footBy, LineReady, HeadFits, LineAt, UsedAt}
-use Rattle.report.specs.Mean.{middle, meanAlong, meanAt, countedVolumeAt, volumeSum, weightedSum}
+use Rattle.report.specs.held.Lines.{footBy, LineReady, HeadFits, LineAt, UsedAt}
+use Rattle.report.specs.Mean.{meanAt, countedVolumeAt, volumeSum, weightedSum}
+use Rattle.report.specs.held.MeanAlong.{middle, meanAlong}
 use Rattle.report.specs.declared.mean.DemandAlong.{DemandAlong}
 use Rattle.report.specs.declared.mean.Passage.{Passage}
 use Rattle.report.specs.declared.mean.Passed.{Passed}

@@ -3,7 +3,8 @@ use mathlib.Core.Bool.{Bool, true, false}
 use Prim.Native.Nat.{ℕ, _+_, _*_, _-_, _/_, _≤_}
 use lib.Dec.{eqb}
 use Rattle.decay.specs.Exact.{foot}
-use Rattle.decay.specs.Fixed.{one, small, product}
+use Rattle.decay.specs.Fixed.{one, product}
+use Rattle.decay.specs.held.Digits.{small}
 use Rattle.decay.specs.declared.step.Step.{Step}
 use Rattle.decay.specs.declared.factors.Factors.{Factors}
 use Rattle.river.specs.declared.card.Card.{Card}

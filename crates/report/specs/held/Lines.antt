@@ -7,7 +7,7 @@ use mathlib.Core.List.{List}
 use Prim.Native.Nat.{ℕ, suc, _+_, _*_, _≤_, _<_}
 use lib.ListN.{length, getD}
 use lib.Seq.{sets}
-use Rattle.decay.specs.Step.{RatesPass}
+use Rattle.decay.specs.held.Step.{RatesPass}
 use Rattle.river.specs.declared.card.Card.{Card}
 use Rattle.flows.specs.declared.flow.FlowTable.{FlowTable}
 use Rattle.flows.specs.declared.head.Brought.{Brought}
@@ -19,13 +19,14 @@ use Rattle.river.specs.Source.{rateOf}
 use Rattle.flows.specs.Saturation.{SaturationInRange}
 use Rattle.river.specs.declared.source.Demand.the-variants.{Bod, Nitrogenous}
 use Rattle.flows.specs.Flow.{Flows, cardOf, above, flowAt, massAt}
-use Rattle.flows.specs.FlowTable.{Tabled}
-use Rattle.flows.specs.HeadTable.{demandLimit, footOf, broughtTo, FootWithin, Carried}
-use Rattle.flows.specs.Stored.{oxygenOf, storedOf}
-use Rattle.report.specs.Bed.{BedPasses, lossLimit}
+use Rattle.flows.specs.held.FlowTable.{Tabled}
+use Rattle.flows.specs.held.HeadTable.{demandLimit, footOf, broughtTo, FootWithin, Carried}
+use Rattle.flows.specs.held.Stored.{oxygenOf, storedOf}
+use Rattle.report.specs.held.Bed.{BedPasses, lossLimit}
 use Rattle.report.specs.Program.{demandAtHead, oxygenAtHead, usedAbove, figuresAt}
 use Rattle.report.specs.Status.{isUsed}
-use Rattle.report.specs.Record.{hasNitrification, Figures, figuresIn, recordSize}
+use Rattle.report.specs.Record.{hasNitrification, Figures, recordSize}
+use Rattle.report.specs.held.LineFigures.{figuresIn}
 use Rattle.report.specs.Report.{recordOf}
 use Rattle.report.specs.declared.record.Line.{Line}
 use Rattle.report.specs.declared.lines.HandedOn.{HandedOn}

@@ -19,8 +19,8 @@ use Rattle.flows.specs.Saturation.{SaturationInRange}
 use Rattle.river.specs.Source.{sourceOf, sourceMass}
 use Rattle.flows.specs.Flow.{flowLimit, massLimit, Flows, ownMass, flowAt, massAt}
 use Rattle.flows.specs.Head.{headDemand, headOxygen}
-use Rattle.flows.specs.FlowTable.{feederSum, Tabled}
-use Rattle.flows.specs.Stored.{storedLimit, oxygenOf, oxygenSumOf}
+use Rattle.flows.specs.held.FlowTable.{feederSum, Tabled}
+use Rattle.flows.specs.held.Stored.{storedLimit, oxygenOf, oxygenSumOf}
 
 -- a dam's share is at most 1,000, and its generating flow at most Qu
 abbrev pub DamWithin : Dam → (Qu : ℕ) → Type 0

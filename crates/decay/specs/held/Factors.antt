@@ -1,6 +1,7 @@
 -- The factors of an instant, from the head on, one step at a time.
 use Prim.Native.Nat.{ℕ, zero, suc, _+_, _-_, _≤_}
-use Rattle.decay.specs.Fixed.{one, small, product}
+use Rattle.decay.specs.Fixed.{one, product}
+use Rattle.decay.specs.held.Digits.{small}
 use Rattle.decay.specs.declared.step.Step.{Step}
 use Rattle.decay.specs.declared.factors.DemandFactors.{DemandFactors}
 use Rattle.decay.specs.declared.factors.Factors.{Factors}

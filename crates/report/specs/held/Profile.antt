@@ -5,14 +5,15 @@ use Prim.Native.Nat.{ℕ, _+_, _*_, _/_, _≤_, _<_}
 use lib.Dec.{ltb}
 use lib.IntN.{ℤ, pos, _-ℤ_}
 use Rattle.decay.specs.Fixed.{product}
-use Rattle.decay.specs.Factors.{demandFrom, headFactors, factorsAt}
+use Rattle.decay.specs.held.Factors.{demandFrom, headFactors, factorsAt}
 use Rattle.decay.specs.declared.step.Step.{Step}
 use Rattle.decay.specs.declared.factors.DemandFactors.{DemandFactors}
 use Rattle.decay.specs.declared.factors.Factors.{Factors}
-use Rattle.flows.specs.Stored.{oxygenOf, Stores}
-use Rattle.flows.specs.HeadTable.{demandLimit}
-use Rattle.report.specs.Bed.{lossWith, lossLimit}
-use Rattle.report.specs.Program.{unitParts, oxygenWith, foot, lowest}
+use Rattle.flows.specs.held.Stored.{oxygenOf, Stores}
+use Rattle.flows.specs.held.HeadTable.{demandLimit}
+use Rattle.report.specs.held.Bed.{lossWith, lossLimit}
+use Rattle.report.specs.Program.{foot, lowest}
+use Rattle.report.specs.held.Along.{unitParts, oxygenWith}
 use Rattle.report.specs.declared.bed.Bed.{Bed}
 use Rattle.report.specs.declared.profile.Start.{Start}
 use Rattle.report.specs.declared.profile.Walk.{Walk}
