@@ -144,7 +144,7 @@ module _ {N k1 k2 v Q : ℕ} (long : 40 ≤ N) (p : RatesPass k1 k2 v Q) (start 
       let Sm = S N (exponent k1 v Q m) in
       let Fm = F N k1 k2 v Q m in
       bod-weaken (one-more 11 m)
-      (bod-advance (share (s .lost)) (share (s .used)) (share (s .filled)) S₁ F₁ S₂ (ofℕ 1 ÷ ofℕ (2 ^ 60)) (step-near long p) rest
+      (bod-advance (share (s .lost)) (share (s .spent)) (share (s .filled)) S₁ F₁ S₂ (ofℕ 1 ÷ ofℕ (2 ^ 60)) (step-near long p) rest
       (share-nonneg (at m .left))
       (share-nonneg (at m .turned))
       (at-range m)
@@ -180,7 +180,7 @@ module _ {N k1 k2 v Q : ℕ} (long : 40 ≤ N) (p : RatesPass k1 k2 v Q) where
       let s = stepOf k1 k2 v Q in
       let f = factorsOf k1 k2 v Q m in
       within-weaken
-      (deficit-advance (share (s .lost)) (share (s .used)) (share (s .filled)) (S N (exponent k1 v Q 1)) (F N k1 k2 v Q 1) (S N (exponent k2 v Q 1)) (ofℕ 1 ÷ ofℕ (2 ^ 60)) (step-near long p) rest
+      (deficit-advance (share (s .lost)) (share (s .spent)) (share (s .filled)) (S N (exponent k1 v Q 1)) (F N k1 k2 v Q 1) (S N (exponent k2 v Q 1)) (ofℕ 1 ÷ ofℕ (2 ^ 60)) (step-near long p) rest
       (share-nonneg (f .kept))
       (deficit-range m)
       (few (lit≤ tt) (le-of-lt h))

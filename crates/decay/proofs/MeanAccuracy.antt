@@ -162,7 +162,7 @@ module _ {N k k2 v Q : ℕ} (long : 40 ≤ N) (p : RatesPass k k2 v Q) (start : 
       let S₁ = firstS N k v Q in
       let F₁ = firstF N k k2 v Q in
       let S₂ = firstS N k2 v Q in
-      bod-advance (share (mean .lost)) (share (mean .used)) (share (mean .filled)) S₁ F₁ S₂ (ofℕ 1 ÷ ofℕ (2 ^ 60)) (mean-step-near long p) rest
+      bod-advance (share (mean .lost)) (share (mean .spent)) (share (mean .filled)) S₁ F₁ S₂ (ofℕ 1 ÷ ofℕ (2 ^ 60)) (mean-step-near long p) rest
       (share-nonneg (average .left))
       (share-nonneg (average .turned))
       average-of-one
@@ -200,7 +200,7 @@ module _ {N k1 k2 v Q : ℕ} (long : 40 ≤ N) (p : RatesPass k1 k2 v Q) where
   deficit-mean =
       let mean = meanStepOf k1 k2 v Q in
       let f = averageFactors (stepOf k1 k2 v Q) in
-      deficit-advance (share (mean .lost)) (share (mean .used)) (share (mean .filled)) (firstS N k1 v Q) (firstF N k1 k2 v Q) (firstS N k2 v Q) (ofℕ 1 ÷ ofℕ (2 ^ 60)) (mean-step-near long p) rest
+      deficit-advance (share (mean .lost)) (share (mean .spent)) (share (mean .filled)) (firstS N k1 v Q) (firstF N k1 k2 v Q) (firstS N k2 v Q) (ofℕ 1 ÷ ofℕ (2 ^ 60)) (mean-step-near long p) rest
       (share-nonneg (f .kept))
       (≼-trans (share-mono (average-range (step-sound k1 k2 v Q p) .deficit)) (≼-of-≈ share-one))
       few-deficit

@@ -42,7 +42,7 @@ pub fn next_demand(s: Step, d: DemandFactors) -> DemandFactors
     let turned = d.turned;
     DemandFactors {
         left: left - fixed::product(left, s.lost),
-        turned: turned - fixed::product(turned, s.filled) + fixed::product(left, s.used),
+        turned: turned - fixed::product(turned, s.filled) + fixed::product(left, s.spent),
     }
 }
 

@@ -6,10 +6,10 @@ ghost use Rattle.decay.specs.held.Digits.{small};
 ghost use Rattle.decay.specs.held.Step.{RatesPass, exponentOf, stepOf, meanSumOf, meanStepOf};
 ghost use Rattle.decay.specs.Series.{termOf, nextTerms, withTerm, SumsExactly, mostTerms};
 
-// BOD lost, BOD used (turned to deficit and not yet filled) and deficit filled in one step, as shares of one.
+// BOD lost, BOD spent (turned to deficit and not yet filled again) and deficit filled in one step, as shares of one.
 pub struct Step {
     pub lost: u64,
-    pub used: u64,
+    pub spent: u64,
     pub filled: u64,
 }
 
@@ -99,11 +99,11 @@ pub fn step_of(k1: u32, k2: u32, volume: u32, flow: u32) -> Step
     let y = exponent(k1, volume, flow);
     let z = exponent(k2, volume, flow);
     let lost = series(y, 0);
-    let used = series(y, z);
+    let spent = series(y, z);
     let filled = series(z, 0);
     Step {
         lost: lost.sum,
-        used: used.sum,
+        spent: spent.sum,
         filled: filled.sum,
     }
 }
@@ -134,7 +134,7 @@ pub fn mean_step_of(k1: u32, k2: u32, volume: u32, flow: u32) -> Step
     let z = exponent(k2, volume, flow);
     Step {
         lost: mean_series(y, 0),
-        used: mean_series(y, z),
+        spent: mean_series(y, z),
         filled: mean_series(z, 0),
     }
 }

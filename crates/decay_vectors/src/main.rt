@@ -57,9 +57,9 @@ fn terms(k1: u32, k2: u32, volume: u32, flow: u32)
     let y = decay::step::exponent(k1, volume, flow);
     let z = decay::step::exponent(k2, volume, flow);
     let lost = decay::step::series(y, 0);
-    let used = decay::step::series(y, z);
+    let spent = decay::step::series(y, z);
     let filled = decay::step::series(z, 0);
-    line(b"terms", lost.count, used.count, filled.count);
+    line(b"terms", lost.count, spent.count, filled.count);
 }
 
 // A reach: its card's numbers, the shares of its step with their terms, and four instants.
@@ -71,13 +71,13 @@ fn reach(k1: u32, k2: u32, volume: u32, flow: u32)
     io::write_all(1, b"\n");
     line(b"card", k1 as u64, k2 as u64, volume as u64);
     let s = decay::step::step_of(k1, k2, volume, flow);
-    line(b"step", s.lost, s.used, s.filled);
+    line(b"step", s.lost, s.spent, s.filled);
     terms(k1, k2, volume, flow);
     instants(s);
 }
 
 // Reaches of equal rates in pairs, the exponents of a step one part of 2^-44 apart. From the first of a pair to the second comes a second term
-// of all three series, a third of BOD used, a third of BOD lost and deficit filled, a fourth of BOD used, a fourth of BOD lost and deficit filled.
+// of all three series, a third of BOD spent, a third of BOD lost and deficit filled, a fourth of BOD spent, a fourth of BOD lost and deficit filled.
 fn counts_change() {
     reach(100, 100, 724, 2427);
     reach(700, 700, 333, 7814);

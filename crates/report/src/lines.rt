@@ -46,14 +46,14 @@ fn nitrogenous_step(card: Card, flow: u32, bod: Step) -> Step
     if rate == 0 {
         return Step {
             lost: 0,
-            used: 0,
+            spent: 0,
             filled: bod.filled,
         };
     }
     let own = step::step_of(rate, card.k2, card.volume, flow);
     Step {
         lost: own.lost,
-        used: own.used,
+        spent: own.spent,
         filled: bod.filled,
     }
 }

@@ -20,14 +20,14 @@ use Rattle.decay.proofs.Algebra.{
 use Rattle.decay.proofs.Accuracy.Units.{eps, eps-nonneg}
 
 -- the shares of a step as the program has them, and the exact ones: S(y) of either rate, and F
-pub record StepNear (lost used filled s1 f s2 : Fraction) : Type 0 where
-  pub used-nonneg : Nonneg used
-  pub used-lost : used ≼ lost
+pub record StepNear (lost spent filled s1 f s2 : Fraction) : Type 0 where
+  pub spent-nonneg : Nonneg spent
+  pub spent-lost : spent ≼ lost
   pub lost-one : lost ≼ ofℕ 1
   pub filled-nonneg : Nonneg filled
   pub filled-one : filled ≼ ofℕ 1
   pub lost-near : Within s1 (ofℕ 1 -ᶠ lost) (ofℕ 3 *ᶠ eps)
-  pub used-near : Within f used (ofℕ 5 *ᶠ eps)
+  pub spent-near : Within f spent (ofℕ 5 *ᶠ eps)
   pub filled-near : Within s2 (ofℕ 1 -ᶠ filled) (ofℕ 3 *ᶠ eps)
 
 -- BOD left and turned lie near the exact ones: u and v are how near, e bounds their sum
@@ -44,8 +44,8 @@ size {p} {s} {u} h w =
     small-by (ring (p ∷ s ∷ []) (search quote depth 40 fits 9999) tt) (sized h ⊞ˢ small-minus (small w))
 
 module _
-    (lost used filled σ1 φ σ2 τ : Fraction)
-    (step : StepNear lost used filled σ1 φ σ2)
+    (lost spent filled σ1 φ σ2 τ : Fraction)
+    (step : StepNear lost spent filled σ1 φ σ2)
     (rest : ofℕ 4 *ᶠ τ ≼ eps)
   where
     left-keeps : Nonneg (ofℕ 1 -ᶠ lost)
@@ -76,12 +76,12 @@ module _
         Nonneg g →
         Within p s u →
         Within g f v →
-        Within g' (g -ᶠ g *ᶠ filled +ᶠ p *ᶠ used) eps →
+        Within g' (g -ᶠ g *ᶠ filled +ᶠ p *ᶠ spent) eps →
         Within f' (s *ᶠ φ +ᶠ f *ᶠ σ2) τ →
-        Within g' f' (eps +ᶠ (ofℕ 1 -ᶠ filled) *ᶠ v +ᶠ used *ᶠ u +ᶠ (p +ᶠ u) *ᶠ (ofℕ 5 *ᶠ eps) +ᶠ (g +ᶠ v) *ᶠ (ofℕ 3 *ᶠ eps) +ᶠ τ)
+        Within g' f' (eps +ᶠ (ofℕ 1 -ᶠ filled) *ᶠ v +ᶠ spent *ᶠ u +ᶠ (p +ᶠ u) *ᶠ (ofℕ 5 *ᶠ eps) +ᶠ (g +ᶠ v) *ᶠ (ofℕ 3 *ᶠ eps) +ᶠ τ)
     turned-next p g g' s f f' u v hp hg near-s near-f moved exact =
-        near (p ∷ g ∷ g' ∷ s ∷ f ∷ f' ∷ u ∷ v ∷ used ∷ filled ∷ φ ∷ σ2 ∷ τ ∷ eps ∷ []) none
-        (small moved ⊞ˢ sized deficit-keeps ⊠ˢ small near-f ⊞ˢ sized (step .used-nonneg) ⊠ˢ small near-s ⊞ˢ size hp near-s ⊠ˢ small (within-sym (step .used-near)) ⊞ˢ size hg near-f ⊠ˢ small (within-sym (step .filled-near)) ⊞ˢ small (within-sym exact))
+        near (p ∷ g ∷ g' ∷ s ∷ f ∷ f' ∷ u ∷ v ∷ spent ∷ filled ∷ φ ∷ σ2 ∷ τ ∷ eps ∷ []) none
+        (small moved ⊞ˢ sized deficit-keeps ⊠ˢ small near-f ⊞ˢ sized (step .spent-nonneg) ⊠ˢ small near-s ⊞ˢ size hp near-s ⊠ˢ small (within-sym (step .spent-near)) ⊞ˢ size hg near-f ⊠ˢ small (within-sym (step .filled-near)) ⊞ˢ small (within-sym exact))
         (number 0)
         (search quote depth 40 fits 9999)
         tt
@@ -99,11 +99,11 @@ module _
         u +ᶠ v ≼ e →
         ofℕ 20 *ᶠ e ≼ ofℕ 1 →
         eps +ᶠ (ofℕ 1 -ᶠ lost) *ᶠ u +ᶠ (p +ᶠ u) *ᶠ (ofℕ 3 *ᶠ eps) +ᶠ τ +ᶠ
-        (eps +ᶠ (ofℕ 1 -ᶠ filled) *ᶠ v +ᶠ used *ᶠ u +ᶠ (p +ᶠ u) *ᶠ (ofℕ 5 *ᶠ eps) +ᶠ (g +ᶠ v) *ᶠ (ofℕ 3 *ᶠ eps) +ᶠ τ) ≼
+        (eps +ᶠ (ofℕ 1 -ᶠ filled) *ᶠ v +ᶠ spent *ᶠ u +ᶠ (p +ᶠ u) *ᶠ (ofℕ 5 *ᶠ eps) +ᶠ (g +ᶠ v) *ᶠ (ofℕ 3 *ᶠ eps) +ᶠ τ) ≼
         e +ᶠ ofℕ 11 *ᶠ eps
     sum-next p g u v e hp hg range hu hv sum few =
-        certify-times 1 (p ∷ g ∷ u ∷ v ∷ e ∷ lost ∷ used ∷ filled ∷ τ ∷ eps ∷ [])
-        (number 2 ⊠ slack sum ⊞ number 2 ⊠ slack (step .used-lost) ⊠ hu ⊞ number 2 ⊠ step .filled-nonneg ⊠ hv ⊞ eps-nonneg ⊠ (number 16 ⊠ slack range ⊞ number 10 ⊠ hg ⊞ number 14 ⊠ hv ⊞ number 4 ⊠ hu ⊞ number 20 ⊠ slack sum ⊞ slack few) ⊞ slack rest)
+        certify-times 1 (p ∷ g ∷ u ∷ v ∷ e ∷ lost ∷ spent ∷ filled ∷ τ ∷ eps ∷ [])
+        (number 2 ⊠ slack sum ⊞ number 2 ⊠ slack (step .spent-lost) ⊠ hu ⊞ number 2 ⊠ step .filled-nonneg ⊠ hv ⊞ eps-nonneg ⊠ (number 16 ⊠ slack range ⊞ number 10 ⊠ hg ⊞ number 14 ⊠ hv ⊞ number 4 ⊠ hu ⊞ number 20 ⊠ slack sum ⊞ slack few) ⊞ slack rest)
         (search quote depth 40 fits 9999)
         tt
 
@@ -116,7 +116,7 @@ module _
         ofℕ 20 *ᶠ e ≼ ofℕ 1 →
         BodNear p g s f e →
         Within p' (p -ᶠ p *ᶠ lost) eps →
-        Within g' (g -ᶠ g *ᶠ filled +ᶠ p *ᶠ used) eps →
+        Within g' (g -ᶠ g *ᶠ filled +ᶠ p *ᶠ spent) eps →
         Within s' (s *ᶠ σ1) τ →
         Within f' (s *ᶠ φ +ᶠ f *ᶠ σ2) τ →
         BodNear p' g' s' f' (e +ᶠ ofℕ 11 *ᶠ eps)
@@ -124,7 +124,7 @@ module _
         record {
           u = eps +ᶠ (ofℕ 1 -ᶠ lost) *ᶠ h .u +ᶠ (p +ᶠ h .u) *ᶠ (ofℕ 3 *ᶠ eps) +ᶠ τ;
           v =
-              eps +ᶠ (ofℕ 1 -ᶠ filled) *ᶠ h .v +ᶠ used *ᶠ h .u +ᶠ (p +ᶠ h .u) *ᶠ (ofℕ 5 *ᶠ eps) +ᶠ (g +ᶠ h .v) *ᶠ (ofℕ 3 *ᶠ eps) +ᶠ τ;
+              eps +ᶠ (ofℕ 1 -ᶠ filled) *ᶠ h .v +ᶠ spent *ᶠ h .u +ᶠ (p +ᶠ h .u) *ᶠ (ofℕ 5 *ᶠ eps) +ᶠ (g +ᶠ h .v) *ᶠ (ofℕ 3 *ᶠ eps) +ᶠ τ;
           left-near = left-next p p' s s' (h .u) hp (h .left-near) left exact-s;
           turned-near = turned-next p g g' s f f' (h .u) (h .v) hp hg (h .left-near) (h .turned-near) turned exact-f;
           sum =

@@ -11,9 +11,9 @@ use Rattle.decay.proofs.Algebra.{≈-refl, quote, Nonneg, slack, number
 use Rattle.decay.proofs.step.Shares.{exponent-small}
 use Rattle.decay.proofs.step.MeanShares.{mean-step-sound}
 use Rattle.decay.proofs.Accuracy.Units.{eps}
-use Rattle.decay.proofs.Accuracy.Step.{mean-lost-near, mean-used-near}
+use Rattle.decay.proofs.Accuracy.Step.{mean-lost-near, mean-spent-near}
 use Rattle.decay.proofs.Accuracy.Advance.{StepNear}
-use Rattle.decay.proofs.Accuracy.Reach.{exact-terms, tail-S, tail-F, small-e, small-d, within-lost, within-used, sound-near, exponents}
+use Rattle.decay.proofs.Accuracy.Reach.{exact-terms, tail-S, tail-F, small-e, small-d, within-lost, within-spent, sound-near, exponents}
 use Rattle.decay.proofs.Exponential.{e, e-nonneg, exponent-nonneg, exponent-step, d, d-nonneg, firstS, firstF, firstS-short, firstF-short}
 
 -- a sixth of what is small is small
@@ -31,7 +31,7 @@ module _ {N k1 k2 v Q : ℕ} (long : 40 ≤ N) (p : RatesPass k1 k2 v Q) where
       within-lost (firstS N k v Q) _ _ (e y 5 ÷ ofℕ 6) _ (ofℕ 1 ÷ ofℕ (2 ^ 56)) (firstS-short long k v Q h) (≈-refl _) tail-S (÷-nonneg fifth (number 6)) (sixth fifth (small-e sign (exponent-step k v Q h)))
       (mean-lost-near (exponentOf k v Q) (exponentOf k v Q) y y (e y) (d y y) (exponents long p k k h h) (exact-terms y y) (exponent-small k v Q h))
 
-  -- the mean of what is used
+  -- the mean of what is spent
   rates-near : Within (firstF N k1 k2 v Q) (share (meanSumOf (exponentOf k1 v Q) (exponentOf k2 v Q) mostTerms)) (ofℕ 5 *ᶠ eps)
   rates-near =
       let y = exponent k1 v Q 1 in
@@ -39,10 +39,10 @@ module _ {N k1 k2 v Q : ℕ} (long : 40 ≤ N) (p : RatesPass k1 k2 v Q) where
       let y-sign = exponent-nonneg k1 v Q 1 in
       let z-sign = exponent-nonneg k2 v Q 1 in
       let fifth = d-nonneg y-sign z-sign 5 in
-      within-used (firstF N k1 k2 v Q) _ (d y z 5 ÷ ofℕ 6) _ (ofℕ 1 ÷ ofℕ (2 ^ 53)) (firstF-short long k1 k2 v Q (p .k1-short) (p .k2-short)) tail-F (÷-nonneg fifth (number 6)) (sixth fifth (small-d y-sign z-sign (exponent-step k1 v Q (p .k1-short)) (exponent-step k2 v Q (p .k2-short))))
-      (mean-used-near (exponentOf k1 v Q) (exponentOf k2 v Q) y z (e y) (d y z) (exponents long p k1 k2 (p .k1-short) (p .k2-short)) (exact-terms y z) (exponent-small k1 v Q (p .k1-short)) (exponent-small k2 v Q (p .k2-short)))
+      within-spent (firstF N k1 k2 v Q) _ (d y z 5 ÷ ofℕ 6) _ (ofℕ 1 ÷ ofℕ (2 ^ 53)) (firstF-short long k1 k2 v Q (p .k1-short) (p .k2-short)) tail-F (÷-nonneg fifth (number 6)) (sixth fifth (small-d y-sign z-sign (exponent-step k1 v Q (p .k1-short)) (exponent-step k2 v Q (p .k2-short))))
+      (mean-spent-near (exponentOf k1 v Q) (exponentOf k2 v Q) y z (e y) (d y z) (exponents long p k1 k2 (p .k1-short) (p .k2-short)) (exact-terms y z) (exponent-small k1 v Q (p .k1-short)) (exponent-small k2 v Q (p .k2-short)))
 
   pub mean-step-near :
-      StepNear (share ((meanStepOf k1 k2 v Q) .lost)) (share ((meanStepOf k1 k2 v Q) .used)) (share ((meanStepOf k1 k2 v Q) .filled)) (firstS N k1 v Q) (firstF N k1 k2 v Q) (firstS N k2 v Q)
+      StepNear (share ((meanStepOf k1 k2 v Q) .lost)) (share ((meanStepOf k1 k2 v Q) .spent)) (share ((meanStepOf k1 k2 v Q) .filled)) (firstS N k1 v Q) (firstF N k1 k2 v Q) (firstS N k2 v Q)
   unfolding meanStepOf
   mean-step-near = sound-near (meanStepOf k1 k2 v Q) (mean-step-sound k1 k2 v Q p) (rate-near k1 (p .k1-short)) rates-near (rate-near k2 (p .k2-short))

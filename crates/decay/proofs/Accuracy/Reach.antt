@@ -1,4 +1,4 @@
--- The shares of a step of a reach against the river file paper's S and F at one step: within 3 units for BOD lost and deficit filled, 5 for BOD used.
+-- The shares of a step of a reach against the river file paper's S and F at one step: within 3 units for BOD lost and deficit filled, 5 for BOD spent.
 use mathlib.Core.List.{[], _∷_}
 use Prim.Native.Nat.{ℕ, _*_, _^_, _≤_, _<_}
 use native.Mathlib.Nat.{mul-one, le-trans}
@@ -15,7 +15,7 @@ use Rattle.decay.specs.declared.step.Step.{Step}
 use Rattle.decay.proofs.Algebra.{≈-sym, ≈-trans, ring-by, _⋅_, _&_, none, quote, ≼-of-≈, ≼-trans, Nonneg, slack, number, _⊞_, _⊠_, multiple, certify, certify-times, positive-whole, ÷-cancel-pos, ofℕ-≈, Within}
 use Rattle.decay.proofs.step.Shares.{exponent-small, step-sound}
 use Rattle.decay.proofs.Accuracy.Units.{eps, eps-nonneg, share-nonneg, share-mono, share-one, Below, exponent-below}
-use Rattle.decay.proofs.Accuracy.Step.{Exponents, ExactTerms, Sum, lost-near, used-near}
+use Rattle.decay.proofs.Accuracy.Step.{Exponents, ExactTerms, Sum, lost-near, spent-near}
 use Rattle.decay.proofs.Accuracy.Advance.{StepNear}
 use Rattle.decay.proofs.Exponential.{e, e-zero, e-suc, e-nonneg, e-mono, S-six, exponent-nonneg, exponent-step, exponent-scaled, d, d-zero, d-suc, d-nonneg, S-short, F-short, d-small}
 
@@ -97,7 +97,7 @@ within-lost s s6 X e5 L τ w six tail fifth-nonneg fifth sum =
           tt;
     }
 
-pub within-used :
+pub within-spent :
     (f D d5 U τ : Fraction) →
     Within f (D +ᶠ d5) τ →
     ofℕ 64 *ᶠ τ ≼ eps →
@@ -105,7 +105,7 @@ pub within-used :
     ofℕ 64 *ᶠ d5 ≼ ofℕ 43 *ᶠ eps →
     Sum D U 194 260 →
     Within f U (ofℕ 5 *ᶠ eps)
-within-used f D d5 U τ w tail fifth-nonneg fifth sum =
+within-spent f D d5 U τ w tail fifth-nonneg fifth sum =
     record {
       high =
           certify-times 63 (f ∷ D ∷ d5 ∷ U ∷ τ ∷ eps ∷ [])
@@ -132,18 +132,18 @@ pub sound-near :
     (s : Step) {s1 f s2 : Fraction} →
     SoundStep s →
     Within s1 (ofℕ 1 -ᶠ share (s .lost)) (ofℕ 3 *ᶠ eps) →
-    Within f (share (s .used)) (ofℕ 5 *ᶠ eps) →
+    Within f (share (s .spent)) (ofℕ 5 *ᶠ eps) →
     Within s2 (ofℕ 1 -ᶠ share (s .filled)) (ofℕ 3 *ᶠ eps) →
-    StepNear (share (s .lost)) (share (s .used)) (share (s .filled)) s1 f s2
-sound-near s sound lost used filled =
+    StepNear (share (s .lost)) (share (s .spent)) (share (s .filled)) s1 f s2
+sound-near s sound lost spent filled =
     record {
-      used-nonneg = share-nonneg (s .used);
-      used-lost = share-mono (sound .used-lost);
+      spent-nonneg = share-nonneg (s .spent);
+      spent-lost = share-mono (sound .spent-lost);
       lost-one = small-share-one (sound .lost-small);
       filled-nonneg = share-nonneg (s .filled);
       filled-one = small-share-one (sound .filled-small);
       lost-near = lost;
-      used-near = used;
+      spent-near = spent;
       filled-near = filled;
     }
 
@@ -173,7 +173,7 @@ module _ {N k1 k2 v Q : ℕ} (long : 40 ≤ N) (p : RatesPass k1 k2 v Q) where
       within-lost (S N y) (S 6 y) _ (e y 5) _ (ofℕ 1 ÷ ofℕ (2 ^ 56)) (S-short long sign short) (six-terms y) tail-S (e-nonneg sign 5) (small-e sign short)
       (lost-near (exponentOf k v Q) (exponentOf k v Q) y y (e y) (d y y) (exponents k k h h) (exact-terms y y) (exponent-small k v Q h))
 
-  -- the share that both rates make: BOD used
+  -- the share that both rates make: BOD spent
   rates-near : Within (F N k1 k2 v Q 1) (share ((seriesOf (exponentOf k1 v Q) (exponentOf k2 v Q)) .sum)) (ofℕ 5 *ᶠ eps)
   rates-near =
       let y = exponent k1 v Q 1 in
@@ -182,10 +182,10 @@ module _ {N k1 k2 v Q : ℕ} (long : 40 ≤ N) (p : RatesPass k1 k2 v Q) where
       let z-sign = exponent-nonneg k2 v Q 1 in
       let y-step = exponent-step k1 v Q (p .k1-short) in
       let z-step = exponent-step k2 v Q (p .k2-short) in
-      within-used (F N k1 k2 v Q 1) _ (d y z 5) _ (ofℕ 1 ÷ ofℕ (2 ^ 53)) (F-short long k1 k2 v Q (p .k1-short) (p .k2-short)) tail-F (d-nonneg y-sign z-sign 5) (small-d y-sign z-sign y-step z-step)
-      (used-near (exponentOf k1 v Q) (exponentOf k2 v Q) y z (e y) (d y z) (exponents k1 k2 (p .k1-short) (p .k2-short)) (exact-terms y z) (exponent-small k1 v Q (p .k1-short)) (exponent-small k2 v Q (p .k2-short)))
+      within-spent (F N k1 k2 v Q 1) _ (d y z 5) _ (ofℕ 1 ÷ ofℕ (2 ^ 53)) (F-short long k1 k2 v Q (p .k1-short) (p .k2-short)) tail-F (d-nonneg y-sign z-sign 5) (small-d y-sign z-sign y-step z-step)
+      (spent-near (exponentOf k1 v Q) (exponentOf k2 v Q) y z (e y) (d y z) (exponents k1 k2 (p .k1-short) (p .k2-short)) (exact-terms y z) (exponent-small k1 v Q (p .k1-short)) (exponent-small k2 v Q (p .k2-short)))
 
   pub step-near :
-      StepNear (share ((stepOf k1 k2 v Q) .lost)) (share ((stepOf k1 k2 v Q) .used)) (share ((stepOf k1 k2 v Q) .filled)) (S N (exponent k1 v Q 1)) (F N k1 k2 v Q 1) (S N (exponent k2 v Q 1))
+      StepNear (share ((stepOf k1 k2 v Q) .lost)) (share ((stepOf k1 k2 v Q) .spent)) (share ((stepOf k1 k2 v Q) .filled)) (S N (exponent k1 v Q 1)) (F N k1 k2 v Q 1) (S N (exponent k2 v Q 1))
   unfolding stepOf
   step-near = sound-near (stepOf k1 k2 v Q) (step-sound k1 k2 v Q p) (rate-near k1 (p .k1-short)) rates-near (rate-near k2 (p .k2-short))

@@ -143,8 +143,8 @@ module _ (Y Z : ℕ) (y z : Fraction) (e d : ℕ → Fraction) (x : Exponents Y 
       four-terms 65 512 (e 1) (e 2) (e 3) (e 4) (share Y) _ _ _ (share ((seriesOf Y 0) .sum)) (below-first (k .e-first)) (near-alone 0) (near-alone 1) (near-alone 2)
       (share-sums _ _ _ _ _ (series-sum Y 0 hY zero-le))
 
-  pub used-near : Y ≤ small → Z ≤ small → Sum (d 1 -ᶠ d 2 +ᶠ d 3 -ᶠ d 4) (share ((seriesOf Y Z) .sum)) 194 260
-  used-near hY hZ =
+  pub spent-near : Y ≤ small → Z ≤ small → Sum (d 1 -ᶠ d 2 +ᶠ d 3 -ᶠ d 4) (share ((seriesOf Y Z) .sum)) 194 260
+  spent-near hY hZ =
       four-terms 130 256 (d 1) (d 2) (d 3) (d 4) (share Y) _ _ _ (share ((seriesOf Y Z) .sum)) (below-first (k .d-first)) (rough-all 1) (rough-all 2) (rough-all 3)
       (share-sums _ _ _ _ _ (series-sum Y Z hY hZ))
 
@@ -157,8 +157,8 @@ module _ (Y Z : ℕ) (y z : Fraction) (e d : ℕ → Fraction) (x : Exponents Y 
       (part-under 4 (part-share 4 (termAt Y 0 3)) (lit≤ tt) (near-alone 2))
       (share-sums _ _ _ _ _ (mean-sum Y 0 hY zero-le))
 
-  pub mean-used-near : Y ≤ small → Z ≤ small → Sum (d 1 ÷ ofℕ 2 -ᶠ d 2 ÷ ofℕ 3 +ᶠ d 3 ÷ ofℕ 4 -ᶠ d 4 ÷ ofℕ 5) (share (meanSumOf Y Z mostTerms)) 194 260
-  mean-used-near hY hZ =
+  pub mean-spent-near : Y ≤ small → Z ≤ small → Sum (d 1 ÷ ofℕ 2 -ᶠ d 2 ÷ ofℕ 3 +ᶠ d 3 ÷ ofℕ 4 -ᶠ d 4 ÷ ofℕ 5) (share (meanSumOf Y Z mostTerms)) 194 260
+  mean-spent-near hY hZ =
       four-terms 130 256 (d 1 ÷ ofℕ 2) (d 2 ÷ ofℕ 3) (d 3 ÷ ofℕ 4) (d 4 ÷ ofℕ 5) _ _ _ _ (share (meanSumOf Y Z mostTerms)) (part-below 1 (part-share 1 Y) (below-first (k .d-first)))
       (part-under 2 (part-share 2 (termAt Y Z 1)) (lit≤ tt) (rough-all 1))
       (part-under 3 (part-share 3 (termAt Y Z 2)) (lit≤ tt) (rough-all 2))

@@ -50,11 +50,11 @@ module _ (s : Step) (d : DemandFactors) (h : SoundStep s) where
       lessen (share (d .left)) (share (d .left - q)) (share q) (share (d .left) *ᶠ share (s .lost)) (share-less (d .left) q (moved d h .lost-left)) (product-floor (d .left) (s .lost))
 
   pub turned-moves :
-      Within (share ((nextDemand s d) .turned)) (share (d .turned) -ᶠ share (d .turned) *ᶠ share (s .filled) +ᶠ share (d .left) *ᶠ share (s .used)) eps
+      Within (share ((nextDemand s d) .turned)) (share (d .turned) -ᶠ share (d .turned) *ᶠ share (s .filled) +ᶠ share (d .left) *ᶠ share (s .spent)) eps
   turned-moves =
       let q = product (d .turned) (s .filled) in
-      let r = product (d .left) (s .used) in
-      change (share (d .turned)) (share (d .turned - q)) (share (d .turned - q + r)) (share q) (share (d .turned) *ᶠ share (s .filled)) (share r) (share (d .left) *ᶠ share (s .used)) (share-less (d .turned) q (moved d h .filled-turned)) (share-sum (d .turned - q) r) (product-floor (d .turned) (s .filled)) (product-floor (d .left) (s .used))
+      let r = product (d .left) (s .spent) in
+      change (share (d .turned)) (share (d .turned - q)) (share (d .turned - q + r)) (share q) (share (d .turned) *ᶠ share (s .filled)) (share r) (share (d .left) *ᶠ share (s .spent)) (share-less (d .turned) q (moved d h .filled-turned)) (share-sum (d .turned - q) r) (product-floor (d .turned) (s .filled)) (product-floor (d .left) (s .spent))
 
 pub kept-moves : (s : Step) (f : Factors) → SoundStep s → Within (share ((nextFactors s f) .kept)) (share (f .kept) -ᶠ share (f .kept) *ᶠ share (s .filled)) eps
 unfolding nextFactors

@@ -27,14 +27,14 @@ product-none b = rw zero-mul (zero-div one)
 -- what one step takes and gives of a demand, in range
 pub record Moved (s : Step) (d : DemandFactors) : Type 0 where
   pub lost-left : product (d .left) (s .lost) ≤ d .left
-  pub used-lost : product (d .left) (s .used) ≤ product (d .left) (s .lost)
+  pub spent-lost : product (d .left) (s .spent) ≤ product (d .left) (s .lost)
   pub filled-turned : product (d .turned) (s .filled) ≤ d .turned
 
 pub moved : {s : Step} (d : DemandFactors) → SoundStep s → Moved s d
 moved {s} d h =
     record {
       lost-left = omega (arith, product-small (d .left) (s .lost) (h .lost-small));
-      used-lost = product-mono {a = d .left} {b = s .used} {c = d .left} {d = s .lost} (omega arith) (h .used-lost);
+      spent-lost = product-mono {a = d .left} {b = s .spent} {c = d .left} {d = s .lost} (omega arith) (h .spent-lost);
       filled-turned = omega (arith, product-small (d .turned) (s .filled) (h .filled-small));
     }
 
@@ -69,12 +69,12 @@ demand-range h start zero = omega arith
 demand-range {s} h start (suc m) = let k = moved (demandFrom start s m) h in omega (arith, demand-range h start m)
 
 -- a demand of which nothing is lost stays what it is
-pub demand-kept : (s : Step) → s .lost ≡ 0 → s .used ≡ 0 → (start m : ℕ) → demandFrom start s m ≡ record { left = start; turned = 0 }
+pub demand-kept : (s : Step) → s .lost ≡ 0 → s .spent ≡ 0 → (start m : ℕ) → demandFrom start s m ≡ record { left = start; turned = 0 }
 unfolding demandFrom
 demand-kept s h k start zero = refl
 demand-kept s h k start (suc m) =
     ap (nextDemand s) (demand-kept s h k start m)
-    ∙ ap₂ (λ (x y : ℕ). record { left = x; turned = y }) (omega (arith, product-zero start (s .lost) h)) (omega (arith, product-none (s .filled), product-zero start (s .used) k))
+    ∙ ap₂ (λ (x y : ℕ). record { left = x; turned = y }) (omega (arith, product-zero start (s .lost) h)) (omega (arith, product-none (s .filled), product-zero start (s .spent) k))
 
 -- BOD left never rises from an instant to the next
 pub left-falls : (s : Step) (m : ℕ) → (factorsAt s (suc m)) .left ≤ (factorsAt s m) .left
@@ -97,7 +97,7 @@ deficit-lost h zero = omega arith
 deficit-lost {s} h (suc m) =
     omega (arith, deficit-lost h m, filled-kept ((factorsAt s m) .kept) h, share-below ((factorsAt s m) .kept) (s .filled) (range h m .deficit))
 
-bod-kept : (s : Step) → s .lost ≡ 0 → s .used ≡ 0 → (m : ℕ) → ((factorsAt s m) .left ≡ one) × ((factorsAt s m) .turned ≡ 0)
+bod-kept : (s : Step) → s .lost ≡ 0 → s .spent ≡ 0 → (m : ℕ) → ((factorsAt s m) .left ≡ one) × ((factorsAt s m) .turned ≡ 0)
 bod-kept s h k m =
     let e = starts-with-one s m ∙ demand-kept s h k one m in
     (ap (λ (d : DemandFactors). d .left) e, ap (λ (d : DemandFactors). d .turned) e)

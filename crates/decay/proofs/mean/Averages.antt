@@ -122,7 +122,7 @@ mean-deficit-lost {mean} {step} sound-mean sound h =
     omega (arith, kept-sum sound foot (omega arith), share-below (averageFactors step .kept) (mean .filled) (average-range sound .deficit))
 
 -- a demand of which nothing is lost stays what it is
-pub mean-demand-kept : (mean step : Step) → mean .lost ≡ 0 → mean .used ≡ 0 → step .lost ≡ 0 → step .used ≡ 0 → (start : ℕ) → meanDemand mean step start ≡ record { left = start; turned = 0 }
+pub mean-demand-kept : (mean step : Step) → mean .lost ≡ 0 → mean .spent ≡ 0 → step .lost ≡ 0 → step .spent ≡ 0 → (start : ℕ) → meanDemand mean step start ≡ record { left = start; turned = 0 }
 unfolding meanDemand demandFrom
 mean-demand-kept mean step a b c d start =
     ap (λ (d : ℕ → DemandFactors). nextDemand mean (averaged d)) (fun-ext (demand-kept step c d start))

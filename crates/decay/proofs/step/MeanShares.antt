@@ -1,4 +1,4 @@
--- Laws of the means over a step: the sum has no difference below zero, no more BOD is used than lost, and no more deficit filled than in the
+-- Laws of the means over a step: the sum has no difference below zero, no more BOD is spent than lost, and no more deficit filled than in the
 -- whole step. Assumes nothing.
 use mathlib.Core.Path.{_≡_}
 use Prim.Native.Nat.{ℕ, zero, suc, _+_, _*_, _/_, _≤_, _<_, zero-le}
@@ -55,10 +55,10 @@ back-falls-far : (y z : ℕ) → y ≤ small → z ≤ small → 192 * (termsAt 
 unfolding termAt termsAt nextTerms termOf
 back-falls-far y z hy hz = omega (arith, product-falls (termAt y z 1) z (terms-fall y z hy hz 0))
 
--- no more BOD is used than lost on average
-mean-used-below : (y z : ℕ) → y ≤ small → z ≤ small → meanSumOf y z mostTerms ≤ meanSumOf y 0 mostTerms
+-- no more BOD is spent than lost on average
+mean-spent-below : (y z : ℕ) → y ≤ small → z ≤ small → meanSumOf y z mostTerms ≤ meanSumOf y 0 mostTerms
 unfolding termAt
-mean-used-below y z hy hz =
+mean-spent-below y z hy hz =
     omega (
       arith,
       mean-sum y z hy hz,
@@ -69,7 +69,7 @@ mean-used-below y z hy hz =
       back-falls-far y z hy hz,
     )
 
--- THEOREM: the means over a step are small, and no more BOD is used than lost
+-- THEOREM: the means over a step are small, and no more BOD is spent than lost
 pub mean-step-sound : (k1 k2 volume flow : ℕ) → RatesPass k1 k2 volume flow → SoundStep (meanStepOf k1 k2 volume flow)
 unfolding meanStepOf stepOf
 mean-step-sound k1 k2 volume flow p =
@@ -80,7 +80,7 @@ mean-step-sound k1 k2 volume flow p =
     let s = step-sound k1 k2 volume flow p in
     record {
       lost-small = le-trans (mean-below y 0 hy zero-le) (s .lost-small);
-      used-lost = mean-used-below y z hy hz;
+      spent-lost = mean-spent-below y z hy hz;
       filled-small = le-trans (mean-below z 0 hz zero-le) (s .filled-small);
     }
 
@@ -89,8 +89,8 @@ pub mean-fills : (k1 k2 volume flow : ℕ) → RatesPass k1 k2 volume flow → m
 unfolding meanStepOf stepOf
 mean-fills k1 k2 volume flow p = mean-below (exponentOf k2 volume flow) 0 (exponent-small k2 volume flow (p .k2-short)) zero-le
 
--- a rate of 0 or no volume: nothing is lost and used, or filled
-pub mean-loses-nothing : (k1 k2 volume flow : ℕ) → RatesPass k1 k2 volume flow → k1 * volume ≡ 0 → (meanStepOf k1 k2 volume flow .lost ≡ 0) × (meanStepOf k1 k2 volume flow .used ≡ 0)
+-- a rate of 0 or no volume: nothing is lost and spent, or filled
+pub mean-loses-nothing : (k1 k2 volume flow : ℕ) → RatesPass k1 k2 volume flow → k1 * volume ≡ 0 → (meanStepOf k1 k2 volume flow .lost ≡ 0) × (meanStepOf k1 k2 volume flow .spent ≡ 0)
 unfolding meanStepOf stepOf
 mean-loses-nothing k1 k2 volume flow p h =
     let y = exponentOf k1 volume flow in

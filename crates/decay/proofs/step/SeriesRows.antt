@@ -22,16 +22,16 @@ pub record Rows : Type 0 where
   pub three-lost : seriesOf 1_229_134_057 0 ≡ summed 1_229_091_120 3
   pub still-three-lost : seriesOf 19_013_440_739 0 ≡ summed 19_003_169_682 3
   pub four-lost : seriesOf 19_013_440_740 0 ≡ summed 19_003_169_682 4
-  -- BOD used, at equal rates: 0.000345, 0.0568 and 0.841
-  pub one-used : seriesOf 5_931_641 5_931_641 ≡ summed 5_931_641 1
-  pub two-used : seriesOf 5_931_642 5_931_642 ≡ summed 5_931_640 2
-  pub still-two-used : seriesOf 975_570_225 975_570_225 ≡ summed 975_516_127 2
-  pub three-used : seriesOf 975_570_226 975_570_226 ≡ summed 975_516_127 3
-  pub still-three-used : seriesOf 14_447_486_980 14_447_486_980 ≡ summed 14_435_626_932 3
-  pub four-used : seriesOf 14_447_486_981 14_447_486_981 ≡ summed 14_435_626_932 4
+  -- BOD spent, at equal rates: 0.000345, 0.0568 and 0.841
+  pub one-spent : seriesOf 5_931_641 5_931_641 ≡ summed 5_931_641 1
+  pub two-spent : seriesOf 5_931_642 5_931_642 ≡ summed 5_931_640 2
+  pub still-two-spent : seriesOf 975_570_225 975_570_225 ≡ summed 975_516_127 2
+  pub three-spent : seriesOf 975_570_226 975_570_226 ≡ summed 975_516_127 3
+  pub still-three-spent : seriesOf 14_447_486_980 14_447_486_980 ≡ summed 14_435_626_932 3
+  pub four-spent : seriesOf 14_447_486_981 14_447_486_981 ≡ summed 14_435_626_932 4
   -- the longest step that check 11 passes
   pub longest-lost : seriesOf small 0 ≡ summed 68_585_433_600 4
-  pub longest-used : seriesOf small small ≡ summed 68_451_564_886 4
+  pub longest-spent : seriesOf small small ≡ summed 68_451_564_886 4
 
 -- THEOREM: these series, a row each
 pub rows : Rows
@@ -46,12 +46,12 @@ rows =
       three-lost = refl;
       still-three-lost = refl;
       four-lost = refl;
-      one-used = refl;
-      two-used = refl;
-      still-two-used = refl;
-      three-used = refl;
-      still-three-used = refl;
-      four-used = refl;
+      one-spent = refl;
+      two-spent = refl;
+      still-two-spent = refl;
+      three-spent = refl;
+      still-three-spent = refl;
+      four-spent = refl;
       longest-lost = refl;
-      longest-used = refl;
+      longest-spent = refl;
     }

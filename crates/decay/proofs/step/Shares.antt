@@ -1,5 +1,5 @@
 -- Laws of a step's series: the terms fall, so that a sum has no difference below zero and a stop at a term of 0 changes no value, and no more
--- BOD is used than lost. Assumes nothing.
+-- BOD is spent than lost. Assumes nothing.
 use mathlib.Core.Path.{_≡_, refl, sym, _∙_, ap}
 use mathlib.Core.Bool.{Bool, true, false, cond}
 use mathlib.Core.Logic.{⊎-elim}
@@ -250,8 +250,8 @@ module _ (y z : ℕ) (hy : y ≤ small) (hz : z ≤ small) where
   sum-first = omega (arith, series-sum, terms-fall 1)
 
 -- the sum of the terms with their second part is no larger than that of their first
-used-below : (y z : ℕ) → y ≤ small → z ≤ small → (seriesOf y z) .sum ≤ (seriesOf y 0) .sum
-used-below y z hy hz =
+spent-below : (y z : ℕ) → y ≤ small → z ≤ small → (seriesOf y z) .sum ≤ (seriesOf y 0) .sum
+spent-below y z hy hz =
     omega (
       arith,
       series-sum y z hy hz,
@@ -270,7 +270,7 @@ pub exponent-small : (k volume flow : ℕ) → k * volume ≤ 345600 * flow → 
 unfolding exponentOf quotient
 exponent-small k volume flow h = div-le-of-le-mul (88473600 * flow) (omega (arith, mul-le-mul-right one h))
 
--- THEOREM: a step's shares are small, and no more BOD is used than lost
+-- THEOREM: a step's shares are small, and no more BOD is spent than lost
 pub step-sound : (k1 k2 volume flow : ℕ) → RatesPass k1 k2 volume flow → SoundStep (stepOf k1 k2 volume flow)
 unfolding stepOf
 step-sound k1 k2 volume flow p =
@@ -280,7 +280,7 @@ step-sound k1 k2 volume flow p =
     let hz = exponent-small k2 volume flow (p .k2-short) in
     record {
       lost-small = le-trans (sum-first y 0 hy zero-le) hy;
-      used-lost = used-below y z hy hz;
+      spent-lost = spent-below y z hy hz;
       filled-small = le-trans (sum-first z 0 hz zero-le) hz;
     }
 
@@ -300,7 +300,7 @@ pub step-loses-nothing :
     (k1 k2 volume flow : ℕ) →
     RatesPass k1 k2 volume flow →
     k1 * volume ≡ 0 →
-    ((stepOf k1 k2 volume flow) .lost ≡ 0) × ((stepOf k1 k2 volume flow) .used ≡ 0)
+    ((stepOf k1 k2 volume flow) .lost ≡ 0) × ((stepOf k1 k2 volume flow) .spent ≡ 0)
 unfolding stepOf
 step-loses-nothing k1 k2 volume flow p h =
     let y = exponentOf k1 volume flow in

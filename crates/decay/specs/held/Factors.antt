@@ -6,10 +6,10 @@ use Rattle.decay.specs.declared.step.Step.{Step}
 use Rattle.decay.specs.declared.factors.DemandFactors.{DemandFactors}
 use Rattle.decay.specs.declared.factors.Factors.{Factors}
 
--- a step's shares are small, and no more BOD is used than lost
+-- a step's shares are small, and no more BOD is spent than lost
 pub record SoundStep (s : Step) : Type 0 where
   pub lost-small : s .lost ≤ small
-  pub used-lost : s .used ≤ s .lost
+  pub spent-lost : s .spent ≤ s .lost
   pub filled-small : s .filled ≤ small
 
 -- the factors are shares of one, and so is the sum of BOD left and turned
@@ -17,13 +17,13 @@ pub record AreShares (f : Factors) : Type 0 where
   pub bod : f .left + f .turned ≤ one
   pub deficit : f .kept ≤ one
 
--- A demand after the next step. What is left of it loses its lost share; the deficit made from it loses its filled share and gains the used
+-- A demand after the next step. What is left of it loses its lost share; the deficit made from it loses its filled share and gains the spent
 -- share of what was left.
 abbrev pub nextDemand : Step → DemandFactors → DemandFactors
 nextDemand s d =
     record {
       left = d .left - product (d .left) (s .lost);
-      turned = d .turned - product (d .turned) (s .filled) + product (d .left) (s .used);
+      turned = d .turned - product (d .turned) (s .filled) + product (d .left) (s .spent);
     }
 
 -- a demand at instant m that starts at the head with so many parts

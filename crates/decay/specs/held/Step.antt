@@ -1,4 +1,4 @@
--- The shares of one step, 1/1024 of a reach's travel time: BOD lost, BOD used and deficit filled.
+-- The shares of one step, 1/1024 of a reach's travel time: BOD lost, BOD spent and deficit filled.
 use Prim.Native.Nat.{ℕ, zero, suc, _+_, _-_, _*_, _/_, _≤_}
 use Rattle.decay.specs.Fixed.{quotient}
 use Rattle.decay.specs.declared.step.Step.{Step}
@@ -18,21 +18,21 @@ pub record RatesPass (k1 k2 volume flow : ℕ) : Type 0 where
 unfoldable pub exponentOf : ℕ → ℕ → ℕ → ℕ
 exponentOf k volume flow = quotient (k * volume) (88_473_600 * flow)
 
--- the shares of one step: lost stands for 1 - S(x1), used for F, filled for 1 - S(x2)
+-- the shares of one step: lost stands for 1 - S(x1), spent for F, filled for 1 - S(x2)
 unfoldable pub stepOf : (k1 k2 volume flow : ℕ) → Step
 stepOf k1 k2 volume flow =
     let y = exponentOf k1 volume flow in
     let z = exponentOf k2 volume flow in
-    record { lost = (seriesOf y 0) .sum; used = (seriesOf y z) .sum; filled = (seriesOf z 0) .sum }
+    record { lost = (seriesOf y 0) .sum; spent = (seriesOf y z) .sum; filled = (seriesOf z 0) .sum }
 
 -- the mean of a series over a step, n terms of it: term j grows with the time to the power j, so that its mean is the term divided by j + 1, rounded down
 unfoldable pub meanSumOf : (y z n : ℕ) → ℕ
 meanSumOf y z zero = 0
 meanSumOf y z (suc i) = withTerm (meanSumOf y z i) (termAt y z i / (i + 2)) i
 
--- the means over one step of these shares: of what is lost, used and filled from its head up to each moment of it
+-- the means over one step of these shares: of what is lost, spent and filled from its head up to each moment of it
 unfoldable pub meanStepOf : (k1 k2 volume flow : ℕ) → Step
 meanStepOf k1 k2 volume flow =
     let y = exponentOf k1 volume flow in
     let z = exponentOf k2 volume flow in
-    record { lost = meanSumOf y 0 mostTerms; used = meanSumOf y z mostTerms; filled = meanSumOf z 0 mostTerms }
+    record { lost = meanSumOf y 0 mostTerms; spent = meanSumOf y z mostTerms; filled = meanSumOf z 0 mostTerms }

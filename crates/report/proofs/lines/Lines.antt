@@ -49,15 +49,15 @@ start-sound e p = rw e (step-sound _ _ _ _ p)
 pub start-bed : {step : Step} {bed : Bed} {flow : ℕ} (card : Card) → step ≡ stepOf (card .k1) (card .k2) (card .volume) flow → bed ≡ bedOf card flow → RatesPass (card .k1) (card .k2) (card .volume) flow → BedPasses card flow → BedInRange step bed
 start-bed card e b p h = rw (e, b) (bed-in-range card _ p h)
 
--- where nothing is lost and nothing used, the step has the filled share alone
-pub idle-step : (k1 k2 volume flow : ℕ) (bod : Step) → bod ≡ stepOf k1 k2 volume flow → RatesPass 0 k2 volume flow → record { lost = 0; used = 0; filled = bod .filled } ≡ stepOf 0 k2 volume flow
+-- where nothing is lost and nothing spent, the step has the filled share alone
+pub idle-step : (k1 k2 volume flow : ℕ) (bod : Step) → bod ≡ stepOf k1 k2 volume flow → RatesPass 0 k2 volume flow → record { lost = 0; spent = 0; filled = bod .filled } ≡ stepOf 0 k2 volume flow
 unfolding stepOf
 idle-step k1 k2 volume flow bod e p =
     let z = step-loses-nothing 0 k2 volume flow p (zero-mul volume) in
     rw (e, z .0, z .1)
 
 -- the share filled is the same for every demand of a reach
-pub filled-alike : (k k1 k2 volume flow : ℕ) (own bod : Step) → own ≡ stepOf k k2 volume flow → bod ≡ stepOf k1 k2 volume flow → record { lost = own .lost; used = own .used; filled = bod .filled } ≡ stepOf k k2 volume flow
+pub filled-alike : (k k1 k2 volume flow : ℕ) (own bod : Step) → own ≡ stepOf k k2 volume flow → bod ≡ stepOf k1 k2 volume flow → record { lost = own .lost; spent = own .spent; filled = bod .filled } ≡ stepOf k k2 volume flow
 unfolding stepOf
 filled-alike k k1 k2 volume flow own bod e b = rw (e, b)
 

@@ -47,9 +47,9 @@ unfolding lowest
 lowest-same at bt h zero = rw (h 0)
 lowest-same at bt h (suc n) = rw (h (suc n), lowest-same at bt h n)
 
--- nothing is used where nothing is lost
-pub nothing-used : {other : Step} → SoundStep other → other .lost ≡ 0 → other .used ≡ 0
-nothing-used sound e = omega (arith, sound .used-lost)
+-- nothing is spent where nothing is lost
+pub nothing-spent : {other : Step} → SoundStep other → other .lost ≡ 0 → other .spent ≡ 0
+nothing-spent sound e = omega (arith, sound .spent-lost)
 
 module _ (step other : Step) (start : Start) (bed : Bed) where
   -- at the head nothing has turned to deficit, and no bed has taken any oxygen
@@ -119,7 +119,7 @@ module _ (step other : Step) (start : Start) (bed : Bed) where
   -- where nothing of the nitrogenous BOD is lost, a profile without nitrification is one with both demands
   pub alone-profiled : {p : Profile} → SoundStep other → other .lost ≡ 0 → Profiled step noStep start bed p → Profiled step other start bed p
   alone-profiled {p} sound l here =
-      let same : (n : ℕ) → demandFrom (startParts start) noStep n ≡ demandFrom (startParts start) other n = λ n. demand-kept noStep refl refl (startParts start) n ∙ sym (demand-kept other l (nothing-used sound l) (startParts start) n) in
+      let same : (n : ℕ) → demandFrom (startParts start) noStep n ≡ demandFrom (startParts start) other n = λ n. demand-kept noStep refl refl (startParts start) n ∙ sym (demand-kept other l (nothing-spent sound l) (startParts start) n) in
       let at : (n : ℕ) → oxygenAfter step noStep start bed n ≡ oxygenAfter step other start bed n = λ n. ap (λ (d : DemandFactors). oxygenOver start bed (factorsAt step n) d n) (same n) in
       let e = lowest-same (oxygenAfter step noStep start bed) (oxygenAfter step other start bed) at foot in
       record {

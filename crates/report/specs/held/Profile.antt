@@ -35,7 +35,7 @@ pub record Begun (start : Start) (walk : Walk) : Type 0 where
 
 -- a step in which no demand is lost, and so none turns to deficit
 abbrev pub noStep : Step
-noStep = record { lost = 0; used = 0; filled = 0 }
+noStep = record { lost = 0; spent = 0; filled = 0 }
 
 -- the parts with which nitrogenous BOD starts
 abbrev pub startParts : Start → ℕ

@@ -9,7 +9,7 @@ use Rattle.report.proofs.lines.nitrogenous_step.Statement.{statement}
 use Rattle.report.proofs.lines.nitrogenous_step.Tie as tie
 
 -- for a rate that is told to be 0
-at-zero : {rate told : ℕ} (k1 k2 volume flow : ℕ) (bod : Step) → told ≡ rate → told ≡ 0 → RatesPass rate k2 volume flow → bod ≡ stepOf k1 k2 volume flow → record { lost = 0; used = 0; filled = bod .filled } ≡ stepOf rate k2 volume flow
+at-zero : {rate told : ℕ} (k1 k2 volume flow : ℕ) (bod : Step) → told ≡ rate → told ≡ 0 → RatesPass rate k2 volume flow → bod ≡ stepOf k1 k2 volume flow → record { lost = 0; spent = 0; filled = bod .filled } ≡ stepOf rate k2 volume flow
 at-zero {rate} k1 k2 volume flow bod e z p b =
     let zero : rate ≡ 0 = sym e ∙ z in
     idle-step k1 k2 volume flow bod b (rw zero at p) ∙ ap (λ (k : ℕ). stepOf k k2 volume flow) (sym zero)
