@@ -84,14 +84,14 @@ def printed():
 
 def make(write):
     path = f"{CRATE}/stdout"
-    text = printed() if write else vectors.stored(path)
-    reaches, largest = distances(text or "")
+    text = printed() if write else (vectors.stored(path) or b"").decode()
+    reaches, largest = distances(text)
     if not reaches:
         raise vectors.Failed(f"{path} holds no reach")
     for name, most in MOST_OFF.items():
         if any(number > limit for number, limit in zip(largest[name], most)):
             raise vectors.Failed(f"{path}: {name}s are off by up to {largest[name]} parts of 2^-44, above {most}")
-    vectors.settle(path, text, write)
+    vectors.settle(path, text.encode(), write)
     step, instant = (reference.counted(max(largest[name]), "part") for name in ("step", "instant"))
     return f"decay vectors: {reaches} reaches, shares of a step within {step} of 2^-44, factors within {instant} of 2^-44"
 

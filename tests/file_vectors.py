@@ -1,5 +1,5 @@
 #!/usr/bin/env python3
-"""Makes src/vectors.rt and stdout of the crate file_vectors, which reads and writes river files, from the reference.
+"""Makes stdin and stdout of the crate file_vectors, which reads and writes river files, from the reference.
 
     tests/file_vectors.py --check | --write
 """
@@ -10,13 +10,14 @@ import reference
 import vectors
 from reference import LONGEST, Ammonia, Card, Dam, Factors, Pressure, Refused, River, Sludge, Take
 
-CRATE = "crates/file_vectors"
-# The fields of a card that hold the records after a reach, with their types and names, and those of one number among them.
-RECORDS = [("dam", "Dam", "dam"), ("take", "Amount", "take"), ("pressure", "Amount", "pressure"), ("sludge", "Amount", "sludge bed"),
-           ("nitrification", "Nitrification", "nitrification")]
-AMOUNTS = [name for name, kind, _ in RECORDS if kind == "Amount"]
-# Functions that make a plain card by its outlet and the first so many of these records, and no others.
-MAKERS = {"plain": 2, "plain_with": 3, "plain_on": 4, "plain_in": 5}
+CRATE = "file_vectors"
+# The kinds of cases, as in its src/main.rt.
+READ, WRITE, CHAIN, LONGEST_FILE = (bytes([kind]) for kind in range(4))
+# The widths of the numbers of a reach in a case, as in its src/given.rt; those of records after it, each behind a byte that tells whether it is there.
+REACH_WIDTHS = {"outlet": 1, "temperature": 1, "inflow_oxygen": 2, "k1": 4, "k2": 4, "volume": 4, "inflow": 4, "inflow_bod": 4, "load": 4}
+RECORD_WIDTHS = {"dam": (2, 4), "take": (4,), "pressure": (4,), "sludge": (4,), "ammonia": (4, 4, 4)}
+FACTOR_WIDTHS = (2, 2)
+MOST_ROOM = 128         # bytes of the longest buffer that a river is written to
 ROOM = 100              # bytes of the buffer to which a river that was read is written again
 CHAIN_ROOM = LONGEST    # bytes of the buffer for a chain
 
@@ -219,103 +220,41 @@ def output():
                    + [many(count) for count in COUNTS] + [many(count, factors) for factors, count in FACTORED_COUNTS] + [f"longest {LONGEST}\n"])
 
 
-# ---- The source
+# ---- The cases
 
-def literal(data):
-    """A byte string of Rattle."""
-    return 'b"' + "".join(chr(byte) if byte < 128 and chr(byte).isalnum() else f"\\x{byte:02x}" for byte in data) + '"'
-
-
-def dam_value(dam):
-    return "Dam::Absent" if dam is None else f"Dam::Aerating {{ share: {dam.share}, generating: {dam.generating} }}"
+def number(value, width):
+    return value.to_bytes(width, "big")
 
 
-def amount_value(amount):
-    """Of an optional record of one number."""
-    return "Amount::Without" if amount is None else f"Amount::Given({amount[0]})"
+def optional(values, widths):
+    """Numbers that may be missing, behind a byte that tells."""
+    if values is None:
+        return bytes(1 + sum(widths))
+    return b"\x01" + b"".join(map(number, values, widths))
 
 
-def nitrification_value(ammonia):
-    return "Nitrification::Idle" if ammonia is None else "Nitrification::Nitrifying {{ rate: {}, concentration: {}, load: {} }}".format(*ammonia)
+def card_case(card):
+    """The numbers of a card as a program holds them."""
+    return (b"".join(number(getattr(card, name), width) for name, width in REACH_WIDTHS.items())
+            + b"".join(optional(getattr(card, name), widths) for name, widths in RECORD_WIDTHS.items()))
 
 
-def factors_value(factors):
-    return "per_degree({}, {})".format(*factors)
+def river_case(kind, count, factors, room=0, cards=()):
+    """A river to write: its rate factors, its count, the room for its file, and its cards."""
+    if room > MOST_ROOM:
+        raise vectors.Failed(f"a buffer of {room} bytes is longer than that of the program")
+    return kind + optional(factors, FACTOR_WIDTHS) + number(count, 1) + number(room, 2) + b"".join(map(card_case, cards))
 
 
-def record_values(card):
-    """What a card holds in the fields of the records after a reach."""
-    return [dam_value(card.dam), *(amount_value(getattr(card, name)) for name in AMOUNTS), nitrification_value(card.ammonia)]
-
-
-def card_function(head, card, *given):
-    """A function that yields a card, with some of its fields given as parameters of the same name."""
-    fields = reference.reach_values(card)._asdict() | {name: value for (name, _, _), value in zip(RECORDS, record_values(card))}
-    return [f"fn {head} -> Card {{", "Card { " + ", ".join(name if name in given else f"{name}: {value}" for name, value in fields.items()) + " }", "}", ""]
-
-
-def maker_functions():
-    """The functions that make plain cards, each but the first by the one before it."""
-    lines, wider = [], None
-    for made, count in reversed(MAKERS.items()):
-        names, _, words = zip(*RECORDS[:count])
-        head = f"{made}(outlet: u8, {', '.join(f'{name}: {kind}' for name, kind, _ in RECORDS[:count])})"
-        lines += [f"// The plain card with this outlet, {', '.join(words[:-1])} and {words[-1]}."]
-        if wider:
-            lines += [f"fn {head} -> Card {{", f"{wider}(outlet, {', '.join(names)}, {record_values(PLAIN)[count]})", "}", ""]
-        else:
-            lines += card_function(head, PLAIN, "outlet", *names)
-        wider = made
-    return lines
-
-
-def card_statements(name, card):
-    """The statements that make a card: the largest, or a plain one with some fields changed."""
-    if card in (MOST, MOST_TAKEN):
-        return [f"let {name} = most({amount_value(card.take)});"]
-    changes = [f"{name}.{field} = {number};" for field, number in reference.reach_values(card)._asdict().items()
-               if field != "outlet" and number != getattr(PLAIN, field)]
-    values, none = record_values(card), record_values(PLAIN)
-    made, count = next((made, count) for made, count in MAKERS.items() if values[count:] == none[count:])
-    return [f"let {'mut ' if changes else ''}{name} = {made}({card.outlet}, {', '.join(values[:count])});"] + changes
-
-
-def writing(cards, room, factors=None):
-    """The statements that write some cards to a buffer, with rate factors or without."""
-    names = "cd"[:len(cards)]
-    lines = [line for name, card in zip(names, cards) for line in card_statements(name, card)]
-    call = f"{'wrote' if len(cards) == 1 else 'wrote_two' if factors is None else 'wrote_with'}("
-    call += ", ".join(([] if factors is None else [factors_value(factors)]) + list(names)) + ", "
-    return " ".join(lines + ([f"let mut out = [7u8; {room}]; {call}&mut out);"] if room else [f"{call}&mut []);"]))
-
-
-def functions(name, lines, each=6):
-    """Functions name1, name2 .. with so many of the lines each."""
-    return {f"{name}{k // each + 1}": lines[k:k + each] for k in range(0, len(lines), each)}
-
-
-def source():
-    bodies = {}
-    for name, files in FILES.items():
-        bodies |= functions(name, [f"show({literal(data)});" for data in files])
-    bodies |= functions("rivers", [writing(cards, room) for cards, room in RIVERS], each=4)
-    bodies |= functions("factored", [writing(cards, room, factors) for factors, cards, room in FACTORED], each=4)
-    bodies |= functions("counts", [f"many({count});" for count in COUNTS]
-                        + [f"many_with({factors_value(factors)}, {count});" for factors, count in FACTORED_COUNTS] + ["longest();"], each=9)
-    lines = ["// Vectors of the test program, made by tests/file_vectors.py from the reference program.",
-             "use crate::shown::{longest, many, many_with, show, wrote, wrote_two, wrote_with};",
-             "use river::card::{Amount, Card, Dam, Nitrification, RateFactors};", ""] + maker_functions()
-    lines += ["// The card with the largest numbers in its reach and its dam, and this take."] + card_function("most(take: Amount)", MOST, "take")
-    lines += ["// These rate factors.", "fn per_degree(decay: u16, aeration: u16) -> RateFactors {", "RateFactors::PerDegree { decay, aeration }", "}", ""]
-    for name, body in bodies.items():
-        lines += [f"fn {name}() {{"] + body + ["}", ""]
-    lines += ["// Every vector, in the order of the stored output.", "pub fn all() {"] + [f"{name}();" for name in bodies] + ["}", ""]
-    return "\n".join(lines)
+def cases():
+    return ([READ + data for files in FILES.values() for data in files]
+            + [river_case(WRITE, len(cards), None, room, cards) for cards, room in RIVERS]
+            + [river_case(WRITE, len(cards), factors, room, cards) for factors, cards, room in FACTORED]
+            + [river_case(CHAIN, count, None) for count in COUNTS] + [river_case(CHAIN, count, factors) for factors, count in FACTORED_COUNTS] + [LONGEST_FILE])
 
 
 def make(write):
-    vectors.settle(f"{CRATE}/src/vectors.rt", vectors.formatted(source()), write)
-    vectors.settle(f"{CRATE}/stdout", output(), write)
+    vectors.settle_both(CRATE, cases(), output(), write)
     return f"file vectors: {sum(map(len, FILES.values()))} files, {len(RIVERS) + len(FACTORED)} rivers and {len(COUNTS) + len(FACTORED_COUNTS)} chains are up to date"
 
 

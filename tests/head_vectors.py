@@ -1,5 +1,5 @@
 #!/usr/bin/env python3
-"""Makes src/vectors.rt and stdout of the crate head_vectors, which works flows and heads over given feet, from the reference.
+"""Makes stdin and stdout of the crate head_vectors, which works flows and heads over given feet, from the reference.
 
     tests/head_vectors.py --check | --write
 """
@@ -11,7 +11,7 @@ import reference
 import vectors
 from reference import Ammonia, Card, Dam, Factors, Pressure, Refused, River, Sludge, Take
 
-CRATE = "crates/head_vectors"
+CRATE = "head_vectors"
 OFFSET = 2 ** 31        # the program holds oxygen as units + 2^31
 
 
@@ -66,7 +66,7 @@ def saturations(*places):
 
 
 def made(star):
-    """The rivers of src/made.rt."""
+    """As many reaches as there may be: a chain, or a star whose last reach all others feed."""
     return [card(0 if i == 127 else 128 if star else i + 2, i % 36, 100, 200, 50, 0x0B00 + i, 2000, 8000, 5) for i in range(128)]
 
 
@@ -224,28 +224,16 @@ def lines(given, first, step):
     return result
 
 
-def output():
-    rivers = [river for group in GROUPS.values() for river in group] + MADE
-    return "".join(line + "\n" for river in rivers for line in lines(*river))
-
-
-def literal(data):
-    """A byte string of Rattle."""
-    capitals = b"ABCDEFGHIJKLMNOPQRSTUVWXYZ"
-    return 'b"' + "".join(chr(byte) if byte in capitals else f"\\x{byte:02x}" for byte in data) + '"'
-
-
-def source():
-    code = ["// Vectors of the test program, made by tests/head_vectors.py from the reference program.", "use crate::shown::show;", ""]
-    for name, rivers in GROUPS.items():
-        code += [f"fn {name}() {{"] + [f"show({literal(reference.encode(river_of(given)))}, {first}, {step});" for given, first, step in rivers] + ["}", ""]
-    return "\n".join(code + ["pub fn all() {"] + [f"{name}();" for name in GROUPS] + ["}", ""])
+def case(given, first, step):
+    """A case of the program: the oxygen of the feet, and the file."""
+    return first.to_bytes(4, "big") + step.to_bytes(4, "big") + reference.encode(river_of(given))
 
 
 def make(write):
-    vectors.settle(f"{CRATE}/src/vectors.rt", vectors.formatted(source()), write)
-    vectors.settle(f"{CRATE}/stdout", output(), write)
-    return f"head vectors: {sum(map(len, GROUPS.values())) + len(MADE)} rivers are up to date"
+    rivers = [river for group in GROUPS.values() for river in group] + MADE
+    output = "".join(line + "\n" for river in rivers for line in lines(*river))
+    vectors.settle_both(CRATE, [case(*river) for river in rivers], output, write)
+    return f"head vectors: {len(rivers)} rivers are up to date"
 
 
 if __name__ == "__main__":

@@ -1,13 +1,13 @@
-"""What the vector scripts share: their command line, the formatting of generated source, and how a generated file is settled."""
+"""What the vector scripts share: their command line, the bundle of cases that a test program reads, and how a made file is settled."""
 
 import argparse
 import os
 import shutil
 import subprocess
 import sys
-import tempfile
 
 ROOT = os.path.dirname(os.path.dirname(os.path.abspath(__file__)))
+BUNDLE = 65_536         # bytes of the longest bundle, as in crates/cases
 
 
 class Failed(Exception):
@@ -21,39 +21,38 @@ def rt(*words, folder=ROOT):
     return subprocess.run(["rt", *words], cwd=folder, stdout=subprocess.PIPE, stderr=subprocess.STDOUT, text=True, check=False)
 
 
-def formatted(source):
-    """Rattle source in the layout of `rt fmt`, which formats a repository: so it is given one of a single file."""
-    with tempfile.TemporaryDirectory() as folder:
-        os.makedirs(os.path.join(folder, "crates", "one", "src"))
-        path = os.path.join(folder, "crates", "one", "src", "main.rt")
-        for name, text in ((os.path.join(folder, "crates.txt"), "one:\n"), (path, source)):
-            with open(name, "w", encoding="utf-8") as file:
-                file.write(text)
-        done = rt("fmt", folder=folder)
-        if done.returncode:
-            raise Failed(f"rt fmt failed:\n{done.stdout}")
-        with open(path, encoding="utf-8") as file:
-            return file.read()
+def bundle(cases):
+    """What a test program reads on standard input (crates/cases): the length of a case in four bytes, the case, and so on."""
+    made = b"".join(len(case).to_bytes(4, "big") + case for case in cases)
+    if len(made) > BUNDLE:
+        raise Failed(f"the bundle has {len(made)} bytes, and its program has room for {BUNDLE}")
+    return made
 
 
 def stored(path):
-    """The text of a file of the repository, or nothing where it is missing."""
+    """The bytes of a file of the repository, or nothing where it is missing."""
     try:
-        with open(os.path.join(ROOT, path), encoding="utf-8", newline="") as file:
+        with open(os.path.join(ROOT, path), "rb") as file:
             return file.read()
     except FileNotFoundError:
         return None
 
 
-def settle(path, text, write):
-    """Holds a file of the repository to its text, or writes it where it differs."""
-    if stored(path) == text:
+def settle(path, made, write):
+    """Holds a file of the repository to its bytes, or writes it where it differs."""
+    if stored(path) == made:
         return
     if not write:
         raise Failed(f"{path} is not up to date; --write makes it anew")
-    with open(os.path.join(ROOT, path), "w", encoding="utf-8", newline="") as file:
-        file.write(text)
+    with open(os.path.join(ROOT, path), "wb") as file:
+        file.write(made)
     print(f"{path} written")
+
+
+def settle_both(crate, cases, output, write):
+    """The same for the two files of a test program: its cases, and what it prints for them."""
+    settle(f"crates/{crate}/stdin", bundle(cases), write)
+    settle(f"crates/{crate}/stdout", output.encode(), write)
 
 
 def run(description, make):

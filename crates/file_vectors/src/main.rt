@@ -1,7 +1,56 @@
-// Reads and writes river files kept as byte strings and prints the answers; the stored output is the reference program's.
+// Reads and writes river files by the cases on standard input and prints the answers; the stored output is the reference program's.
+mod given;
 mod shown;
-mod vectors;
+
+use cases::BUNDLE;
+use cases::case_end;
+use cases::case_in;
+use given::count_in;
+use given::factors_in;
+use given::river_in;
+use given::room_in;
+use river::bytes::behind;
+use river::bytes::byte_at;
+use shown::longest;
+use shown::many;
+use shown::show;
+use shown::wrote;
+
+// The kinds of cases, by their first byte: a file to read, a river to write, a chain of reaches to write, and the length of the longest file.
+const READ: u8 = 0;
+
+const WRITE: u8 = 1;
+
+const CHAIN: u8 = 2;
+
+const LONGEST: u8 = 3;
+
+fn show_case(case: &[u8]) {
+    let kind = byte_at(case, 0);
+    if kind == READ {
+        show(behind(case, 1));
+    } else if kind == WRITE {
+        wrote(factors_in(case), river_in(case), room_in(case));
+    } else if kind == CHAIN {
+        many(factors_in(case), count_in(case));
+    } else if kind == LONGEST {
+        longest();
+    }
+}
+
+// Shows the cases of a bundle, one after another.
+fn show_all(bundle: &[u8]) {
+    let mut at: usize = 0;
+    let mut end = case_end(bundle, at);
+    while at < end {
+        show_case(case_in(bundle, at, end));
+        at = end;
+        end = case_end(bundle, at);
+    }
+}
 
 fn main() {
-    vectors::all();
+    let mut bundle = [0u8; BUNDLE];
+    let n = io::read_full(0, &mut bundle);
+    show_all(&bundle[..n]);
 }

@@ -182,22 +182,15 @@ pub fn show(file: &[u8]) {
     }
 }
 
-// Writing of a river of one reach.
-pub fn wrote(c: Card, out: &mut [u8]) {
-    let at = [c; REACHES];
-    written(RateFactors::AsGiven, Cards { at, count: 1 }, out);
-}
+// The longest buffer that a river is written to.
+const ROOM: usize = 128;
 
-// Writing of a river of two reaches with these rate factors.
-pub fn wrote_with(factors: RateFactors, c: Card, d: Card, out: &mut [u8]) {
-    let mut at = [d; REACHES];
-    at[0] = c;
-    written(factors, Cards { at, count: 2 }, out);
-}
-
-// Writing of a river of two reaches.
-pub fn wrote_two(c: Card, d: Card, out: &mut [u8]) {
-    wrote_with(RateFactors::AsGiven, c, d, out);
+// Writing of a river with these rate factors to a buffer of so many bytes.
+pub fn wrote(factors: RateFactors, river: Cards, room: usize) {
+    let mut out = [7u8; ROOM];
+    if room <= ROOM {
+        written(factors, river, &mut out[..room]);
+    }
 }
 
 // The card of reach i of n in a chain.
@@ -232,7 +225,7 @@ fn reread(out: &[u8], l: usize) {
 }
 
 // Writing of a chain of n reaches with these rate factors, and what the file is read as.
-pub fn many_with(factors: RateFactors, n: u8) {
+pub fn many(factors: RateFactors, n: u8) {
     let mut out = [0u8; LONGEST_FILE];
     match write_cards(factors, chain(n), &mut out) {
         Written::Refused(r) => refusal(r),
@@ -241,11 +234,6 @@ pub fn many_with(factors: RateFactors, n: u8) {
             reread(&out, l);
         }
     }
-}
-
-// The same without rate factors.
-pub fn many(n: u8) {
-    many_with(RateFactors::AsGiven, n);
 }
 
 // The length of the longest file.

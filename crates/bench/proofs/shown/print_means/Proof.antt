@@ -1,8 +1,8 @@
--- `bench::print_means` is safe and ends: the measure is how many reaches are left. Assumes nothing.
+-- `bench::shown::print_means` is safe and ends: the measure is how many reaches are left. Assumes nothing.
 use Prim.Native.Nat.{_-_}
 use native.Mathlib.Omega.{arith}
-use Rattle.bench.proofs.print_means.Statement.{statement}
-use Rattle.bench.proofs.print_means.Tie as tie
+use Rattle.bench.proofs.shown.print_means.Statement.{statement}
+use Rattle.bench.proofs.shown.print_means.Tie as tie
 
 abbrev Inv-loop : tie.InvT-loop
 Inv-loop means reaches i₀ i = Unit

@@ -1,4 +1,4 @@
--- `bench::print_first` is safe and ends: the measure is how many reaches are left. Assumes nothing.
+-- `bench::shown::print_first` is safe and ends: the measure is how many reaches are left. Assumes nothing.
 use borrow.Author.Needs.{needs}
 use mathlib.Core.Bool.{Bool}
 use mathlib.Core.Path.{_≡_, sym}
@@ -7,14 +7,14 @@ use native.Mathlib.Nat.{mul-le-mul}
 use native.Mathlib.Omega.{arith}
 use Rattle.report.specs.Record.{recordBytes}
 use Rattle.report.proofs.record.Encoding.{record-bounds}
-use Rattle.bench.proofs.print_first.Statement.{statement}
-use Rattle.bench.proofs.print_first.Tie as tie
+use Rattle.bench.proofs.shown.print_first.Statement.{statement}
+use Rattle.bench.proofs.shown.print_first.Tie as tie
 
 abbrev Inv-loop : tie.InvT-loop
-Inv-loop report nitrified reaches size i₀ i = Unit
+Inv-loop report nitrified reaches status size i₀ i = Unit
 
 abbrev μ-loop : tie.MeasureT-loop
-μ-loop report nitrified reaches size i₀ i = reaches - i
+μ-loop report nitrified reaches status size i₀ i = reaches - i
 
 -- The ends of records are small.
 ends : (nitrified : Bool) {size i : ℕ} → size ≡ recordBytes nitrified → i ≤ 255 → size * i + size ≤ 40 * 255 + 40

@@ -1,8 +1,0 @@
-// Prints the text for the river file on standard input: one line a reach, or the refusal.
-fn main() {
-    let mut file = [0u8; text::FILE];
-    let n = io::read_full(0, &mut file);
-    let mut out = [0u8; text::TEXT];
-    let length = text::render(&file[..n], &mut out);
-    io::write_all(1, &out[..length]);
-}
