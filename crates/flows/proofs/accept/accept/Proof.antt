@@ -1,4 +1,4 @@
--- `river::accept::accept` meets its contract: the laws of proofs/Acceptance over what reading, correction and flow check yield.
+-- `flows::accept::accept` meets its contract: the laws of proofs/Acceptance over what reading, correction and flow check yield.
 use borrow.Author.Needs.{needs}
 use Rattle.river.specs.Bytes.{AreBytes}
 use Rattle.flows.proofs.Acceptance.{reading-lawful, reading-refused, regular-read, reading-checked}

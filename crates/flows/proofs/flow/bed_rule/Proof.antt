@@ -1,4 +1,4 @@
--- `river::flow::bed_rule` meets its contract: the product of two numbers of four bytes fits eight, and each answer follows from the test that led to it.
+-- `flows::flow::bed_rule` meets its contract: the product of two numbers of four bytes fits eight, and each answer follows from the test that led to it.
 use borrow.Author.Needs.{needs}
 use borrow.Author.Tests.{le-leb, lt-leb}
 use native.Mathlib.Nat.{mul-le-mul}

@@ -1,4 +1,4 @@
--- `river::flow::check` meets its contract: the outcomes of its groups join, and where 8 has passed the flow is small enough for the rest.
+-- `flows::flow::check` meets its contract: the outcomes of its groups join, and where 8 has passed the flow is small enough for the rest.
 use lib.Dec.{ltb}
 use borrow.Author.Needs.{needs}
 use native.Mathlib.Omega.{arith}

@@ -1,4 +1,4 @@
--- `river::flow::check_from` meets its contract: the laws of the loop in proofs/flow/FlowCheck.
+-- `flows::flow::check_from` meets its contract: the laws of the loop in proofs/flow/FlowCheck.
 use mathlib.Core.Path.{_≡_, ap}
 use Prim.Native.Nat.{ℕ, suc, _-_, _<_}
 use native.Mathlib.Omega.{arith}

@@ -1,4 +1,4 @@
--- `river::flow::check_next` meets its contract: the laws of proofs/flow/Checks over what its calls yield.
+-- `flows::flow::check_next` meets its contract: the laws of proofs/flow/Checks over what its calls yield.
 use borrow.Author.Needs.{needs}
 use native.Mathlib.Nat.{le-of-lt}
 use native.Mathlib.Numerals.{add-one}

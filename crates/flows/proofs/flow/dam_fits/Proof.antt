@@ -1,4 +1,4 @@
--- `river::flow::dam_fits` meets its contract, by the cases of the dam.
+-- `flows::flow::dam_fits` meets its contract, by the cases of the dam.
 use borrow.Author.Needs.{needs}
 use borrow.Author.Tests.{lt-ltb, le-ltb}
 use Rattle.flows.specs.Flow.{damFits}

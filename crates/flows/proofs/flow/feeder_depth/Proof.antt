@@ -1,4 +1,4 @@
--- `river::flow::feeder_depth` meets its contract: the depth so far is the largest over the first j reaches.
+-- `flows::flow::feeder_depth` meets its contract: the depth so far is the largest over the first j reaches.
 use mathlib.Core.Path.{_≡_, refl, ap, _∙_}
 use mathlib.Core.Logic.{⊎-elim}
 use Prim.Native.Nat.{ℕ, _≤_, _-_}

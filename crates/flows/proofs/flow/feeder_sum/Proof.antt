@@ -1,4 +1,4 @@
--- `river::flow::feeder_sum` meets its contract: the sum so far is that over the first j reaches.
+-- `flows::flow::feeder_sum` meets its contract: the sum so far is that over the first j reaches.
 use mathlib.Core.Path.{_≡_, refl, ap, _∙_}
 use mathlib.Core.Logic.{⊎-elim}
 use Prim.Native.Nat.{ℕ, _+_, _≤_, _-_}

@@ -1,4 +1,4 @@
--- `river::flow::flow_check` meets its contract: before the first reach nothing is asked of the tables.
+-- `flows::flow::flow_check` meets its contract: before the first reach nothing is asked of the tables.
 use borrow.Author.Needs.{needs}
 use Rattle.flows.proofs.flow.FlowCheck.{at-start}
 use Rattle.flows.proofs.flow.flow_check.Statement.{statement}

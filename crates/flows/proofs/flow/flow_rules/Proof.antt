@@ -1,4 +1,4 @@
--- `river::flow::flow_rules` meets its contract: each answer follows from the tests that led to it.
+-- `flows::flow::flow_rules` meets its contract: each answer follows from the tests that led to it.
 use mathlib.Core.Path.{sym, _∙_}
 use native.Mathlib.Omega.{arith}
 use borrow.Author.Needs.{needs}

@@ -1,4 +1,4 @@
--- `river::flow::load_rule` meets its contract: each answer follows from the test that led to it.
+-- `flows::flow::load_rule` meets its contract: each answer follows from the test that led to it.
 use borrow.Author.Needs.{needs}
 use borrow.Author.Tests.{le-leb, lt-leb}
 use Rattle.river.specs.Refusal.{need, goOn}

@@ -1,4 +1,4 @@
--- `river::flow::own_mass` meets its contract: what the two sources bring fits.
+-- `flows::flow::own_mass` meets its contract: what the two sources bring fits.
 use borrow.Author.Needs.{needs}
 use mathlib.Core.Path.{ap, ap₂, _∙_}
 use Prim.Native.Nat.{_+_}

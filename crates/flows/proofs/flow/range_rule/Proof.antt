@@ -1,4 +1,4 @@
--- `river::flow::range_rule` meets its contract: each answer follows from the test that led to it.
+-- `flows::flow::range_rule` meets its contract: each answer follows from the test that led to it.
 use borrow.Author.Needs.{needs}
 use borrow.Author.Tests.{not-true, not-false}
 use Rattle.river.specs.Refusal.{need, goOn}

@@ -1,4 +1,4 @@
--- `river::flow::rate_fits` meets its contract: the product of four and four bytes fits eight.
+-- `flows::flow::rate_fits` meets its contract: the product of four and four bytes fits eight.
 use borrow.Author.Needs.{needs}
 use native.Mathlib.Nat.{mul-le-mul}
 use native.Mathlib.Omega.{arith}

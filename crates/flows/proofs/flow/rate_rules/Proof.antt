@@ -1,4 +1,4 @@
--- `river::flow::rate_rules` meets its contract: each answer follows from the tests that led to it.
+-- `flows::flow::rate_rules` meets its contract: each answer follows from the tests that led to it.
 use mathlib.Core.Path.{_≡_, sym, ap, _∙_}
 use mathlib.Core.Bool.{Bool, true, false}
 use mathlib.Core.List.{List}

@@ -1,4 +1,4 @@
--- `river::flow::reach_count` meets its contract: the array has 128 cards.
+-- `flows::flow::reach_count` meets its contract: the array has 128 cards.
 use borrow.Author.Needs.{needs}
 use lib.ListN.{length-map}
 use Rattle.flows.proofs.flow.Count.{all-reaches, count-reaches}

@@ -1,4 +1,4 @@
--- `river::flow::remaining_mass` meets its contract: what is drawn is no more than there is.
+-- `flows::flow::remaining_mass` meets its contract: what is drawn is no more than there is.
 use Prim.Native.Nat.{_*_, _/_, _≤_}
 use native.Mathlib.Nat.{mul-div-le, mul-le-mul-right}
 use native.Mathlib.Omega.{arith}

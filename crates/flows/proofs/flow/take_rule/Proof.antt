@@ -1,4 +1,4 @@
--- `river::flow::take_rule` meets its contract: each answer follows from the test that led to it.
+-- `flows::flow::take_rule` meets its contract: each answer follows from the test that led to it.
 use borrow.Author.Needs.{needs}
 use borrow.Author.Tests.{lt-ltb, le-ltb}
 use native.Mathlib.Omega.{arith}

@@ -1,4 +1,4 @@
--- `river::flow::upstream_of` meets its contract: three calls at the reach after the first i.
+-- `flows::flow::upstream_of` meets its contract: three calls at the reach after the first i.
 use borrow.Author.Needs.{needs}
 use native.Mathlib.Numerals.{add-one}
 use Rattle.flows.proofs.flow.upstream_of.Statement.{statement}

@@ -1,4 +1,4 @@
--- `river::head::aerate` meets its contract, from below saturation and from above.
+-- `flows::head::aerate` meets its contract, from below saturation and from above.
 use borrow.Author.Needs.{needs}
 use Prim.Native.Nat.{_-_}
 use native.Mathlib.Omega.{arith}

@@ -1,4 +1,4 @@
--- `river::head::below_dam` meets its contract, by the cases of the dam.
+-- `flows::head::below_dam` meets its contract, by the cases of the dam.
 use borrow.Author.Needs.{needs}
 use mathlib.Core.Path.{refl, _∙_}
 use native.Mathlib.Nat.{mul-le-mul}

@@ -1,4 +1,4 @@
--- `river::head::brought_to` meets its contract: three sums at the reach after the first i.
+-- `flows::head::brought_to` meets its contract: three sums at the reach after the first i.
 use borrow.Author.Needs.{needs}
 use native.Mathlib.Numerals.{add-one}
 use Rattle.flows.proofs.head.brought_to.Statement.{statement}

@@ -1,4 +1,4 @@
--- `river::head::foot_of` meets its contract: the products fit.
+-- `flows::head::foot_of` meets its contract: the products fit.
 use borrow.Author.Needs.{needs}
 use Prim.Native.Nat.{_≤_}
 use native.Mathlib.Nat.{mul-le-mul}

@@ -1,4 +1,4 @@
--- `river::head::head_demand` meets its contract: what is mixed is at most the limit times the flow.
+-- `flows::head::head_demand` meets its contract: what is mixed is at most the limit times the flow.
 use borrow.Author.Needs.{needs}
 use native.Mathlib.Omega.{arith}
 use Rattle.flows.specs.Head.{headDemand}

@@ -1,4 +1,4 @@
--- `river::head::head_of` meets its contract: one formula for both demands, by their sources.
+-- `flows::head::head_of` meets its contract: one formula for both demands, by their sources.
 use borrow.Author.Needs.{needs}
 use Rattle.flows.proofs.head.Heads.{bod-input, nitrogenous-input}
 use Rattle.flows.proofs.head.head_of.Statement.{statement}

@@ -1,4 +1,4 @@
--- `river::head::head_oxygen` meets its contract: the mixture of stored numbers, rounded down.
+-- `flows::head::head_oxygen` meets its contract: the mixture of stored numbers, rounded down.
 use borrow.Author.Needs.{needs}
 use Prim.Native.Nat.{_≤_}
 use native.Mathlib.Omega.{arith}

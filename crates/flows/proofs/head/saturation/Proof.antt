@@ -1,4 +1,4 @@
--- `river::head::saturation` meets its contract: at 0 to 35 degrees and at most 800 mm no term, sum or product leaves its type.
+-- `flows::head::saturation` meets its contract: at 0 to 35 degrees and at most 800 mm no term, sum or product leaves its type.
 use borrow.Author.Needs.{needs}
 use mathlib.Core.Path.{refl}
 use native.Mathlib.Nat.{mul-le-mul}

@@ -1,4 +1,4 @@
--- `river::head::saturation_of` meets its contract, by its definition.
+-- `flows::head::saturation_of` meets its contract, by its definition.
 use borrow.Author.Needs.{needs}
 use mathlib.Core.Path.{_∙_}
 use Rattle.flows.specs.Saturation.{saturationOf}

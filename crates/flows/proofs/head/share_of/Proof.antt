@@ -1,4 +1,4 @@
--- `river::head::share_of` meets its contract: long division in two chunks.
+-- `flows::head::share_of` meets its contract: long division in two chunks.
 use borrow.Author.Needs.{needs}
 use Prim.Native.Nat.{_≤_, _/_, _%_, _*_}
 use native.Mathlib.Nat.{mul-le-mul, mod-lt}

@@ -1,4 +1,4 @@
--- `river::head::upstream_demand` meets its contract, with feeders and without.
+-- `flows::head::upstream_demand` meets its contract, with feeders and without.
 use Rattle.flows.specs.Head.{upstreamDemand}
 use Rattle.flows.proofs.head.upstream_demand.Statement.{statement}
 use Rattle.flows.proofs.head.upstream_demand.Tie as tie

@@ -1,4 +1,4 @@
--- `river::head::upstream_oxygen` meets its contract, with feeders and without.
+-- `flows::head::upstream_oxygen` meets its contract, with feeders and without.
 use mathlib.Core.Path.{ap, _∙_}
 use mathlib.Core.Bool.{true}
 use Prim.Native.Nat.{_/_, _^_, _<_}

@@ -1,4 +1,4 @@
--- `river::rates::cooled` meets its contract: after d degrees the rate is that at d degrees below 20.
+-- `flows::rates::cooled` meets its contract: after d degrees the rate is that at d degrees below 20.
 use mathlib.Core.Path.{_≡_, refl, ap, _∙_}
 use Prim.Native.Nat.{ℕ, _*_, _/_, _-_, _≤_}
 use native.Mathlib.Numerals.{add-one}

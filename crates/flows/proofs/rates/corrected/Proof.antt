@@ -1,4 +1,4 @@
--- `river::rates::corrected` meets its contract, field by field: the rates are corrected, all else is the card's.
+-- `flows::rates::corrected` meets its contract, field by field: the rates are corrected, all else is the card's.
 use borrow.Author.Needs.{needs}
 use Rattle.flows.specs.Rates.{decayInForce, aerationInForce}
 use Rattle.flows.proofs.rates.corrected.Statement.{statement}

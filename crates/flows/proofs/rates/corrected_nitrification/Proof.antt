@@ -1,4 +1,4 @@
--- `river::rates::corrected_nitrification` meets its contract, by cases: none has no rate, and any other its rate corrected.
+-- `flows::rates::corrected_nitrification` meets its contract, by cases: none has no rate, and any other its rate corrected.
 use mathlib.Core.Path.{sym, ap, subst, _∙_}
 use borrow.Author.Needs.{needs}
 use Rattle.river.specs.declared.card.Nitrification.{Nitrification}

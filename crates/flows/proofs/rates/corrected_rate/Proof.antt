@@ -1,4 +1,4 @@
--- `river::rates::corrected_rate` meets its contract: below 20 degrees it is cooled, and from 20 on warmed, and the result fits four bytes.
+-- `flows::rates::corrected_rate` meets its contract: below 20 degrees it is cooled, and from 20 on warmed, and the result fits four bytes.
 use mathlib.Core.Path.{sym, ap, _∙_}
 use Prim.Native.Nat.{ℕ, _-_, _*_, _/_}
 use native.Mathlib.Omega.{arith}

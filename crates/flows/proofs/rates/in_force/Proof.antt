@@ -1,4 +1,4 @@
--- `river::rates::in_force` meets its contract: without factors the cards stay, and otherwise the first i of them are corrected.
+-- `flows::rates::in_force` meets its contract: without factors the cards stay, and otherwise the first i of them are corrected.
 use mathlib.Core.Path.{_≡_, refl, sym, ap, subst, _∙_}
 use mathlib.Core.List.{List, [], _∷_, _++_, map}
 use Prim.Native.Nat.{ℕ, suc, _-_, _<_, _≤_}
