@@ -3,6 +3,7 @@
 # NAME.mean as the programs print them.
 #   examples/make.sh           makes them anew
 #   examples/make.sh --check   changes nothing; says which are out of date
+# tests/example_vectors.py makes of them what the gate prints.
 set -eu
 cd "$(dirname -- "$(readlink -f -- "${BASH_SOURCE[0]}")")"
 

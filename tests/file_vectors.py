@@ -12,12 +12,12 @@ from reference import LONGEST, Ammonia, Card, Dam, Factors, Pressure, Refused, R
 
 CRATE = "file_vectors"
 # The kinds of cases, as in its src/main.rt.
-READ, WRITE, CHAIN, LONGEST_FILE = (bytes([kind]) for kind in range(4))
+READ, WRITE, COPY, LONGEST_FILE = (bytes([kind]) for kind in range(4))
 # The widths of the numbers of a reach in a case, as in its src/given.rt; those of records after it, each behind a byte that tells whether it is there.
 REACH_WIDTHS = {"outlet": 1, "temperature": 1, "inflow_oxygen": 2, "k1": 4, "k2": 4, "volume": 4, "inflow": 4, "inflow_bod": 4, "load": 4}
 RECORD_WIDTHS = {"dam": (2, 4), "take": (4,), "pressure": (4,), "sludge": (4,), "ammonia": (4, 4, 4)}
 FACTOR_WIDTHS = (2, 2)
-MOST_ROOM = 128         # bytes of the longest buffer that a river is written to
+MOST_REACHES = 128
 ROOM = 100              # bytes of the buffer to which a river that was read is written again
 CHAIN_ROOM = LONGEST    # bytes of the buffer for a chain
 
@@ -206,10 +206,14 @@ def shown(data):
     return f"read {len(river.cards)}\n" + factors + "".join(map(card_line, river.cards)) + written(river, ROOM)
 
 
+def chain(count):
+    """So many reaches, each above the next."""
+    return [PLAIN._replace(outlet=reach + 1 if reach < count else 0) for reach in range(1, count + 1)]
+
+
 def many(count, factors=None):
     """What writing and reading a chain of so many reaches prints."""
-    river = River([PLAIN._replace(outlet=reach + 1 if reach < count else 0) for reach in range(1, count + 1)], factors)
-    data, refusal = answered(reference.write, river, CHAIN_ROOM)
+    data, refusal = answered(reference.write, River(chain(count), factors), CHAIN_ROOM)
     return refusal or f"wrote {len(data)}\nread {len(reference.read(data).cards)}\n"
 
 
@@ -239,18 +243,27 @@ def card_case(card):
             + b"".join(optional(getattr(card, name), widths) for name, widths in RECORD_WIDTHS.items()))
 
 
-def river_case(kind, count, factors, room=0, cards=()):
-    """A river to write: its rate factors, its count, the room for its file, and its cards."""
-    if room > MOST_ROOM:
-        raise vectors.Failed(f"a buffer of {room} bytes is longer than that of the program")
-    return kind + optional(factors, FACTOR_WIDTHS) + number(count, 1) + number(room, 2) + b"".join(map(card_case, cards))
+def river_case(kind, factors, count, room=0):
+    """The start of a case of a river: its rate factors, how many reaches it has, and the room for its file."""
+    return kind + optional(factors, FACTOR_WIDTHS) + number(count, 1) + number(room, 2)
+
+
+def writing(cards, room, factors=None):
+    """Cards to write, in the numbers that memory holds."""
+    if len(cards) > 2 or room > LONGEST:
+        raise vectors.Failed("a case has at most two cards, and a buffer as long as the longest file")
+    return river_case(WRITE, factors, len(cards), room) + b"".join(map(card_case, cards))
+
+
+def copying(count, factors=None):
+    """A chain to write, by its file; where there is none, since the count is refused, by no bytes."""
+    return river_case(COPY, factors, count) + (file(*chain(count)) if 1 <= count <= MOST_REACHES else b"")
 
 
 def cases():
     return ([READ + data for files in FILES.values() for data in files]
-            + [river_case(WRITE, len(cards), None, room, cards) for cards, room in RIVERS]
-            + [river_case(WRITE, len(cards), factors, room, cards) for factors, cards, room in FACTORED]
-            + [river_case(CHAIN, count, None) for count in COUNTS] + [river_case(CHAIN, count, factors) for factors, count in FACTORED_COUNTS] + [LONGEST_FILE])
+            + [writing(cards, room) for cards, room in RIVERS] + [writing(cards, room, factors) for factors, cards, room in FACTORED]
+            + [copying(count) for count in COUNTS] + [copying(count, factors) for factors, count in FACTORED_COUNTS] + [LONGEST_FILE])
 
 
 def make(write):

@@ -1,5 +1,6 @@
-// What stands in a case behind its kind: whether its river has rate factors, the two of them, how many reaches it has, the room for its file,
-// and two cards, of which a river of one reach has the first. Numbers have their bytes in memory, so that a card may be one that no file holds.
+// What stands in a case of a river behind its kind: whether it has rate factors, the two of them, how many reaches it has, the room for its file,
+// and then two cards, of which a river of one reach has the first, or a file. The numbers of these cards have as many bytes as in memory, so that
+// a card may be one that no file holds.
 ghost use Prim.Native.Nat.{_<_};
 use river::bytes::behind;
 use river::bytes::byte_at;
@@ -20,11 +21,11 @@ const DECAY: usize = 2;
 
 const AERATION: usize = 4;
 
-const COUNT: usize = 6;
+pub const COUNT: usize = 6;
 
-const ROOM: usize = 7;
+pub const ROOM: usize = 7;
 
-const FIRST: usize = 9;
+pub const FIRST: usize = 9;
 
 const SECOND: usize = 72;
 
@@ -48,16 +49,6 @@ pub fn factors_in(case: &[u8]) -> RateFactors {
         decay: two_at(case, DECAY),
         aeration: two_at(case, AERATION),
     }
-}
-
-// How many reaches the river of a case has.
-pub fn count_in(case: &[u8]) -> u8 {
-    byte_at(case, COUNT)
-}
-
-// The length of the buffer for the file of a case.
-pub fn room_in(case: &[u8]) -> usize {
-    two_at(case, ROOM) as usize
 }
 
 fn dam_in(card: &[u8]) -> Dam {
@@ -117,6 +108,6 @@ pub fn river_in(case: &[u8]) -> Cards {
     at[0] = card_in(behind(case, FIRST));
     Cards {
         at,
-        count: count_in(case),
+        count: byte_at(case, COUNT),
     }
 }

@@ -5,23 +5,26 @@ mod shown;
 use cases::BUNDLE;
 use cases::case_end;
 use cases::case_in;
-use given::count_in;
+use given::COUNT;
+use given::FIRST;
+use given::ROOM;
 use given::factors_in;
 use given::river_in;
-use given::room_in;
 use river::bytes::behind;
 use river::bytes::byte_at;
-use shown::longest;
-use shown::many;
+use river::bytes::two_at;
+use river::card::longest_file;
+use shown::copied;
+use shown::count;
 use shown::show;
 use shown::wrote;
 
-// The kinds of cases, by their first byte: a file to read, a river to write, a chain of reaches to write, and the length of the longest file.
+// The kinds of cases, by their first byte: a file to read, a river to write, a file whose cards are written, and the length of the longest file.
 const READ: u8 = 0;
 
 const WRITE: u8 = 1;
 
-const CHAIN: u8 = 2;
+const COPY: u8 = 2;
 
 const LONGEST: u8 = 3;
 
@@ -30,11 +33,15 @@ fn show_case(case: &[u8]) {
     if kind == READ {
         show(behind(case, 1));
     } else if kind == WRITE {
-        wrote(factors_in(case), river_in(case), room_in(case));
-    } else if kind == CHAIN {
-        many(factors_in(case), count_in(case));
+        wrote(
+            factors_in(case),
+            river_in(case),
+            two_at(case, ROOM) as isize,
+        );
+    } else if kind == COPY {
+        copied(factors_in(case), byte_at(case, COUNT), behind(case, FIRST));
     } else if kind == LONGEST {
-        longest();
+        count(b"longest ", longest_file());
     }
 }
 

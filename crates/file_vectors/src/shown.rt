@@ -1,4 +1,5 @@
 // Readings and writings, printed.
+use river::bytes::byte_at;
 use river::card::Amount;
 use river::card::Card;
 use river::card::Cards;
@@ -7,8 +8,6 @@ use river::card::LONGEST_FILE;
 use river::card::Nitrification;
 use river::card::REACHES;
 use river::card::RateFactors;
-use river::card::blank;
-use river::card::longest_file;
 use river::file::read_file;
 use river::refusal::Outcome;
 use river::refusal::Refusal;
@@ -16,18 +15,15 @@ use river::rewrite::rewrite;
 use river::write::Written;
 use river::writer::write_cards;
 
-// A number and a space.
-fn number(n: u64) {
-    io::print_decimal(1, n);
-    io::write_all(1, b" ");
-}
+// The length of the buffer to which a file that was read is written back.
+const REWRITE_ROOM: isize = 100;
 
 fn end() {
     io::write_all(1, b"\n");
 }
 
 // A word and a number, on a line.
-fn count(word: &[u8], n: usize) {
+pub fn count(word: &[u8], n: usize) {
     io::write_all(1, word);
     io::print_decimal(1, n as u64);
     end();
@@ -39,25 +35,34 @@ fn refusal(r: Refusal) {
     count(b" reach ", r.reach as usize);
 }
 
-fn dam(d: Dam) {
-    match d {
-        Dam::Absent => {}
-        Dam::Aerating { share, generating } => {
-            io::write_all(1, b" dam ");
-            number(share as u64);
-            io::print_decimal(1, generating as u64);
-        }
+// A space and a number.
+fn number(n: u64) {
+    io::write_all(1, b" ");
+    io::print_decimal(1, n);
+}
+
+// A word and some numbers.
+fn numbers(word: &[u8], list: &[u64]) {
+    io::write_all(1, word);
+    let mut i: usize = 0;
+    while i < list.len() {
+        number(list[i]);
+        i = i + 1;
     }
 }
 
-// An optional record of one number: its name and the number.
+fn dam(d: Dam) {
+    match d {
+        Dam::Absent => {}
+        Dam::Aerating { share, generating } => numbers(b" dam", &[share as u64, generating as u64]),
+    }
+}
+
+// An optional record of one number.
 fn amount(name: &[u8], a: Amount) {
     match a {
         Amount::Without => {}
-        Amount::Given(n) => {
-            io::write_all(1, name);
-            io::print_decimal(1, n as u64);
-        }
+        Amount::Given(n) => numbers(name, &[n as u64]),
     }
 }
 
@@ -68,39 +73,40 @@ fn nitrification(n: Nitrification) {
             rate,
             concentration,
             load,
-        } => {
-            io::write_all(1, b" ammonia ");
-            number(rate as u64);
-            number(concentration as u64);
-            io::print_decimal(1, load as u64);
-        }
+        } => numbers(
+            b" ammonia",
+            &[rate as u64, concentration as u64, load as u64],
+        ),
     }
 }
 
-// The fields of a card up to its volume.
-fn start(c: Card) {
-    number(c.outlet as u64);
-    number(c.temperature as u64);
-    number(c.k1 as u64);
-    number(c.k2 as u64);
-    number(c.volume as u64);
+// The numbers of a card's reach.
+fn reach(c: Card) {
+    io::print_decimal(1, c.outlet as u64);
+    let list = [
+        c.temperature as u64,
+        c.k1 as u64,
+        c.k2 as u64,
+        c.volume as u64,
+        c.inflow as u64,
+        c.inflow_bod as u64,
+        c.inflow_oxygen as u64,
+        c.load as u64,
+    ];
+    numbers(b"", &list);
 }
 
 // A card, on a line.
 fn card(c: Card) {
-    start(c);
-    number(c.inflow as u64);
-    number(c.inflow_bod as u64);
-    number(c.inflow_oxygen as u64);
-    io::print_decimal(1, c.load as u64);
+    reach(c);
     let d = c.dam;
     dam(d);
     let t = c.take;
-    amount(b" take ", t);
+    amount(b" take", t);
     let p = c.pressure;
-    amount(b" pressure ", p);
+    amount(b" pressure", p);
     let s = c.sludge;
-    amount(b" sludge ", s);
+    amount(b" sludge", s);
     let n = c.nitrification;
     nitrification(n);
     end();
@@ -111,9 +117,7 @@ fn rate_factors(f: RateFactors) {
     match f {
         RateFactors::AsGiven => {}
         RateFactors::PerDegree { decay, aeration } => {
-            io::write_all(1, b"factors ");
-            number(decay as u64);
-            io::print_decimal(1, aeration as u64);
+            numbers(b"factors", &[decay as u64, aeration as u64]);
             end();
         }
     }
@@ -131,37 +135,37 @@ fn cards(river: Cards) {
     }
 }
 
-fn wide(b: u8) -> u64 {
-    b as u64
-}
-
-// The bytes of a buffer, on a line.
-fn buffer(out: &[u8]) {
+// The first bytes of a buffer, on a line.
+fn buffer(out: &[u8; LONGEST_FILE], n: usize) {
     let mut i: usize = 0;
-    while i < out.len() {
-        io::print_hex(1, wide(out[i]), 2);
+    while i < n {
+        io::print_hex(1, byte_at(out, i) as u64, 2);
         i = i + 1;
     }
     end();
 }
 
-// What writing a river answers and leaves in a buffer.
-fn written(factors: RateFactors, river: Cards, out: &mut [u8]) {
-    match write_cards(factors, river, out) {
-        Written::Length(n) => count(b"wrote ", n),
+// What writing a river with these rate factors to a buffer of so many bytes answers, and what it leaves there.
+pub fn wrote(factors: RateFactors, river: Cards, room: isize) {
+    let mut out = [7u8; LONGEST_FILE];
+    let n = io::count(room, &out);
+    match write_cards(factors, river, &mut out[..n]) {
+        Written::Length(l) => count(b"wrote ", l),
         Written::Refused(r) => refusal(r),
     }
-    buffer(out);
+    buffer(&out, n);
 }
 
-// What reading a file and writing it back answers and leaves in a buffer.
-fn rewritten(file: &[u8], out: &mut [u8]) {
-    let outcome = rewrite(file, out);
+// What reading a file and writing it back answers, and what it leaves in a buffer.
+fn rewrote(file: &[u8]) {
+    let mut out = [7u8; LONGEST_FILE];
+    let n = io::count(REWRITE_ROOM, &out);
+    let outcome = rewrite(file, &mut out[..n]);
     match outcome {
         Outcome::Accepted => count(b"wrote ", file.len()),
         Outcome::Refused(r) => refusal(r),
     }
-    buffer(out);
+    buffer(&out, n);
 }
 
 // What reading a file answers, and writing it back.
@@ -176,44 +180,9 @@ pub fn show(file: &[u8]) {
             let f = reading.factors;
             rate_factors(f);
             cards(river);
-            let mut out = [7u8; 100];
-            rewritten(file, &mut out);
+            rewrote(file);
         }
     }
-}
-
-// The longest buffer that a river is written to.
-const ROOM: usize = 128;
-
-// Writing of a river with these rate factors to a buffer of so many bytes.
-pub fn wrote(factors: RateFactors, river: Cards, room: usize) {
-    let mut out = [7u8; ROOM];
-    if room <= ROOM {
-        written(factors, river, &mut out[..room]);
-    }
-}
-
-// The card of reach i of n in a chain.
-fn link(i: usize, n: usize) -> Card {
-    let mut c = blank();
-    if i < n {
-        if i < REACHES {
-            c.outlet = i as u8 + 1;
-        }
-    }
-    c
-}
-
-// A chain of n reaches.
-fn chain(n: u8) -> Cards {
-    let none = blank();
-    let mut at = [none; REACHES];
-    let mut i: usize = 0;
-    while i < REACHES {
-        at[i] = link(i + 1, n as usize);
-        i = i + 1;
-    }
-    Cards { at, count: n }
 }
 
 // How many cards the first bytes are read as.
@@ -224,19 +193,17 @@ fn reread(out: &[u8], l: usize) {
     }
 }
 
-// Writing of a chain of n reaches with these rate factors, and what the file is read as.
-pub fn many(factors: RateFactors, n: u8) {
+// Writing of the first cards that a file is read as, so many of them, with these rate factors, and what the new file is read as.
+pub fn copied(factors: RateFactors, n: u8, file: &[u8]) {
+    let reading = read_file(file);
+    let cards = reading.cards;
+    let at = cards.at;
     let mut out = [0u8; LONGEST_FILE];
-    match write_cards(factors, chain(n), &mut out) {
+    match write_cards(factors, Cards { at, count: n }, &mut out) {
         Written::Refused(r) => refusal(r),
         Written::Length(l) => {
             count(b"wrote ", l);
             reread(&out, l);
         }
     }
-}
-
-// The length of the longest file.
-pub fn longest() {
-    count(b"longest ", longest_file());
 }

@@ -2,15 +2,14 @@
 -- Assumes nothing.
 use Prim.Native.Nat.{_≤_, _-_}
 use borrow.Author.Needs.{needs}
-use lib.ListN.{length}
 use Rattle.file_vectors.proofs.shown.buffer.Statement.{statement}
 use Rattle.file_vectors.proofs.shown.buffer.Tie as tie
 
 abbrev Inv-loop : tie.InvT-loop
-Inv-loop out i₀ i = i ≤ length out
+Inv-loop out n i₀ i = i ≤ n
 
 abbrev μ-loop : tie.MeasureT-loop
-μ-loop out i₀ i = length out - i
+μ-loop out n i₀ i = n - i
 
 returns : tie.Need-returns Inv-loop μ-loop
 returns c = search needs
@@ -22,8 +21,8 @@ buffer-spec =
     Inv-loop
     μ-loop
     (λ loop-holds. search needs)
-    (λ shared-slice-read-wide. search needs)
-    (λ wide-requires. search needs)
+    (λ byte-at-requires. search needs)
+    (λ cast-print-hex. search needs)
     (λ print-hex-requires. search needs)
     (λ add-i. search needs)
     (λ loop-less. search needs)
