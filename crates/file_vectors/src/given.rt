@@ -11,6 +11,7 @@ use river::card::Card;
 use river::card::Cards;
 use river::card::Dam;
 use river::card::Nitrification;
+use river::card::Optionals;
 use river::card::REACHES;
 use river::card::RateFactors;
 
@@ -82,6 +83,15 @@ fn nitrification_in(card: &[u8]) -> Nitrification {
     }
 }
 
+fn optionals_in(card: &[u8]) -> Optionals {
+    Optionals {
+        take: amount_in(card, TAKE),
+        pressure: amount_in(card, PRESSURE),
+        sludge: amount_in(card, SLUDGE),
+        nitrification: nitrification_in(card),
+    }
+}
+
 fn card_in(card: &[u8]) -> Card {
     Card {
         outlet: byte_at(card, 0),
@@ -94,10 +104,7 @@ fn card_in(card: &[u8]) -> Card {
         inflow_bod: four_at(card, 20),
         load: four_at(card, 24),
         dam: dam_in(card),
-        take: amount_in(card, TAKE),
-        pressure: amount_in(card, PRESSURE),
-        sludge: amount_in(card, SLUDGE),
-        nitrification: nitrification_in(card),
+        optionals: optionals_in(card),
     }
 }
 

@@ -101,13 +101,14 @@ fn card(c: Card) {
     reach(c);
     let d = c.dam;
     dam(d);
-    let t = c.take;
+    let o = c.optionals;
+    let t = o.take;
     amount(b" take", t);
-    let p = c.pressure;
+    let p = o.pressure;
     amount(b" pressure", p);
-    let s = c.sludge;
+    let s = o.sludge;
     amount(b" sludge", s);
-    let n = c.nitrification;
+    let n = o.nitrification;
     nitrification(n);
     end();
 }

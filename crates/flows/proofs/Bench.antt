@@ -7,12 +7,12 @@ use Rattle.river.specs.declared.card.Dam.the-variants.{Absent}
 use Rattle.river.specs.declared.card.Amount.{Amount}
 use Rattle.river.specs.declared.card.Amount.the-variants.{Without, Given}
 use Rattle.river.specs.declared.card.Nitrification.{Nitrification}
-use Rattle.river.specs.declared.card.Nitrification.the-variants.{Idle, Nitrifying}
+use Rattle.river.specs.declared.card.Nitrification.the-variants.{Nitrifying}
 use Rattle.river.specs.declared.card.Card.{Card}
 use Rattle.river.specs.declared.source.Demand.the-variants.{Bod, Nitrogenous}
 use Rattle.river.specs.declared.card.RateFactors.the-variants.{PerDegree}
 use Rattle.river.specs.Refusal.{accepted, refused, refuse, need, choose, after}
-use Rattle.river.specs.Card.{countOk, inRange, outletOk, damInRange, amountInRange, nitrificationInRange, ratesInRange}
+use Rattle.river.specs.Card.{noOptionals, withTake, withSludge, withNitrification, countOk, inRange, outletOk, damInRange, amountInRange, nitrificationInRange, ratesInRange}
 use Rattle.river.specs.River.{River, riverOf, factorInRange, factorsInRange}
 use Rattle.river.specs.Optional.{readOptional, readOptionals}
 use Rattle.river.specs.Read.{readFile, readRest, readHeader, readReaches, readReach, cardAt}
@@ -32,23 +32,23 @@ drawn take-1 take-2 = first take-1 ∷ second Absent take-2 Without ∷ []
 
 -- one reach with a nitrification, by its volume, inflow and inflow BOD
 abbrev ammonia : (volume inflow bod : ℕ) → Nitrification → List Card
-ammonia volume inflow bod nitrification = reach 0 0 volume inflow bod 0 0 Absent Without Without Without nitrification ∷ []
+ammonia volume inflow bod nitrification = reach 0 0 volume inflow bod 0 0 Absent (withNitrification nitrification noOptionals) ∷ []
 
 -- one reach with a sludge bed of 1,000 by its volume and take
 abbrev bed : (volume : ℕ) → Amount → List Card
-bed volume take = reach 0 0 volume 10000 0 0 0 Absent take Without (Given 1000) Idle ∷ []
+bed volume take = reach 0 0 volume 10000 0 0 0 Absent (withTake take (withSludge (Given 1000) noOptionals)) ∷ []
 
 -- one reach by its k1, volume, inflow and take
 abbrev one : (k1 volume inflow : ℕ) → Amount → List Card
-one k1 volume inflow take = reach 0 k1 volume inflow 0 0 0 Absent take Without Without Idle ∷ []
+one k1 volume inflow take = reach 0 k1 volume inflow 0 0 0 Absent (withTake take noOptionals) ∷ []
 
 -- one reach of 10,000 litres a second by its temperature, rates and volume, in a river with rate factors
 abbrev warm : (temperature k1 k2 volume : ℕ) → River
-warm temperature k1 k2 volume = riverOf (PerDegree 1_047 1_024) (reach-at temperature k2 0 k1 volume 10000 0 0 0 Absent Without Without Without Idle ∷ [])
+warm temperature k1 k2 volume = riverOf (PerDegree 1_047 1_024) (reach-at temperature k2 0 k1 volume 10000 0 0 0 Absent noOptionals ∷ [])
 
 -- one reach with Qm 3 and Mm 2,999,999
 abbrev full : Amount → List Card
-full take = reach 0 0 0 3 999_333 0 2 Absent take Without Without Idle ∷ []
+full take = reach 0 0 0 3 999_333 0 2 Absent (withTake take noOptionals) ∷ []
 
 pub record Rows : Type 0 where
   pub saturation-rows : SaturationRows

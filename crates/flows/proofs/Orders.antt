@@ -9,13 +9,13 @@ use Rattle.river.specs.declared.card.Card.{Card}
 use Rattle.river.specs.declared.card.Dam.the-variants.{Absent}
 use Rattle.river.specs.declared.card.Nitrification.the-variants.{Nitrifying}
 use Rattle.river.specs.Refusal.{accepted, refused, refuse, need}
-use Rattle.river.specs.Card.{ratesInRange}
+use Rattle.river.specs.Card.{noOptionals, withTake, withSludge, withNitrification, ratesInRange}
 use Rattle.flows.specs.Flow.{fed, flowOf, massOf, feedersAmong, joinedIf, damFits, flowCheck, checksFrom, reachChecks}
-use Rattle.river.proofs.Orders.{reach-in, reach-on, reach, weir, nitrification-out}
+use Rattle.river.proofs.Orders.{reach-with, reach, weir, nitrification-out}
 
 -- one reach with a volume of 100, k1 of 1,000, and a sludge bed: 4,320 is the most to a litre a second
 abbrev bed : (sludge inflow : ℕ) (amount : Amount) → List Card
-bed sludge inflow amount = reach-on (Given sludge) Without 0 20 100 inflow 0 Absent amount ∷ []
+bed sludge inflow amount = reach-with (withTake amount (withSludge (Given sludge) noOptionals)) 0 20 100 inflow 0 Absent ∷ []
 
 pub record Flowing : Type 0 where
   -- 7, 8, 9, 10, 13, 15, 11, 14, each with the next rule that the same reach can break
@@ -25,12 +25,12 @@ pub record Flowing : Type 0 where
   pub load-and-rate : flowCheck (reach 0 20 346 1 1_001 Absent Without ∷ []) ≡ refused (refuse 10 1)
   pub load-and-take : flowCheck (reach 0 20 0 1 1_001 Absent (Given 1) ∷ []) ≡ refused (refuse 10 1)
   pub take-and-rate : flowCheck (reach 0 20 346 1 0 Absent (Given 1) ∷ []) ≡ refused (refuse 13 1)
-  pub take-and-range : flowCheck (reach-in nitrification-out Without Without 0 20 0 1 0 Absent (Given 1) ∷ []) ≡ refused (refuse 13 1)
-  pub range-and-rate : flowCheck (reach-in nitrification-out Without Without 0 20 346 1 0 Absent Without ∷ []) ≡ refused (refuse 15 1)
-  pub range-and-bed : flowCheck (reach-in nitrification-out (Given 65_535) Without 0 20 7 1 0 Absent Without ∷ []) ≡ refused (refuse 15 1)
-  pub nitrogenous-rate-and-bed : flowCheck (reach-in (Nitrifying 3_457 0 0) (Given 4_321) Without 0 20 100 1 0 Absent Without ∷ []) ≡ refused (refuse 11 1)
-  pub take-and-nitrogenous-rate : flowCheck (reach-in (Nitrifying 3_457 0 0) Without Without 0 20 100 1 0 Absent (Given 1) ∷ []) ≡ refused (refuse 13 1)
-  pub rate-and-bed : flowCheck (reach-on (Given 4_321) Without 0 20 346 1 0 Absent Without ∷ []) ≡ refused (refuse 11 1)
+  pub take-and-range : flowCheck (reach-with (withTake (Given 1) (withNitrification nitrification-out noOptionals)) 0 20 0 1 0 Absent ∷ []) ≡ refused (refuse 13 1)
+  pub range-and-rate : flowCheck (reach-with (withNitrification nitrification-out noOptionals) 0 20 346 1 0 Absent ∷ []) ≡ refused (refuse 15 1)
+  pub range-and-bed : flowCheck (reach-with (withSludge (Given 65_535) (withNitrification nitrification-out noOptionals)) 0 20 7 1 0 Absent ∷ []) ≡ refused (refuse 15 1)
+  pub nitrogenous-rate-and-bed : flowCheck (reach-with (withSludge (Given 4_321) (withNitrification (Nitrifying 3_457 0 0) noOptionals)) 0 20 100 1 0 Absent ∷ []) ≡ refused (refuse 11 1)
+  pub take-and-nitrogenous-rate : flowCheck (reach-with (withTake (Given 1) (withNitrification (Nitrifying 3_457 0 0) noOptionals)) 0 20 100 1 0 Absent ∷ []) ≡ refused (refuse 13 1)
+  pub rate-and-bed : flowCheck (reach-with (withSludge (Given 4_321) noOptionals) 0 20 346 1 0 Absent ∷ []) ≡ refused (refuse 11 1)
   -- a take of Qm less 1 passes 13, and 11 goes by the flow that remains
   pub one-left : flowCheck (reach 0 20 345 2 0 Absent (Given 1) ∷ []) ≡ accepted (reach 0 20 345 2 0 Absent (Given 1) ∷ [])
   pub rate-by-the-rest : flowCheck (reach 0 20 346 2 0 Absent (Given 1) ∷ []) ≡ refused (refuse 11 1)
@@ -40,9 +40,9 @@ pub record Flowing : Type 0 where
   pub bed-by-the-rest-most : flowCheck (bed 4_320 2 (Given 1)) ≡ accepted (bed 4_320 2 (Given 1))
   pub bed-by-the-rest : flowCheck (bed 4_321 2 (Given 1)) ≡ refused (refuse 14 1)
   -- and 15, 11 or 14 of a reach before 10 of the next
-  pub range-and-next : flowCheck (reach-in nitrification-out Without Without 2 20 0 1 0 Absent Without ∷ reach 0 20 0 1 2_001 Absent Without ∷ []) ≡ refused (refuse 15 1)
+  pub range-and-next : flowCheck (reach-with (withNitrification nitrification-out noOptionals) 2 20 0 1 0 Absent ∷ reach 0 20 0 1 2_001 Absent Without ∷ []) ≡ refused (refuse 15 1)
   pub rate-and-next : flowCheck (reach 2 20 346 1 0 Absent Without ∷ reach 0 20 0 1 2_001 Absent Without ∷ []) ≡ refused (refuse 11 1)
-  pub bed-and-next : flowCheck (reach-on (Given 4_321) Without 2 20 100 1 0 Absent Without ∷ reach 0 20 0 1 2_001 Absent Without ∷ []) ≡ refused (refuse 14 1)
+  pub bed-and-next : flowCheck (reach-with (withSludge (Given 4_321) noOptionals) 2 20 100 1 0 Absent ∷ reach 0 20 0 1 2_001 Absent Without ∷ []) ≡ refused (refuse 14 1)
 
 -- THEOREM: whoever breaks two rules of the flow check gets the earlier one's number
 pub flow-order : Flowing

@@ -58,11 +58,11 @@ above cards (suc n) = feedersAmong cards n (suc n)
 
 -- the take of a reach, 0 without one
 abbrev pub takeOf : Card → ℕ
-takeOf card = amountOr 0 (card .take)
+takeOf card = amountOr 0 (card .optionals .take)
 
 -- the demand of a reach's sludge bed, 0 without one
 abbrev pub sludgeOf : Card → ℕ
-sludgeOf card = amountOr 0 (card .sludge)
+sludgeOf card = amountOr 0 (card .optionals .sludge)
 
 -- Qu, the sum of the feeders' flows, each after the feeder's own take
 unfoldable pub flowOf : Feeders → ℕ

@@ -5,9 +5,10 @@ use Prim.Native.Nat.{ℕ, zero, suc, _*_, _-_, _/_, _≤_}
 use Rattle.river.specs.declared.card.Card.{Card}
 use Rattle.river.specs.declared.card.Nitrification.{Nitrification}
 use Rattle.river.specs.declared.card.Nitrification.the-variants.{Idle, Nitrifying}
+use Rattle.river.specs.declared.card.Optionals.{Optionals}
 use Rattle.river.specs.declared.card.RateFactors.{RateFactors}
 use Rattle.river.specs.declared.card.RateFactors.the-variants.{AsGiven, PerDegree}
-use Rattle.river.specs.Card.{rateMost, RatesInRange}
+use Rattle.river.specs.Card.{withNitrification, rateMost, RatesInRange}
 use Rattle.river.specs.River.{River}
 
 -- each degree above 20 multiplies by factor / 1,000, rounded each time
@@ -38,6 +39,10 @@ abbrev pub withRate : (ℕ → ℕ) → Nitrification → Nitrification
 withRate change Idle = Idle
 withRate change (Nitrifying rate concentration load) = Nitrifying (change rate) concentration load
 
+-- optional fields with their one rate changed
+abbrev pub withRates : (ℕ → ℕ) → Optionals → Optionals
+withRates change o = withNitrification (withRate change (o .nitrification)) o
+
 -- a card with the rates in force at its own temperature; the nitrogenous rate is that of a demand
 abbrev pub cardInForce : RateFactors → Card → Card
 cardInForce factors c =
@@ -52,10 +57,7 @@ cardInForce factors c =
       «inflow_oxygen» = c .«inflow_oxygen»;
       load = c .load;
       dam = c .dam;
-      take = c .take;
-      pressure = c .pressure;
-      sludge = c .sludge;
-      nitrification = withRate (decayInForce factors (c .temperature)) (c .nitrification);
+      optionals = withRates (decayInForce factors (c .temperature)) (c .optionals);
     }
 
 -- the cards of a river with the rates in force

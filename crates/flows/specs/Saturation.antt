@@ -19,7 +19,7 @@ saturation T pressure = saturationThousandths T * pressure / (1_000 * standardPr
 
 -- pressure of a reach: its card's, 760 without a `BP` record
 abbrev pub pressureOf : Card → ℕ
-pressureOf card = amountOr standardPressure (card .pressure)
+pressureOf card = amountOr standardPressure (card .optionals .pressure)
 
 -- saturation of a reach, for its dam too: that at its own temperature and pressure
 unfoldable pub saturationOf : Card → ℕ

@@ -222,7 +222,8 @@ fn rate_rules(card: Card, flow: u64, reach: u8) -> Outcome
 pub(crate) fn take_of(card: Card) -> u64
     ensures { λ r. ⌜ r ≡ takeOf card ⌝ }
 {
-    let take = card.take;
+    let optionals = card.optionals;
+    let take = optionals.take;
     amount_or(0, take) as u64
 }
 
@@ -230,7 +231,8 @@ pub(crate) fn take_of(card: Card) -> u64
 pub fn sludge_of(card: Card) -> u32
     ensures { λ r. ⌜ r ≡ sludgeOf card ⌝ }
 {
-    let sludge = card.sludge;
+    let optionals = card.optionals;
+    let sludge = optionals.sludge;
     amount_or(0, sludge)
 }
 

@@ -68,7 +68,8 @@ fn saturation(temperature: u8, pressure: u32) -> u32
 fn pressure_of(card: Card) -> u32
     ensures { λ r. ⌜ r ≡ pressureOf card ⌝ }
 {
-    let pressure = card.pressure;
+    let optionals = card.optionals;
+    let pressure = optionals.pressure;
     amount_or(STANDARD_PRESSURE, pressure)
 }
 

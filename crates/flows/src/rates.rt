@@ -11,6 +11,7 @@ use river::card::Card;
 use river::card::Cards;
 use river::card::Nitrification;
 use river::card::RateFactors;
+use river::card::with_nitrification;
 
 // The temperature that rates are given for, in degrees C.
 const STANDARD_TEMPERATURE: u8 = 20;
@@ -91,10 +92,10 @@ fn corrected(decay: u16, aeration: u16, card: Card) -> Card
     ensures { λ r. ⌜ r ≡ cardInForce (PerDegree decay aeration) card ⌝ }
 {
     let dam = card.dam;
-    let take = card.take;
-    let pressure = card.pressure;
-    let sludge = card.sludge;
-    let nitrification = card.nitrification;
+    let optionals = card.optionals;
+    let nitrification = optionals.nitrification;
+    let nitrification = corrected_nitrification(decay, card.temperature, nitrification);
+    let optionals = with_nitrification(nitrification, optionals);
     Card {
         outlet: card.outlet,
         temperature: card.temperature,
@@ -106,10 +107,7 @@ fn corrected(decay: u16, aeration: u16, card: Card) -> Card
         inflow_oxygen: card.inflow_oxygen,
         load: card.load,
         dam,
-        take,
-        pressure,
-        sludge,
-        nitrification: corrected_nitrification(decay, card.temperature, nitrification),
+        optionals,
     }
 }
 

@@ -17,7 +17,7 @@ use Rattle.river.specs.declared.card.Nitrification.the-variants.{Idle, Nitrifyi
 use Rattle.river.specs.declared.card.Card.{Card}
 use Rattle.river.specs.declared.source.Demand.{Demand}
 use Rattle.river.specs.declared.source.Demand.the-variants.{Bod, Nitrogenous}
-use Rattle.river.specs.Card.{LawfulDam, amountOr}
+use Rattle.river.specs.Card.{noOptionals, withTake, withNitrification, LawfulDam, amountOr}
 use Rattle.river.specs.Source.{nitrogenousSource, nitrogenousRate, sourceOf, rateOf, sourceMass}
 use Rattle.flows.specs.Flow.{Feeders, none, more, joinedIf, feedersAmong, cardOf, above, fed, flowOf, massOf, deepest, sludgeOf, reachFlow, reachDepth, DamRule}
 use Rattle.flows.specs.Saturation.{saturation, saturationThousandths, saturationOf, SaturationInRange}
@@ -47,7 +47,7 @@ weir = Aerating 500 1000
 
 -- reach 1 by its take and its nitrification, and what flows into reach 2
 abbrev upper : Amount → Nitrification → Card
-upper take nitrification = reach 2 0 1000 3000 2000 8000 0 Absent take Without Without nitrification
+upper take nitrification = reach 2 0 1000 3000 2000 8000 0 Absent (withTake take (withNitrification nitrification noOptionals))
 
 abbrev feeders : Amount → Nitrification → Feeders
 feeders take nitrification = more (upper take nitrification) none none

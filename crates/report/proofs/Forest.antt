@@ -77,7 +77,7 @@ module _ (cards : List Card) (lawful : Lawful cards) (flows : Flows cards) where
         fields = own .in-range;
         saturation = conditions-in-range own;
         dam = own .dam;
-        sludge = demand-small (getD cards n blank .sludge) (own .sludge);
+        sludge = demand-small (getD cards n blank .optionals .sludge) (own .optionals .sludge);
         flows = flows .each n l;
       }
 

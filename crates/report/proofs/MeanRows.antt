@@ -14,10 +14,9 @@ use Rattle.decay.specs.Series.{termOf, nextTerms, termsAt, termAt, withTerm, su
 use Rattle.decay.specs.held.Factors.{demandFrom, headFactors, nextFactors, factorsAt}
 use Rattle.river.specs.declared.card.Card.{Card}
 use Rattle.river.specs.declared.card.Dam.the-variants.{Absent}
-use Rattle.river.specs.declared.card.Nitrification.the-variants.{Idle}
-use Rattle.river.specs.declared.card.Amount.the-variants.{Without}
 use Rattle.river.specs.declared.source.Demand.{Demand}
 use Rattle.river.specs.declared.source.Demand.the-variants.{Bod, Nitrogenous}
+use Rattle.river.specs.Card.{noOptionals}
 use Rattle.river.specs.Source.{rateOf}
 use Rattle.river.specs.Refusal.{accepted, refused, refuse, need}
 use Rattle.flows.specs.Flow.{feedersAmong, joinedIf, fed, flowOf, cardOf, above}
@@ -57,10 +56,7 @@ pool volume =
       «inflow_oxygen» = 0;
       load = 0;
       dam = Absent;
-      take = Without;
-      pressure = Without;
-      sludge = Without;
-      nitrification = Idle;
+      optionals = noOptionals;
     }
 
 pub record Rows : Type 0 where
@@ -155,8 +151,8 @@ constant =
 
 abbrev polluted : List Card
 polluted =
-    reach 2 400 1_500_000 5_000 3_000 8_000 250_000 Absent Without Without Without Idle
-    ∷ reach 0 0 1_000_000 1_000 1_000 9_000 0 Absent Without Without Without Idle
+    reach 2 400 1_500_000 5_000 3_000 8_000 250_000 Absent noOptionals
+    ∷ reach 0 0 1_000_000 1_000 1_000 9_000 0 Absent noOptionals
     ∷ []
 
 -- oxygen of reach 1 is below zero at the foot, and on average

@@ -12,10 +12,10 @@ use Rattle.decay.specs.Series.{termOf, nextTerms, termsAt, termAt, withTerm, su
 use Rattle.decay.specs.held.Factors.{demandFrom, headFactors, nextFactors, factorsAt}
 use Rattle.river.specs.declared.card.Card.{Card}
 use Rattle.river.specs.declared.card.Dam.the-variants.{Absent}
-use Rattle.river.specs.declared.card.Amount.the-variants.{Without}
 use Rattle.river.specs.declared.card.Nitrification.{Nitrification}
 use Rattle.river.specs.declared.card.Nitrification.the-variants.{Idle, Nitrifying}
 use Rattle.river.specs.declared.source.Demand.the-variants.{Bod, Nitrogenous}
+use Rattle.river.specs.Card.{noOptionals, withNitrification}
 use Rattle.flows.specs.Flow.{Feeders, none, more, fed, flowOf}
 use Rattle.flows.specs.Saturation.{saturation, saturationThousandths, saturationOf}
 use Rattle.flows.specs.Head.{floor, upstreamDemand, upstreamOxygen, aerated, belowDam, headDemand, headOxygen}
@@ -38,10 +38,7 @@ reach nitrification =
       «inflow_oxygen» = 14_000;
       load = 0;
       dam = Absent;
-      take = Without;
-      pressure = Without;
-      sludge = Without;
-      nitrification = nitrification;
+      optionals = withNitrification nitrification noOptionals;
     }
 
 abbrev upper : Card

@@ -33,7 +33,7 @@ nothing-mixed (Nitrifying r c l) inflow t Qu e = clash cc
 
 nothing-at-head : (card : Card) (t : Bool) (Qu : ℕ) → isNitrified card ≡ false → headDemand (sourceOf Nitrogenous card) t Qu 0 ≡ 0
 unfolding isNitrified
-nothing-at-head card t Qu e = nothing-mixed (card .nitrification) (card .inflow) t Qu e
+nothing-at-head card t Qu e = nothing-mixed (card .optionals .nitrification) (card .inflow) t Qu e
 
 -- and nothing is left of nothing
 nothing-left : (s : Step) (m : ℕ) → demandFrom 0 s m .left ≡ 0

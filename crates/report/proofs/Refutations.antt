@@ -8,11 +8,9 @@ use Rattle.decay.specs.Exact.{foot, exponent, power, factorial, term, sum, S, F
 use Rattle.decay.proofs.Algebra.{Within, within-sym, within-trans}
 use Rattle.river.specs.declared.card.Card.{Card}
 use Rattle.river.specs.declared.card.Dam.the-variants.{Absent}
-use Rattle.river.specs.declared.card.Nitrification.the-variants.{Idle}
-use Rattle.river.specs.declared.card.Amount.the-variants.{Without}
 use Rattle.river.specs.declared.card.RateFactors.the-variants.{AsGiven}
 use Rattle.river.specs.Refusal.{accepted, need, after, choose}
-use Rattle.river.specs.Card.{countOk, inRange, outletOk, ratesInRange}
+use Rattle.river.specs.Card.{noOptionals, countOk, inRange, outletOk, ratesInRange}
 use Rattle.river.specs.River.{riverOf}
 use Rattle.flows.specs.Rates.{decayInForce, aerationInForce}
 use Rattle.river.specs.Optional.{readOptional, readOptionals}
@@ -41,10 +39,7 @@ reach outlet inflow =
       «inflow_oxygen» = 14652;
       load = 0;
       dam = Absent;
-      take = Without;
-      pressure = Without;
-      sludge = Without;
-      nitrification = Idle;
+      optionals = noOptionals;
     }
 
 -- that reach, and below it as long a one with no inflow of its own

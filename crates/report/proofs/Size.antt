@@ -30,7 +30,7 @@ nitrifies-in-force change (Nitrifying rate concentration load) = refl
 pub nitrification-in-force : (f : RateFactors) (cs : List Card) → hasNitrification (map (cardInForce f) cs) ≡ hasNitrification cs
 unfolding hasNitrification isNitrified
 nitrification-in-force f [] = refl
-nitrification-in-force f (c ∷ cs) = ap₂ (λ (a b : Bool). a || b) (nitrifies-in-force (decayInForce f (c .temperature)) (c .nitrification)) (nitrification-in-force f cs)
+nitrification-in-force f (c ∷ cs) = ap₂ (λ (a b : Bool). a || b) (nitrifies-in-force (decayInForce f (c .temperature)) (c .optionals .nitrification)) (nitrification-in-force f cs)
 
 tells-of : {file : List ℕ} {result : ℕ} (x : Answer River) → readFile file ≡ x → result ≡ sizeAnswer x → TellsSize file result
 unfolding sizeAnswer

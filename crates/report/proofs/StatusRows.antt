@@ -7,8 +7,7 @@ use Prim.Native.Nat.{ℕ}
 use lib.IntN.{ℤ, pos, negsuc, _-ℤ_}
 use Rattle.river.specs.declared.card.Card.{Card}
 use Rattle.river.specs.declared.card.Dam.the-variants.{Absent}
-use Rattle.river.specs.declared.card.Nitrification.the-variants.{Idle}
-use Rattle.river.specs.declared.card.Amount.the-variants.{Without}
+use Rattle.river.specs.Card.{noOptionals}
 use Rattle.flows.specs.Flow.{Feeders, none, more, joinedIf, feedersAmong, cardOf, above}
 use Rattle.report.specs.Record.{Figures}
 use Rattle.report.specs.Status.{statusBy, isUsed, usedBy, shownNumber, shownOxygen, reported}
@@ -27,10 +26,7 @@ poolTo outlet oxygen =
       «inflow_oxygen» = oxygen;
       load = 0;
       dam = Absent;
-      take = Without;
-      pressure = Without;
-      sludge = Without;
-      nitrification = Idle;
+      optionals = noOptionals;
     }
 
 abbrev pool : (oxygen : ℕ) → Card

@@ -8,6 +8,7 @@ use Rattle.river.specs.declared.card.Nitrification.{Nitrification}
 use Rattle.river.specs.declared.card.Nitrification.the-variants.{Idle, Nitrifying}
 use Rattle.river.specs.declared.card.Amount.{Amount}
 use Rattle.river.specs.declared.card.Amount.the-variants.{Without, Given}
+use Rattle.river.specs.Card.{noOptionals, withTake, withPressure, withSludge, withNitrification}
 use Rattle.report.specs.Record.{nitrifies, isNitrified, hasNitrification}
 use Rattle.report.specs.Distance.{isGiven, hasBed, stepUnits}
 
@@ -25,10 +26,7 @@ reach sludge nitrification =
       «inflow_oxygen» = 0;
       load = 0;
       dam = Absent;
-      take = Given 0;
-      pressure = Given 760;
-      sludge = sludge;
-      nitrification = nitrification;
+      optionals = withTake (Given 0) (withPressure (Given 760) (withSludge sludge (withNitrification nitrification noOptionals)));
     }
 
 pub record Rows : Type 0 where

@@ -20,7 +20,7 @@ isGiven (Given n) = true
 -- whether a river has a sludge bed: an `SD` record at any of its reaches
 unfoldable pub hasBed : List Card → Bool
 hasBed [] = false
-hasBed (card ∷ cards) = isGiven (card .sludge) || hasBed cards
+hasBed (card ∷ cards) = isGiven (card .optionals .sludge) || hasBed cards
 
 -- the units that a river allows for each step of depth: 200 with nitrification, else 150 with a sludge bed, else 100, which is 0.0001 mg/L
 unfoldable pub stepUnits : List Card → ℕ

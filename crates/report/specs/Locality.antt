@@ -22,10 +22,7 @@ withOutlet o card =
       «inflow_oxygen» = card .«inflow_oxygen»;
       load = card .load;
       dam = card .dam;
-      take = card .take;
-      pressure = card .pressure;
-      sludge = card .sludge;
-      nitrification = card .nitrification;
+      optionals = card .optionals;
     }
 
 -- two cards are the same but for their outlets

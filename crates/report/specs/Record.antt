@@ -18,7 +18,7 @@ nitrifies Idle = false
 nitrifies (Nitrifying rate concentration load) = true
 
 unfoldable pub isNitrified : Card → Bool
-isNitrified card = nitrifies (card .nitrification)
+isNitrified card = nitrifies (card .optionals .nitrification)
 
 -- whether a river has: at any of its reaches
 unfoldable pub hasNitrification : List Card → Bool

@@ -40,7 +40,8 @@ pub struct Line {
 fn is_nitrified(card: Card) -> bool
     ensures { λ r. ⌜ r ≡ isNitrified card ⌝ }
 {
-    let nitrification = card.nitrification;
+    let optionals = card.optionals;
+    let nitrification = optionals.nitrification;
     match nitrification {
         Nitrification::Idle => false,
         Nitrification::Nitrifying {

@@ -7,20 +7,20 @@ use Rattle.river.specs.declared.card.Dam.{Dam}
 use Rattle.river.specs.declared.card.Dam.the-variants.{Absent, Aerating}
 use Rattle.river.specs.declared.card.Amount.{Amount}
 use Rattle.river.specs.declared.card.Amount.the-variants.{Without, Given}
-use Rattle.river.specs.declared.card.Nitrification.{Nitrification}
-use Rattle.river.specs.declared.card.Nitrification.the-variants.{Idle, Nitrifying}
+use Rattle.river.specs.declared.card.Nitrification.the-variants.{Nitrifying}
 use Rattle.river.specs.declared.card.Card.{Card}
+use Rattle.river.specs.declared.card.Optionals.{Optionals}
 use Rattle.river.specs.declared.card.RateFactors.the-variants.{AsGiven, PerDegree}
 use Rattle.river.specs.Refusal.{accepted, refused, refuse, need, choose, after}
-use Rattle.river.specs.Card.{countOk, inRange, outletOk, damInRange, amountInRange, nitrificationInRange}
+use Rattle.river.specs.Card.{noOptionals, withTake, withPressure, withSludge, withNitrification, countOk, inRange, outletOk, damInRange, amountInRange, nitrificationInRange}
 use Rattle.river.specs.River.{River, riverOf, longestFile, factorInRange, factorsInRange}
 use Rattle.river.specs.Optional.{readOptional, readOptionals}
 use Rattle.river.specs.Read.{readFile, readRest, readHeader, readReaches, readReach, cardAt}
 use Rattle.river.specs.Write.{encode}
 
 -- a reach by its temperature and k2 too, and one at 20 degrees without surface aeration
-abbrev pub reach-at : (temperature k2 outlet k1 volume inflow bod oxygen load : ℕ) → Dam → (take pressure sludge : Amount) → Nitrification → Card
-reach-at temperature k2 outlet k1 volume inflow bod oxygen load dam take pressure sludge nitrification =
+abbrev pub reach-at : (temperature k2 outlet k1 volume inflow bod oxygen load : ℕ) → Dam → Optionals → Card
+reach-at temperature k2 outlet k1 volume inflow bod oxygen load dam optionals =
     record {
       outlet = outlet;
       temperature = temperature;
@@ -32,13 +32,10 @@ reach-at temperature k2 outlet k1 volume inflow bod oxygen load dam take pressur
       «inflow_oxygen» = oxygen;
       load = load;
       dam = dam;
-      take = take;
-      pressure = pressure;
-      sludge = sludge;
-      nitrification = nitrification;
+      optionals = optionals;
     }
 
-abbrev pub reach : (outlet k1 volume inflow bod oxygen load : ℕ) → Dam → (take pressure sludge : Amount) → Nitrification → Card
+abbrev pub reach : (outlet k1 volume inflow bod oxygen load : ℕ) → Dam → Optionals → Card
 reach = reach-at 20 0
 
 -- a river without rate factors
@@ -47,10 +44,10 @@ given = riverOf AsGiven
 
 -- the two reaches of the printing program's example, with a dam on reach 2 or without, and with takes or without
 abbrev pub first : Amount → Card
-first take = reach 2 0 1000 3000 2000 8000 0 Absent take Without Without Idle
+first take = reach 2 0 1000 3000 2000 8000 0 Absent (withTake take noOptionals)
 
 abbrev pub second : Dam → (take pressure : Amount) → Card
-second dam take pressure = reach 0 0 1000 1000 30000 2000 0 dam take pressure Without Idle
+second dam take pressure = reach 0 0 1000 1000 30000 2000 0 dam (withTake take (withPressure pressure noOptionals))
 
 abbrev pub two : Dam → List Card
 two dam = first Without ∷ second dam Without Without ∷ []
@@ -64,11 +61,11 @@ hilly pressure = first Without ∷ second weir Without pressure ∷ []
 
 -- reach 2 with a sludge bed
 abbrev pub bedded : (sludge : Amount) → List Card
-bedded sludge = first Without ∷ reach 0 0 1000 1000 30000 2000 0 Absent Without Without sludge Idle ∷ []
+bedded sludge = first Without ∷ reach 0 0 1000 1000 30000 2000 0 Absent (withSludge sludge noOptionals) ∷ []
 
 -- reach 2 with a nitrification, and its file, whose last 16 bytes are the `NT` record
 abbrev pub nitrified : (rate concentration load : ℕ) → List Card
-nitrified rate concentration load = first Without ∷ reach 0 0 1000 1000 30000 2000 0 Absent Without Without Without (Nitrifying rate concentration load) ∷ []
+nitrified rate concentration load = first Without ∷ reach 0 0 1000 1000 30000 2000 0 Absent (withNitrification (Nitrifying rate concentration load) noOptionals) ∷ []
 
 abbrev pub nitrified-file : List ℕ
 nitrified-file = encode (given (nitrified 300 4_000 5))

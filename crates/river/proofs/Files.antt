@@ -201,20 +201,20 @@ pub dam-or-none : {share generating : ℕ} (c d : Card) → c .dam ≡ Absent �
 dam-or-none c d p q e = let z : _≡_ {A = ℕ} 0 1 = cc (ap (λ (x : Card). x .dam) e) in omega arith
 
 -- THEOREM: a take makes another card than no take, whatever its number, 0 too; and so, by `one-river`, another file
-pub take-or-none : {n : ℕ} (c d : Card) → c .take ≡ Without → d .take ≡ Given n → c ≡ d → ⊥
-take-or-none c d p q e = let z : _≡_ {A = ℕ} 0 1 = cc (ap (λ (x : Card). x .take) e) in omega arith
+pub take-or-none : {n : ℕ} (c d : Card) → c .optionals .take ≡ Without → d .optionals .take ≡ Given n → c ≡ d → ⊥
+take-or-none c d p q e = let z : _≡_ {A = ℕ} 0 1 = cc (ap (λ (x : Card). x .optionals .take) e) in omega arith
 
 -- THEOREM: a pressure likewise, 760 too
-pub pressure-or-none : {n : ℕ} (c d : Card) → c .pressure ≡ Without → d .pressure ≡ Given n → c ≡ d → ⊥
-pressure-or-none c d p q e = let z : _≡_ {A = ℕ} 0 1 = cc (ap (λ (x : Card). x .pressure) e) in omega arith
+pub pressure-or-none : {n : ℕ} (c d : Card) → c .optionals .pressure ≡ Without → d .optionals .pressure ≡ Given n → c ≡ d → ⊥
+pressure-or-none c d p q e = let z : _≡_ {A = ℕ} 0 1 = cc (ap (λ (x : Card). x .optionals .pressure) e) in omega arith
 
 -- THEOREM: a sludge bed likewise, one of demand 0 too
-pub sludge-or-none : {n : ℕ} (c d : Card) → c .sludge ≡ Without → d .sludge ≡ Given n → c ≡ d → ⊥
-sludge-or-none c d p q e = let z : _≡_ {A = ℕ} 0 1 = cc (ap (λ (x : Card). x .sludge) e) in omega arith
+pub sludge-or-none : {n : ℕ} (c d : Card) → c .optionals .sludge ≡ Without → d .optionals .sludge ≡ Given n → c ≡ d → ⊥
+sludge-or-none c d p q e = let z : _≡_ {A = ℕ} 0 1 = cc (ap (λ (x : Card). x .optionals .sludge) e) in omega arith
 
 -- THEOREM: a nitrification likewise, one of zeros too
-pub nitrification-or-none : {rate concentration load : ℕ} (c d : Card) → c .nitrification ≡ Idle → d .nitrification ≡ Nitrifying rate concentration load → c ≡ d → ⊥
-nitrification-or-none c d p q e = let z : _≡_ {A = ℕ} 0 1 = cc (ap (λ (x : Card). x .nitrification) e) in omega arith
+pub nitrification-or-none : {rate concentration load : ℕ} (c d : Card) → c .optionals .nitrification ≡ Idle → d .optionals .nitrification ≡ Nitrifying rate concentration load → c ≡ d → ⊥
+nitrification-or-none c d p q e = let z : _≡_ {A = ℕ} 0 1 = cc (ap (λ (x : Card). x .optionals .nitrification) e) in omega arith
 
 -- each card's records are at most as long as the longest card's
 cards-length : (cs : List Card) → length (encodeCards cs) ≤ longestCard * length cs

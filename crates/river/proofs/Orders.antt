@@ -10,20 +10,21 @@ use Rattle.river.specs.declared.card.Card.{Card}
 use Rattle.river.specs.declared.card.Dam.{Dam}
 use Rattle.river.specs.declared.card.Dam.the-variants.{Absent, Aerating}
 use Rattle.river.specs.declared.card.Nitrification.{Nitrification}
-use Rattle.river.specs.declared.card.Nitrification.the-variants.{Idle, Nitrifying}
+use Rattle.river.specs.declared.card.Nitrification.the-variants.{Nitrifying}
+use Rattle.river.specs.declared.card.Optionals.{Optionals}
 use Rattle.river.specs.declared.card.RateFactors.{RateFactors}
 use Rattle.river.specs.declared.card.RateFactors.the-variants.{AsGiven, PerDegree}
 use Rattle.river.specs.Refusal.{Answer, accepted, refused, refuse, need, choose, after}
-use Rattle.river.specs.Card.{countOk, inRange, outletOk, encodeDam, damInRange, takeLayout, pressureLayout, sludgeLayout, encodeAmount, amountInRange, encodeNitrification, nitrificationInRange}
+use Rattle.river.specs.Card.{noOptionals, withTake, withPressure, withSludge, withNitrification, countOk, inRange, outletOk, encodeDam, damInRange, takeLayout, pressureLayout, sludgeLayout, encodeAmount, amountInRange, encodeNitrification, nitrificationInRange}
 use Rattle.river.specs.Optional.{readOptional, readOptionals, optionalsInRange}
 use Rattle.river.specs.River.{riverOf, factorInRange, factorsInRange, encodeFactors}
 use Rattle.river.specs.Read.{readHeader, readReach, readReaches, readRest, readFile, cardAt}
 use Rattle.river.specs.Write.{encode, encodeCard, encodeHeader, encodeOpening, checkCard, checkFrom, checkRiver, writeAnswer}
 use Rattle.river.specs.Rewrite.{rewriteAnswer}
 
--- a reach by the fields that break a rule, one without a nitrification, one without a sludge bed too, and one without a pressure too
-abbrev pub reach-in : Nitrification → (sludge pressure : Amount) (outlet temperature volume inflow load : ℕ) → Dam → (amount : Amount) → Card
-reach-in nitrification sludge pressure outlet temperature volume inflow load dam amount =
+-- a reach by the fields that break a rule, with optional fields, and one with a take alone
+abbrev pub reach-with : Optionals → (outlet temperature volume inflow load : ℕ) → Dam → Card
+reach-with optionals outlet temperature volume inflow load dam =
     record {
       outlet = outlet;
       temperature = temperature;
@@ -35,20 +36,11 @@ reach-in nitrification sludge pressure outlet temperature volume inflow load dam
       «inflow_oxygen» = 0;
       load = load;
       dam = dam;
-      take = amount;
-      pressure = pressure;
-      sludge = sludge;
-      nitrification = nitrification;
+      optionals = optionals;
     }
 
-abbrev pub reach-on : (sludge pressure : Amount) (outlet temperature volume inflow load : ℕ) → Dam → (amount : Amount) → Card
-reach-on = reach-in Idle
-
-abbrev pub reach-at : (pressure : Amount) (outlet temperature volume inflow load : ℕ) → Dam → (amount : Amount) → Card
-reach-at = reach-on Without
-
-abbrev pub reach : (outlet temperature volume inflow load : ℕ) → Dam → (amount : Amount) → Card
-reach = reach-at Without
+abbrev pub reach : (outlet temperature volume inflow load : ℕ) → Dam → (take : Amount) → Card
+reach outlet temperature volume inflow load dam take = reach-with (withTake take noOptionals) outlet temperature volume inflow load dam
 
 -- a dam in range, and one out of range
 abbrev pub weir : Dam
@@ -124,32 +116,32 @@ pub record Reading : Type 0 where
   -- nor is a second take
   pub take-twice : readFile (file (reach 0 20 0 1 0 Absent (Given 0)) ++ encodeAmount takeLayout (Given 0)) ≡ refused (refuse 6 0)
   -- then its pressure: 1, 4
-  pub outlet-and-pressure : readFile (file (reach-at pressure-out 9 20 0 1 0 Absent Without)) ≡ refused (refuse 5 1)
-  pub take-and-cut-pressure : readFile (take 39 (file (reach-at pressure-out 0 20 0 1 0 Absent take-out))) ≡ refused (refuse 4 1)
-  pub cut-pressure : readFile (take 33 (file (reach-at pressure-out 0 20 0 1 0 Absent Without))) ≡ refused (refuse 1 1)
+  pub outlet-and-pressure : readFile (file (reach-with (withPressure pressure-out noOptionals) 9 20 0 1 0 Absent)) ≡ refused (refuse 5 1)
+  pub take-and-cut-pressure : readFile (take 39 (file (reach-with (withTake take-out (withPressure pressure-out noOptionals)) 0 20 0 1 0 Absent))) ≡ refused (refuse 4 1)
+  pub cut-pressure : readFile (take 33 (file (reach-with (withPressure pressure-out noOptionals) 0 20 0 1 0 Absent))) ≡ refused (refuse 1 1)
   -- a take behind a pressure is no record that is due, nor is a second pressure
-  pub pressure-then-take : readFile (file (reach-at (Given 760) 0 20 0 1 0 Absent Without) ++ encodeAmount takeLayout (Given 0)) ≡ refused (refuse 6 0)
-  pub pressure-twice : readFile (file (reach-at (Given 760) 0 20 0 1 0 Absent Without) ++ encodeAmount pressureLayout (Given 760)) ≡ refused (refuse 6 0)
+  pub pressure-then-take : readFile (file (reach-with (withPressure (Given 760) noOptionals) 0 20 0 1 0 Absent) ++ encodeAmount takeLayout (Given 0)) ≡ refused (refuse 6 0)
+  pub pressure-twice : readFile (file (reach-with (withPressure (Given 760) noOptionals) 0 20 0 1 0 Absent) ++ encodeAmount pressureLayout (Given 760)) ≡ refused (refuse 6 0)
   -- then its sludge bed: 1
-  pub outlet-and-cut-sludge : readFile (take 33 (file (reach-on (Given 0) Without 9 20 0 1 0 Absent Without))) ≡ refused (refuse 5 1)
-  pub pressure-and-cut-sludge : readFile (take 37 (file (reach-on (Given 0) pressure-out 0 20 0 1 0 Absent Without))) ≡ refused (refuse 4 1)
-  pub cut-sludge : readFile (take 33 (file (reach-on (Given 0) Without 0 20 0 1 0 Absent Without))) ≡ refused (refuse 1 1)
+  pub outlet-and-cut-sludge : readFile (take 33 (file (reach-with (withSludge (Given 0) noOptionals) 9 20 0 1 0 Absent))) ≡ refused (refuse 5 1)
+  pub pressure-and-cut-sludge : readFile (take 37 (file (reach-with (withPressure pressure-out (withSludge (Given 0) noOptionals)) 0 20 0 1 0 Absent))) ≡ refused (refuse 4 1)
+  pub cut-sludge : readFile (take 33 (file (reach-with (withSludge (Given 0) noOptionals) 0 20 0 1 0 Absent))) ≡ refused (refuse 1 1)
   -- a pressure behind a sludge bed is no record that is due, nor is a second sludge bed
-  pub sludge-then-pressure : readFile (file (reach-on (Given 0) Without 0 20 0 1 0 Absent Without) ++ encodeAmount pressureLayout (Given 760)) ≡ refused (refuse 6 0)
-  pub sludge-twice : readFile (file (reach-on (Given 0) Without 0 20 0 1 0 Absent Without) ++ encodeAmount sludgeLayout (Given 0)) ≡ refused (refuse 6 0)
+  pub sludge-then-pressure : readFile (file (reach-with (withSludge (Given 0) noOptionals) 0 20 0 1 0 Absent) ++ encodeAmount pressureLayout (Given 760)) ≡ refused (refuse 6 0)
+  pub sludge-twice : readFile (file (reach-with (withSludge (Given 0) noOptionals) 0 20 0 1 0 Absent) ++ encodeAmount sludgeLayout (Given 0)) ≡ refused (refuse 6 0)
   -- then its nitrification: 1, 4
-  pub outlet-and-nitrification : readFile (file (reach-in nitrification-out Without Without 9 20 0 1 0 Absent Without)) ≡ refused (refuse 5 1)
-  pub pressure-and-cut-nitrification : readFile (take 49 (file (reach-in nitrifying Without pressure-out 0 20 0 1 0 Absent Without))) ≡ refused (refuse 4 1)
-  pub cut-sludge-and-nitrification : readFile (take 33 (file (reach-in nitrification-out (Given 0) Without 0 20 0 1 0 Absent Without))) ≡ refused (refuse 1 1)
-  pub cut-nitrification : readFile (take 45 (file (reach-in nitrification-out Without Without 0 20 0 1 0 Absent Without))) ≡ refused (refuse 1 1)
+  pub outlet-and-nitrification : readFile (file (reach-with (withNitrification nitrification-out noOptionals) 9 20 0 1 0 Absent)) ≡ refused (refuse 5 1)
+  pub pressure-and-cut-nitrification : readFile (take 49 (file (reach-with (withPressure pressure-out (withNitrification nitrifying noOptionals)) 0 20 0 1 0 Absent))) ≡ refused (refuse 4 1)
+  pub cut-sludge-and-nitrification : readFile (take 33 (file (reach-with (withSludge (Given 0) (withNitrification nitrification-out noOptionals)) 0 20 0 1 0 Absent))) ≡ refused (refuse 1 1)
+  pub cut-nitrification : readFile (take 45 (file (reach-with (withNitrification nitrification-out noOptionals) 0 20 0 1 0 Absent))) ≡ refused (refuse 1 1)
   -- a sludge bed behind a nitrification is no record that is due, nor is a second nitrification
-  pub nitrification-then-sludge : readFile (file (reach-in nitrifying Without Without 0 20 0 1 0 Absent Without) ++ encodeAmount sludgeLayout (Given 0)) ≡ refused (refuse 6 0)
-  pub nitrification-twice : readFile (file (reach-in nitrifying Without Without 0 20 0 1 0 Absent Without) ++ encodeNitrification nitrifying) ≡ refused (refuse 6 0)
+  pub nitrification-then-sludge : readFile (file (reach-with (withNitrification nitrifying noOptionals) 0 20 0 1 0 Absent) ++ encodeAmount sludgeLayout (Given 0)) ≡ refused (refuse 6 0)
+  pub nitrification-twice : readFile (file (reach-with (withNitrification nitrifying noOptionals) 0 20 0 1 0 Absent) ++ encodeNitrification nitrifying) ≡ refused (refuse 6 0)
   -- 6 comes last
   pub dam-and-more : readFile (file (reach 0 20 0 1 0 weir-out Without) ++ (0 ∷ [])) ≡ refused (refuse 4 1)
   pub take-and-more : readFile (file (reach 0 20 0 1 0 weir take-out) ++ (0 ∷ [])) ≡ refused (refuse 4 1)
-  pub pressure-and-more : readFile (file (reach-at pressure-out 0 20 0 1 0 weir Without) ++ (0 ∷ [])) ≡ refused (refuse 4 1)
-  pub nitrification-and-more : readFile (file (reach-in nitrification-out Without Without 0 20 0 1 0 Absent Without) ++ (0 ∷ [])) ≡ refused (refuse 4 1)
+  pub pressure-and-more : readFile (file (reach-with (withPressure pressure-out noOptionals) 0 20 0 1 0 weir) ++ (0 ∷ [])) ≡ refused (refuse 4 1)
+  pub nitrification-and-more : readFile (file (reach-with (withNitrification nitrification-out noOptionals) 0 20 0 1 0 Absent) ++ (0 ∷ [])) ≡ refused (refuse 4 1)
 
 pub record Writing : Type 0 where
   -- 3, then 4 of the rate factors, then 4 and 5 of a reach, then the 4 of its dam, its take, its pressure, its sludge bed and its nitrification, then 12
@@ -160,12 +152,12 @@ pub record Writing : Type 0 where
   pub range-and-outlet : written 1 AsGiven (reach 9 36 0 1 0 Absent Without) ≡ refused (refuse 4 1)
   pub outlet-and-dam : written 1 AsGiven (reach 9 20 0 1 0 weir-out Without) ≡ refused (refuse 5 1)
   pub outlet-and-take : written 1 AsGiven (reach 9 20 0 1 0 Absent take-out) ≡ refused (refuse 5 1)
-  pub outlet-and-pressure : written 1 AsGiven (reach-at pressure-out 9 20 0 1 0 Absent Without) ≡ refused (refuse 5 1)
-  pub outlet-and-sludge : written 1 AsGiven (reach-on sludge-out Without 9 20 0 1 0 Absent Without) ≡ refused (refuse 5 1)
-  pub outlet-and-nitrification : written 1 AsGiven (reach-in nitrification-out Without Without 9 20 0 1 0 Absent Without) ≡ refused (refuse 5 1)
-  pub nitrification-and-room : written 1 AsGiven (reach-in nitrification-out (Given 0) (Given 760) 0 20 0 1 0 weir (Given 0)) ≡ refused (refuse 4 1)
-  pub sludge-and-room : written 1 AsGiven (reach-on sludge-out (Given 760) 0 20 0 1 0 weir (Given 0)) ≡ refused (refuse 4 1)
-  pub pressure-and-room : written 1 AsGiven (reach-at pressure-out 0 20 0 1 0 weir (Given 0)) ≡ refused (refuse 4 1)
+  pub outlet-and-pressure : written 1 AsGiven (reach-with (withPressure pressure-out noOptionals) 9 20 0 1 0 Absent) ≡ refused (refuse 5 1)
+  pub outlet-and-sludge : written 1 AsGiven (reach-with (withSludge sludge-out noOptionals) 9 20 0 1 0 Absent) ≡ refused (refuse 5 1)
+  pub outlet-and-nitrification : written 1 AsGiven (reach-with (withNitrification nitrification-out noOptionals) 9 20 0 1 0 Absent) ≡ refused (refuse 5 1)
+  pub nitrification-and-room : written 1 AsGiven (reach-with (withTake (Given 0) (withPressure (Given 760) (withSludge (Given 0) (withNitrification nitrification-out noOptionals)))) 0 20 0 1 0 weir) ≡ refused (refuse 4 1)
+  pub sludge-and-room : written 1 AsGiven (reach-with (withTake (Given 0) (withPressure (Given 760) (withSludge sludge-out noOptionals))) 0 20 0 1 0 weir) ≡ refused (refuse 4 1)
+  pub pressure-and-room : written 1 AsGiven (reach-with (withTake (Given 0) (withPressure pressure-out noOptionals)) 0 20 0 1 0 weir) ≡ refused (refuse 4 1)
   pub take-and-room : written 1 AsGiven (reach 0 20 0 1 0 weir take-out) ≡ refused (refuse 4 1)
   pub dam-and-room : written 1 AsGiven (reach 0 20 0 1 0 weir-out Without) ≡ refused (refuse 4 1)
   -- rewriting: a rule of reading, then 12

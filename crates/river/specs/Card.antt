@@ -8,6 +8,7 @@ use lib.ListN.{length, take}
 use lib.Dec.{leb, ltb, eqb}
 use Rattle.river.specs.declared.card.Card.{Card}
 use Rattle.river.specs.declared.card.Cards.{Cards}
+use Rattle.river.specs.declared.card.Optionals.{Optionals}
 use Rattle.river.specs.declared.card.Dam.{Dam}
 use Rattle.river.specs.declared.card.Dam.the-variants.{Absent, Aerating}
 use Rattle.river.specs.declared.card.Amount.{Amount}
@@ -29,6 +30,40 @@ abbrev pub amountOr : ℕ → Amount → ℕ
 amountOr none Without = none
 amountOr none (Given n) = n
 
+-- none of a card's optional fields
+abbrev pub noOptionals : Optionals
+noOptionals = record { take = Without; pressure = Without; sludge = Without; nitrification = Idle }
+
+-- optional fields with another take, pressure, sludge bed or nitrification
+abbrev pub withTake : Amount → Optionals → Optionals
+withTake take o = record { take = take; pressure = o .pressure; sludge = o .sludge; nitrification = o .nitrification }
+
+abbrev pub withPressure : Amount → Optionals → Optionals
+withPressure pressure o = record { take = o .take; pressure = pressure; sludge = o .sludge; nitrification = o .nitrification }
+
+abbrev pub withSludge : Amount → Optionals → Optionals
+withSludge sludge o = record { take = o .take; pressure = o .pressure; sludge = sludge; nitrification = o .nitrification }
+
+abbrev pub withNitrification : Nitrification → Optionals → Optionals
+withNitrification nitrification o = record { take = o .take; pressure = o .pressure; sludge = o .sludge; nitrification = nitrification }
+
+-- a card with another dam and other optional fields
+abbrev pub withOptionals : Dam → Optionals → Card → Card
+withOptionals dam optionals c =
+    record {
+      outlet = c .outlet;
+      temperature = c .temperature;
+      k1 = c .k1;
+      k2 = c .k2;
+      volume = c .volume;
+      inflow = c .inflow;
+      «inflow_bod» = c .«inflow_bod»;
+      «inflow_oxygen» = c .«inflow_oxygen»;
+      load = c .load;
+      dam = dam;
+      optionals = optionals;
+    }
+
 -- the card that stands for a reach beyond the last one
 abbrev pub blank : Card
 blank =
@@ -43,10 +78,7 @@ blank =
       «inflow_oxygen» = 0;
       load = 0;
       dam = Absent;
-      take = Without;
-      pressure = Without;
-      sludge = Without;
-      nitrification = Idle;
+      optionals = noOptionals;
     }
 
 -- the ranges of an `RE` record's fields, its rates aside
@@ -108,16 +140,20 @@ pub record RatesInRange (c : Card) : Type 0 where
 unfoldable pub outletOk : ℕ → ℕ → ℕ → Bool
 outletOk n i o = cond (eqb i n) (eqb o 0) (ltb i o && leb o n)
 
+-- what is asked of a card's optional fields, the nitrogenous rate aside
+pub record RegularOptionals (o : Optionals) : Type 0 where
+  pub take : LawfulAmount takeLayout (o .take)
+  pub pressure : LawfulAmount pressureLayout (o .pressure)
+  pub sludge : LawfulAmount sludgeLayout (o .sludge)
+  pub nitrification : RegularNitrification (o .nitrification)
+
 -- what is asked of the card of reach i of n, its rates aside, so of a card with the rates in force too; any load that four bytes hold will do
 pub record RegularCard (n i : ℕ) (c : Card) : Type 0 where
   pub in-range : FieldsInRange c
   pub load : c .load < 4_294_967_296
   pub outlet : outletOk n i (c .outlet) ≡ true
   pub dam : LawfulDam (c .dam)
-  pub take : LawfulAmount takeLayout (c .take)
-  pub pressure : LawfulAmount pressureLayout (c .pressure)
-  pub sludge : LawfulAmount sludgeLayout (c .sludge)
-  pub nitrification : RegularNitrification (c .nitrification)
+  pub optionals : RegularOptionals (c .optionals)
 
 -- a lawful card of reach i of n: a regular one with its rates in range
 pub record LawfulCard (n i : ℕ) (c : Card) : Type 0 where
@@ -281,7 +317,11 @@ optional = damRecord ∷ takeRecord ∷ pressureRecord ∷ sludgeRecord ∷ nitr
 
 -- what a card holds of them
 abbrev pub optionalOf : Card → Values optional
-optionalOf c = (c .dam, (c .take, (c .pressure, (c .sludge, (c .nitrification, tt)))))
+optionalOf c = let o = c .optionals in (c .dam, (o .take, (o .pressure, (o .sludge, (o .nitrification, tt)))))
+
+-- the optional fields of what is read
+abbrev pub optionalsOf : Values optional → Optionals
+optionalsOf vs = record { take = vs .1 .0; pressure = vs .1 .1 .0; sludge = vs .1 .1 .1 .0; nitrification = vs .1 .1 .1 .1 .0 }
 
 -- the length of a card's records, and that of the longest card's
 abbrev pub sizeOf : Card → ℕ

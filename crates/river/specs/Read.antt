@@ -16,7 +16,7 @@ use Rattle.river.specs.declared.read.NitrificationRead.{NitrificationRea
 use Rattle.river.specs.declared.read.Header.{Header}
 use Rattle.river.specs.declared.read.Reach.{Reach}
 use Rattle.river.specs.Bytes.{byteAt, twoAt, fourAt, marked}
-use Rattle.river.specs.Card.{RV, RE, headerBytes, reachBytes, optional, countOk, inRange, outletOk, sizeOf}
+use Rattle.river.specs.Card.{RV, RE, headerBytes, reachBytes, optional, optionalsOf, countOk, inRange, outletOk, sizeOf}
 use Rattle.river.specs.Optional.{Values, absent, readOptional, readOptionals}
 use Rattle.river.specs.Refusal.{Answer, accepted, refused, refuse, need, after}
 use Rattle.river.specs.River.{River, riverOf, encodeFactors, factorsRecord}
@@ -41,10 +41,7 @@ cardAt s vs =
       «inflow_oxygen» = twoAt s 20;
       load = fourAt s 22;
       dam = vs .0;
-      take = vs .1 .0;
-      pressure = vs .1 .1 .0;
-      sludge = vs .1 .1 .1 .0;
-      nitrification = vs .1 .1 .1 .1 .0;
+      optionals = optionalsOf vs;
     }
 
 -- reach i of n at the start of the bytes: 1, 2, 4, 5, then the records that follow its `RE` record, or its card

@@ -20,12 +20,12 @@ nitrogenousRate (Nitrifying rate concentration load) = rate
 -- the source of a demand of a reach
 abbrev pub sourceOf : Demand → Card → Source
 sourceOf Bod card = record { inflow = card .inflow; concentration = card .«inflow_bod»; load = card .load }
-sourceOf Nitrogenous card = nitrogenousSource (card .inflow) (card .nitrification)
+sourceOf Nitrogenous card = nitrogenousSource (card .inflow) (card .optionals .nitrification)
 
 -- the rate of a demand of a reach
 abbrev pub rateOf : Demand → Card → ℕ
 rateOf Bod card = card .k1
-rateOf Nitrogenous card = nitrogenousRate (card .nitrification)
+rateOf Nitrogenous card = nitrogenousRate (card .optionals .nitrification)
 
 -- the undecayed demand that a source brings: inflow × concentration, plus 1,000 × load
 abbrev pub sourceMass : Source → ℕ

@@ -1,7 +1,7 @@
 // The cards of a river, and its rate factors.
 ghost use mathlib.Core.Path.{_≡_};
 ghost use lib.ListN.{length};
-ghost use Rattle.river.specs.Card.{blank, encodeDam, layoutSize, encodeAmount, amountOr, encodeNitrification, sizeOf};
+ghost use Rattle.river.specs.Card.{noOptionals, withNitrification, withOptionals, blank, encodeDam, layoutSize, encodeAmount, amountOr, encodeNitrification, sizeOf};
 ghost use Rattle.river.specs.River.{encodeFactors, longestFile};
 
 // The lengths of the records `RV`, `TH`, `RE`, `DM`, `WD`, `BP`, `SD` and `NT`.
@@ -108,9 +108,17 @@ pub(crate) const SLUDGE: Layout = Layout {
     most: 65_535,
 };
 
-// A reach card: the numbers of its `RE` record, the short ones first so that there is no padding between them, its dam, its take in litres a
-// second, its pressure in mm of mercury, the demand of its sludge bed, in thousandths of mg/L a day, and its nitrification. A rate has two bytes in
-// a file; a card with the rates in force may have larger ones, which check 15 refuses.
+// What a card may have beside its dam: a take in litres a second, a pressure in mm of mercury, the demand of a sludge bed, in thousandths of
+// mg/L a day, and a nitrification.
+pub struct Optionals {
+    pub take: Amount,
+    pub pressure: Amount,
+    pub sludge: Amount,
+    pub nitrification: Nitrification,
+}
+
+// A reach card: the numbers of its `RE` record, the short ones first so that there is no padding between them, its dam, and what else it may
+// have. A rate has two bytes in a file; a card with the rates in force may have larger ones, which check 15 refuses.
 pub struct Card {
     pub outlet: u8,
     pub temperature: u8,
@@ -122,10 +130,7 @@ pub struct Card {
     pub inflow_bod: u32,
     pub load: u32,
     pub dam: Dam,
-    pub take: Amount,
-    pub pressure: Amount,
-    pub sludge: Amount,
-    pub nitrification: Nitrification,
+    pub optionals: Optionals,
 }
 
 // The cards of a river: the first `count` of them.
@@ -134,10 +139,57 @@ pub struct Cards {
     pub count: u8,
 }
 
+// None of a card's optional fields.
+pub fn no_optionals() -> Optionals
+    ensures { λ r. ⌜ r ≡ noOptionals ⌝ }
+{
+    Optionals {
+        take: Amount::Without,
+        pressure: Amount::Without,
+        sludge: Amount::Without,
+        nitrification: Nitrification::Idle,
+    }
+}
+
+// Optional fields with another nitrification.
+pub fn with_nitrification(nitrification: Nitrification, optionals: Optionals) -> Optionals
+    ensures { λ r. ⌜ r ≡ withNitrification nitrification optionals ⌝ }
+{
+    let take = optionals.take;
+    let pressure = optionals.pressure;
+    let sludge = optionals.sludge;
+    Optionals {
+        take,
+        pressure,
+        sludge,
+        nitrification,
+    }
+}
+
+// A card with another dam and other optional fields.
+pub fn with_optionals(dam: Dam, optionals: Optionals, card: Card) -> Card
+    ensures { λ r. ⌜ r ≡ withOptionals dam optionals card ⌝ }
+{
+    Card {
+        outlet: card.outlet,
+        temperature: card.temperature,
+        k1: card.k1,
+        k2: card.k2,
+        volume: card.volume,
+        inflow: card.inflow,
+        inflow_bod: card.inflow_bod,
+        inflow_oxygen: card.inflow_oxygen,
+        load: card.load,
+        dam,
+        optionals,
+    }
+}
+
 // A card of zeros.
 pub fn blank() -> Card
     ensures { λ r. ⌜ r ≡ blank ⌝ }
 {
+    let optionals = no_optionals();
     Card {
         outlet: 0,
         temperature: 0,
@@ -149,10 +201,7 @@ pub fn blank() -> Card
         inflow_oxygen: 0,
         load: 0,
         dam: Dam::Absent,
-        take: Amount::Without,
-        pressure: Amount::Without,
-        sludge: Amount::Without,
-        nitrification: Nitrification::Idle,
+        optionals,
     }
 }
 
@@ -239,10 +288,11 @@ pub fn size_of(c: Card) -> usize
     ensures { λ r. ⌜ r ≡ sizeOf c ⌝ }
 {
     let dam = c.dam;
-    let take = c.take;
-    let pressure = c.pressure;
-    let sludge = c.sludge;
-    let nitrification = c.nitrification;
+    let optionals = c.optionals;
+    let take = optionals.take;
+    let pressure = optionals.pressure;
+    let sludge = optionals.sludge;
+    let nitrification = optionals.nitrification;
     REACH_BYTES
         + dam_size(dam)
         + amount_size(TAKE, take)

@@ -146,10 +146,11 @@ fn put_optionals(out: &mut [u8], at: usize, c: Card) -> usize
     ensures { λ r. ⌜ Put (now (out .entry)) at (encodeOptionals optional (optionalOf c)) (now (out .exit)) r ⌝ }
 {
     let dam = c.dam;
-    let take = c.take;
-    let pressure = c.pressure;
-    let sludge = c.sludge;
-    let nitrification = c.nitrification;
+    let optionals = c.optionals;
+    let take = optionals.take;
+    let pressure = optionals.pressure;
+    let sludge = optionals.sludge;
+    let nitrification = optionals.nitrification;
     let next = put_dam(out, at, dam);
     let next = put_amount(out, next, TAKE, take);
     let next = put_amount(out, next, PRESSURE, pressure);

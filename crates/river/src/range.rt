@@ -148,19 +148,20 @@ pub fn optionals_in_range(c: Card) -> bool
     if !dam_in_range(dam) {
         return false;
     }
-    let take = c.take;
+    let optionals = c.optionals;
+    let take = optionals.take;
     if !amount_in_range(TAKE, take) {
         return false;
     }
-    let pressure = c.pressure;
+    let pressure = optionals.pressure;
     if !amount_in_range(PRESSURE, pressure) {
         return false;
     }
-    let sludge = c.sludge;
+    let sludge = optionals.sludge;
     if !amount_in_range(SLUDGE, sludge) {
         return false;
     }
-    let nitrification = c.nitrification;
+    let nitrification = optionals.nitrification;
     nitrification_in_range(nitrification)
 }
 

@@ -3,7 +3,7 @@ ghost use mathlib.Core.Path.{_≡_};
 ghost use Prim.Native.Nat.{_<_, _^_};
 ghost use lib.ListN.{drop};
 ghost use Rattle.river.specs.Card.{reachBytes, damRecord, amountRecord, numberAt, nitrificationRecord, optional};
-ghost use Rattle.river.specs.Optional.{readOptional, readOptionals};
+ghost use Rattle.river.specs.Optional.{absent, readOptional, readOptionals};
 ghost use Rattle.river.specs.Refusal.{accepted, after};
 ghost use Rattle.river.specs.River.{factorsRecord};
 ghost use Rattle.river.specs.Read.{readHeader, headerOf, headerRefusal, factorsReadOf, factorsRefusal, cardAt, damOf, damRefusal, amountOf, amountRefusal, nitrificationOf, nitrificationRefusal, readReach, reachOf, reachRefusal};
@@ -21,6 +21,7 @@ use crate::card::HEADER_BYTES;
 use crate::card::Layout;
 use crate::card::NITRIFICATION_BYTES;
 use crate::card::Nitrification;
+use crate::card::Optionals;
 use crate::card::PRESSURE;
 use crate::card::REACH_BYTES;
 use crate::card::RateFactors;
@@ -29,7 +30,9 @@ use crate::card::TAKE;
 use crate::card::amount_size;
 use crate::card::dam_size;
 use crate::card::layout_size;
+use crate::card::no_optionals;
 use crate::card::size_of;
+use crate::card::with_optionals;
 use crate::range::amount_in_range;
 use crate::range::count_ok;
 use crate::range::dam_in_range;
@@ -116,17 +119,11 @@ pub fn read_factors(s: &[u8]) -> FactorsRead
     FactorsRead::Found(factors)
 }
 
-// The card in an `RE` record, with a dam, a take, a pressure, a sludge bed and a nitrification.
-pub fn card_at(
-    s: &[u8],
-    dam: Dam,
-    take: Amount,
-    pressure: Amount,
-    sludge: Amount,
-    nitrification: Nitrification,
-) -> Card
-    ensures { λ r. ⌜ r ≡ cardAt (now (s .entry)) (dam, (take, (pressure, (sludge, (nitrification, tt))))) ⌝ }
+// The card in an `RE` record, without the records that may follow.
+fn card_at(s: &[u8]) -> Card
+    ensures { λ r. ⌜ r ≡ cardAt (now (s .entry)) (absent optional) ⌝ }
 {
+    let optionals = no_optionals();
     Card {
         outlet: byte_at(s, 2),
         temperature: byte_at(s, 3),
@@ -137,11 +134,8 @@ pub fn card_at(
         inflow_bod: four_at(s, 16),
         inflow_oxygen: two_at(s, 20),
         load: four_at(s, 22),
-        dam,
-        take,
-        pressure,
-        sludge,
-        nitrification,
+        dam: Dam::Absent,
+        optionals,
     }
 }
 
@@ -247,7 +241,13 @@ fn read_card(s: &[u8], at: usize, reach: u8) -> Reach
     let NitrificationRead::Found(nitrification) = found else {
         return Reach::Refused(nitrification_refusal(found));
     };
-    let card = card_at(s, dam, take, pressure, sludge, nitrification);
+    let optionals = Optionals {
+        take,
+        pressure,
+        sludge,
+        nitrification,
+    };
+    let card = with_optionals(dam, optionals, card_at(s));
     let next = at + size_of(card);
     Reach::Read { card, next }
 }
@@ -263,14 +263,7 @@ fn read_here(s: &[u8], at: usize, count: u8, reach: u8) -> Reach
     if !marked(s, b'R', b'E') {
         return Reach::Refused(refuse(2, reach));
     }
-    let card = card_at(
-        s,
-        Dam::Absent,
-        Amount::Without,
-        Amount::Without,
-        Amount::Without,
-        Nitrification::Idle,
-    );
+    let card = card_at(s);
     if !in_range(card) {
         return Reach::Refused(refuse(4, reach));
     }

@@ -64,7 +64,8 @@ pub fn source_of(demand: Demand, card: Card) -> Source
             load: card.load,
         },
         Demand::Nitrogenous => {
-            let nitrification = card.nitrification;
+            let optionals = card.optionals;
+            let nitrification = optionals.nitrification;
             nitrogenous_source(card.inflow, nitrification)
         }
     }
@@ -77,7 +78,8 @@ pub fn rate_of(demand: Demand, card: Card) -> u32
     match demand {
         Demand::Bod => card.k1,
         Demand::Nitrogenous => {
-            let nitrification = card.nitrification;
+            let optionals = card.optionals;
+            let nitrification = optionals.nitrification;
             nitrogenous_rate(nitrification)
         }
     }

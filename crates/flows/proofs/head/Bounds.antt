@@ -51,7 +51,7 @@ pressure-small Without h = omega arith
 pressure-small (Given p) h = h .1
 
 pub conditions-in-range : {n i : ℕ} {c : Card} → RegularCard n i c → SaturationInRange c
-conditions-in-range {c = c} h = record { temperature = h .in-range .temperature; pressure = pressure-small (c .pressure) (h .pressure) }
+conditions-in-range {c = c} h = record { temperature = h .in-range .temperature; pressure = pressure-small (c .optionals .pressure) (h .optionals .pressure) }
 
 -- a share is at most the whole
 pub share-small : (a b d : ℕ) → b ≤ d → a * b / d ≤ a

@@ -1,12 +1,12 @@
 -- The bench values of the river file paper for corrected rates, proved from the definitions by computation.
 -- They are named by the laws of the correction and of the cards with the rates in force, so that these rows are checked first.
 use mathlib.Core.Path.{_≡_, refl}
-use Rattle.river.specs.declared.card.Amount.the-variants.{Without}
 use Rattle.river.specs.declared.card.Card.{Card}
 use Rattle.river.specs.declared.card.Dam.the-variants.{Absent}
 use Rattle.river.specs.declared.card.Nitrification.the-variants.{Nitrifying}
 use Rattle.river.specs.declared.card.RateFactors.the-variants.{PerDegree}
 use Rattle.river.specs.declared.source.Demand.the-variants.{Nitrogenous}
+use Rattle.river.specs.Card.{noOptionals, withNitrification}
 use Rattle.river.specs.Source.{rateOf}
 use Rattle.flows.specs.Rates.{warmed, cooled, correctedRate, decayInForce, aerationInForce, cardInForce}
 
@@ -25,10 +25,7 @@ warm =
       «inflow_oxygen» = 0;
       load = 0;
       dam = Absent;
-      take = Without;
-      pressure = Without;
-      sludge = Without;
-      nitrification = Nitrifying 1_000 0 0;
+      optionals = withNitrification (Nitrifying 1_000 0 0) noOptionals;
     })
 
 pub record Rows : Type 0 where

@@ -13,8 +13,8 @@ use Rattle.decay.specs.held.Factors.{demandFrom, headFactors, nextFactors, fact
 use Rattle.decay.specs.declared.factors.Factors.{Factors}
 use Rattle.river.specs.declared.card.Card.{Card}
 use Rattle.river.specs.declared.card.Dam.the-variants.{Absent}
-use Rattle.river.specs.declared.card.Nitrification.the-variants.{Idle}
-use Rattle.river.specs.declared.card.Amount.the-variants.{Without, Given}
+use Rattle.river.specs.declared.card.Amount.the-variants.{Given}
+use Rattle.river.specs.Card.{noOptionals, withTake, withSludge}
 use Rattle.flows.specs.Flow.{none, fed, flowOf, reachFlow}
 use Rattle.flows.specs.Saturation.{saturation, saturationThousandths, saturationOf}
 use Rattle.flows.specs.Head.{floor, upstreamDemand, upstreamOxygen, belowDam, headDemand, headOxygen}
@@ -37,10 +37,7 @@ reach k2 =
       «inflow_oxygen» = 14_000;
       load = 0;
       dam = Absent;
-      take = Given 10_000;
-      pressure = Without;
-      sludge = Given 2_000;
-      nitrification = Idle;
+      optionals = withTake (Given 10_000) (withSludge (Given 2_000) noOptionals);
     }
 
 abbrev flow : (k2 : ℕ) → ℕ

@@ -9,7 +9,7 @@ use native.Mathlib.Numerals.{one-add}
 use native.Mathlib.Omega.{arith}
 use lib.ListN.{length, getD}
 use borrow.Author.Tests.{le-leb, leb-true, lt-ltb, ltb-true, eq-eqb, eqb-true, ne-eqb}
-use Rattle.river.specs.Card.{FieldsInRange, LawfulDam, LawfulAmount, RegularNitrification, rateMost, RatesInRange, ratesInRange, LawfulCard, EachFrom, Each, blank, takeLayout, pressureLayout, sludgeLayout, optional, optionalOf, inRange, damInRange, amountInRange, nitrificationInRange, countOk, outletOk}
+use Rattle.river.specs.Card.{FieldsInRange, LawfulDam, LawfulAmount, RegularNitrification, RegularOptionals, withNitrification, rateMost, RatesInRange, ratesInRange, LawfulCard, EachFrom, Each, blank, takeLayout, pressureLayout, sludgeLayout, optional, optionalOf, inRange, damInRange, amountInRange, nitrificationInRange, countOk, outletOk}
 use Rattle.river.specs.Optional.{optionalsInRange}
 use Rattle.river.specs.River.{FactorInRange, LawfulFactors, factorInRange, factorsInRange}
 use Rattle.river.specs.Source.{nitrogenousRate}
@@ -21,6 +21,7 @@ use Rattle.river.specs.declared.card.Dam.the-variants.{Absent, Aerating}
 use Rattle.river.specs.declared.card.Layout.{Layout}
 use Rattle.river.specs.declared.card.Nitrification.{Nitrification}
 use Rattle.river.specs.declared.card.Nitrification.the-variants.{Idle, Nitrifying}
+use Rattle.river.specs.declared.card.Optionals.{Optionals}
 use Rattle.river.specs.declared.card.RateFactors.{RateFactors}
 use Rattle.river.specs.declared.card.RateFactors.the-variants.{AsGiven, PerDegree}
 use Rattle.river.proofs.Answers.{both, both-true}
@@ -132,12 +133,13 @@ true-factorsInRange (PerDegree decay aeration) e =
 pub lawful-optionals : {n i : ℕ} {c : Card} → LawfulCard n i c → optionalsInRange optional (optionalOf c) ≡ true
 unfolding optionalsInRange
 lawful-optionals {n} {i} {c} lawful =
-    let h = lawful .regular in
-    both (damInRange-true (c .dam) (h .dam))
-    (both (amountInRange-true takeLayout (c .take) (h .take))
-    (both (amountInRange-true pressureLayout (c .pressure) (h .pressure))
-    (both (amountInRange-true sludgeLayout (c .sludge) (h .sludge))
-    (both (nitrificationInRange-true (c .nitrification) (h .nitrification) (lawful .rates .nitrogenous)) refl))))
+    let o = c .optionals in
+    let h = lawful .regular .optionals in
+    both (damInRange-true (c .dam) (lawful .regular .dam))
+    (both (amountInRange-true takeLayout (o .take) (h .take))
+    (both (amountInRange-true pressureLayout (o .pressure) (h .pressure))
+    (both (amountInRange-true sludgeLayout (o .sludge) (h .sludge))
+    (both (nitrificationInRange-true (o .nitrification) (h .nitrification) (lawful .rates .nitrogenous)) refl))))
 
 pub lawful-card : (n i : ℕ) (c : Card) → inRange c ≡ true → c .load < 4294967296 → outletOk n i (c .outlet) ≡ true
     → optionalsInRange optional (optionalOf c) ≡ true → LawfulCard n i c
@@ -149,7 +151,8 @@ lawful-card n i c r l o e =
     let f = both-true (d .right) in
     let g = both-true (f .right) in
     let reach = true-inRange c r in
-    let nitrification = true-nitrificationInRange (c .nitrification) (g .left) in
+    let optionals = c .optionals in
+    let nitrification = true-nitrificationInRange (optionals .nitrification) (g .left) in
     record {
       regular =
           record {
@@ -157,13 +160,20 @@ lawful-card n i c r l o e =
             load = l;
             outlet = o;
             dam = true-damInRange (c .dam) (a .left);
-            take = true-amountInRange takeLayout (c .take) (b .left);
-            pressure = true-amountInRange pressureLayout (c .pressure) (d .left);
-            sludge = true-amountInRange sludgeLayout (c .sludge) (f .left);
-            nitrification = nitrification .0;
+            optionals =
+                record {
+                  take = true-amountInRange takeLayout (optionals .take) (b .left);
+                  pressure = true-amountInRange pressureLayout (optionals .pressure) (d .left);
+                  sludge = true-amountInRange sludgeLayout (optionals .sludge) (f .left);
+                  nitrification = nitrification .0;
+                };
           };
       rates = record { k1 = reach .k1; k2 = reach .k2; nitrogenous = nitrification .1 };
     }
+
+-- another nitrification in range leaves optional fields regular
+pub regular-with : {n : Nitrification} {o : Optionals} → RegularNitrification n → RegularOptionals o → RegularOptionals (withNitrification n o)
+regular-with h r = record { take = r .take; pressure = r .pressure; sludge = r .sludge; nitrification = h }
 
 pub countOk-true : (n : ℕ) → 1 ≤ n → n ≤ 128 → countOk n ≡ true
 unfolding countOk

@@ -10,7 +10,7 @@ use lib.ListN.{length, drop}
 use lib.Seq.{drop-at}
 use borrow.Author.Tests.{le-leb, leb-true}
 use Rattle.river.specs.Bytes.{AreBytes, byteAt}
-use Rattle.river.specs.Card.{RatesInRange, LawfulCard, RE, optional, optionalOf, inRange, outletOk, sizeOf}
+use Rattle.river.specs.Card.{RatesInRange, LawfulCard, RE, withOptionals, optional, optionalOf, optionalsOf, inRange, outletOk, sizeOf}
 use Rattle.river.specs.Optional.{Values, absent, encodeOptionals}
 use Rattle.river.specs.Read.{cardAt, readReach}
 use Rattle.river.specs.Refusal.{accepted}
@@ -26,6 +26,11 @@ use Rattle.river.proofs.card.Rows.{sound-optional, rate-held, narrow-sp
 inRange-cardAt : (s : List ℕ) (vs ws : Values optional) → inRange (cardAt s vs) ≡ inRange (cardAt s ws)
 unfolding inRange cardAt
 inRange-cardAt s vs ws = refl
+
+-- the card of an `RE` record gets what it holds of them
+pub with-values : (s : List ℕ) (vs : Values optional) → withOptionals (vs .0) (optionalsOf vs) (cardAt s (absent optional)) ≡ cardAt s vs
+unfolding cardAt
+with-values s vs = refl
 
 -- Reading what was encoded.
 

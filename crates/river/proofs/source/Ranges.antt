@@ -20,7 +20,7 @@ nitrogenous-inflow inflow (Nitrifying rate concentration load) = refl
 
 pub source-inflow : (d : Demand) (c : Card) → sourceOf d c .inflow ≡ c .inflow
 source-inflow Bod c = refl
-source-inflow Nitrogenous c = nitrogenous-inflow (c .inflow) (c .nitrification)
+source-inflow Nitrogenous c = nitrogenous-inflow (c .inflow) (c .optionals .nitrification)
 
 -- the source of nitrogenous BOD is in range
 nitrogenous-in-range : (inflow : ℕ) (n : Nitrification) → inflow ≤ 100_000_000 → RegularNitrification n → SourceInRange (nitrogenousSource inflow n)
@@ -32,7 +32,7 @@ sources-in-range {c = c} h = record { each = each }
   where
     each : (d : Demand) → SourceInRange (sourceOf d c)
     each Bod = record { inflow = h .in-range .inflow; concentration = h .in-range .inflow-bod; load = h .load }
-    each Nitrogenous = nitrogenous-in-range (c .inflow) (c .nitrification) (h .in-range .inflow) (h .nitrification)
+    each Nitrogenous = nitrogenous-in-range (c .inflow) (c .optionals .nitrification) (h .in-range .inflow) (h .optionals .nitrification)
 
 -- the rate of a demand is in range
 pub rate-small : {c : Card} → RatesInRange c → (d : Demand) → rateOf d c ≤ rateMost

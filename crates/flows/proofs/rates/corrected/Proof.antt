@@ -6,13 +6,17 @@ use Rattle.flows.proofs.rates.corrected.Tie as tie
 
 returns : tie.Need-returns
 unfolding decayInForce aerationInForce
-returns c = rw (c .corrected-nitrification .ensures, c .before .corrected-rate2 .ensures, c .before .before .corrected-rate .ensures)
+returns c =
+    let k1 = c .before in
+    let held = k1 .before in
+    rw (c .corrected-rate2 .ensures, k1 .corrected-rate .ensures, held .with-nitrification .ensures, held .before .corrected-nitrification .ensures)
 
 pub corrected-spec : {M : Type 1} → statement M
 corrected-spec =
     tie.close
     (tie.spec
+    (λ corrected-nitrification-requires κs. search needs)
+    (λ with-nitrification-requires κs. search needs)
     (λ corrected-rate-requires κs. search needs)
     (λ corrected-rate-requires-2 κs. search needs)
-    (λ corrected-nitrification-requires κs. search needs)
     returns)

@@ -8,25 +8,25 @@ use Rattle.river.proofs.put.put_optionals.Statement.{statement}
 use Rattle.river.proofs.put.put_optionals.Tie as tie
 
 put-dam-requires : tie.Need-put-dam-requires
-put-dam-requires c κs = omega (arith, simp length-append at (c .before .before .pre))
+put-dam-requires c κs = omega (arith, simp length-append at (c .before .before .before .pre))
 
 put-amount-requires : tie.Need-put-amount-requires
 put-amount-requires c κs =
     let a = c .before .before .before in
-    omega (arith, a .put-dam .ensures .place, simp length-append at (a .before .before .before .pre))
+    omega (arith, a .put-dam .ensures .place, simp length-append at (a .before .before .before .before .pre))
 
 put-amount-requires-2 : tie.Need-put-amount-requires-2
 put-amount-requires-2 c κs =
     let b = c .before .before .before in
     let a = b .before .before .before .before in
-    omega (arith, b .put-amount .ensures .place, a .put-dam .ensures .place, simp length-append at (a .before .before .before .pre))
+    omega (arith, b .put-amount .ensures .place, a .put-dam .ensures .place, simp length-append at (a .before .before .before .before .pre))
 
 put-amount-requires-3 : tie.Need-put-amount-requires-3
 put-amount-requires-3 c κs =
     let d = c .before .before .before in
     let b = d .before .before .before .before in
     let a = b .before .before .before .before in
-    omega (arith, d .put-amount2 .ensures .place, b .put-amount .ensures .place, a .put-dam .ensures .place, simp length-append at (a .before .before .before .pre))
+    omega (arith, d .put-amount2 .ensures .place, b .put-amount .ensures .place, a .put-dam .ensures .place, simp length-append at (a .before .before .before .before .pre))
 
 put-nitrification-requires : tie.Need-put-nitrification-requires
 put-nitrification-requires c κs =
@@ -34,7 +34,7 @@ put-nitrification-requires c κs =
     let d = e .before .before .before .before in
     let b = d .before .before .before .before in
     let a = b .before .before .before .before in
-    omega (arith, e .put-amount3 .ensures .place, d .put-amount2 .ensures .place, b .put-amount .ensures .place, a .put-dam .ensures .place, simp length-append at (a .before .before .before .pre))
+    omega (arith, e .put-amount3 .ensures .place, d .put-amount2 .ensures .place, b .put-amount .ensures .place, a .put-dam .ensures .place, simp length-append at (a .before .before .before .before .pre))
 
 returns : tie.Need-returns
 returns c =

@@ -7,12 +7,13 @@ use Prim.Native.Nat.{ℕ}
 use denote.Ref.{now}
 use lib.ListN.{drop}
 use native.Mathlib.Omega.{arith}
-use Rattle.river.specs.Card.{reachBytes, takeRecord, pressureRecord, sludgeRecord, nitrificationRecord, optional}
+use Rattle.river.specs.Card.{withOptionals, reachBytes, takeRecord, pressureRecord, sludgeRecord, nitrificationRecord, optional}
 use Rattle.river.specs.Optional.{Values, readOptionals}
 use Rattle.river.specs.Read.{cardAt, reachOf}
 use Rattle.river.specs.Refusal.{Answer, accepted, after}
 use Rattle.river.specs.declared.card.Card.{Card}
 use Rattle.river.proofs.card.Rows.{size-small}
+use Rattle.river.proofs.read.Records.{with-values}
 use Rattle.river.proofs.card.Optional.{Due, all-due, refused-here, found-here, none-due}
 use Rattle.river.proofs.read.Steps.{dam-found, dam-refused, amount-found, amount-refused, nitrification-found, nitrification-refused, card-refused, card-made}
 use Rattle.river.proofs.read.read_card.Statement.{statement}
@@ -134,15 +135,17 @@ returns-5 c =
 -- behind the nitrification, the last
 add-next : tie.Need-add-next
 add-next c =
-    let r = c .before .before .before .before .before in
-    omega (arith, start-5 (r .before) .pre, c .size-of .ensures, size-small (c .before .card-at .result))
+    let r = c .before .before .before .before .before .before in
+    omega (arith, start-5 (r .before) .pre, c .size-of .ensures, size-small (c .before .with-optionals .result))
 
 returns-6 : tie.Need-returns-6
 returns-6 c =
-    let t = c .before .before .before in
+    let w = c .before in
+    let t = w .before .before .before in
     let r = t .before .before in
-    let at = start-5 (r .before) .args .at in
-    card-made at (c .before .card-at .ensures) (c .size-of .ensures) ∙
+    let a = start-5 (r .before) in
+    let at = a .args .at in
+    card-made at (w .with-optionals .ensures ∙ ap (withOptionals _ _) (w .before .card-at .ensures) ∙ with-values (now (a .args .s)) _) (c .size-of .ensures) ∙
     sym (ap (reachOf at) (none-due (found-here (nitrification-due (r .before)) (nitrification-found _ (r .read-nitrification .ensures) (t .found5 .given .1)) refl)))
 
 pub read-card-spec : {M : Type 1} → statement M
@@ -184,6 +187,7 @@ read-card-spec =
     (λ nitrification-refusal-requires. search needs)
     returns-5
     (λ card-at-requires. search needs)
+    (λ with-optionals-requires. search needs)
     (λ size-of-requires. search needs)
     add-next
     returns-6)

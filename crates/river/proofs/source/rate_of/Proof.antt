@@ -7,7 +7,7 @@ returns : tie.Need-returns
 returns c = rw (c .enum-told .given .1)
 
 returns-2 : tie.Need-returns-2
-returns-2 c = rw (c .before .enum-told2 .given .1) (c .nitrogenous-rate .ensures)
+returns-2 c = rw (c .before .before .enum-told2 .given .1) (c .nitrogenous-rate .ensures)
 
 pub rate-of-spec : {M : Type 1} → statement M
 rate-of-spec =
