@@ -12,8 +12,9 @@ use Rattle.river.specs.declared.card.Card.{Card}
 use Rattle.river.specs.declared.source.Demand.the-variants.{Bod, Nitrogenous}
 use Rattle.river.specs.declared.card.RateFactors.the-variants.{PerDegree}
 use Rattle.river.specs.Refusal.{accepted, refused, refuse, need, choose, after}
-use Rattle.river.specs.Card.{noOptionals, withTake, withSludge, withNitrification, countOk, inRange, outletOk, damInRange, amountInRange, nitrificationInRange, ratesInRange}
-use Rattle.river.specs.River.{River, riverOf, factorInRange, factorsInRange}
+use Rattle.river.specs.Fields.{within, allWithin}
+use Rattle.river.specs.Card.{noOptionals, withTake, withSludge, withNitrification, countOk, inRange, outletOk, ratesInRange}
+use Rattle.river.specs.River.{River, riverOf}
 use Rattle.river.specs.Optional.{readOptional, readOptionals}
 use Rattle.river.specs.Read.{readFile, readRest, readHeader, readReaches, readReach, cardAt}
 use Rattle.river.specs.Write.{encode}
@@ -120,7 +121,7 @@ pub record Rows : Type 0 where
 
 -- THEOREM: the bench values of the paper for rates in force, flows and heads, a row each
 pub bench : Rows
-unfolding saturation saturationThousandths saturationOf flowCheck checksFrom reachChecks need ratesInRange warmed cooled correctedRate decayInForce aerationInForce factorInRange factorsInRange damFits fed flowOf massOf deepest feedersAmong joinedIf headDemand headOxygen upstreamDemand upstreamOxygen belowDam aerated floor acceptFile readFile readRest readHeader readReaches readReach readOptionals readOptional cardAt countOk inRange outletOk damInRange amountInRange nitrificationInRange choose after encode
+unfolding saturation saturationThousandths saturationOf flowCheck checksFrom reachChecks need ratesInRange warmed cooled correctedRate decayInForce aerationInForce damFits fed flowOf massOf deepest feedersAmong joinedIf headDemand headOxygen upstreamDemand upstreamOxygen belowDam aerated floor acceptFile readFile readRest readHeader readReaches readReach readOptionals readOptional cardAt countOk inRange outletOk within allWithin choose after encode
 bench =
     record {
       saturation-rows = saturation-rows;

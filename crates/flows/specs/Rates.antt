@@ -8,7 +8,8 @@ use Rattle.river.specs.declared.card.Nitrification.the-variants.{Idle, Nitrifyi
 use Rattle.river.specs.declared.card.Optionals.{Optionals}
 use Rattle.river.specs.declared.card.RateFactors.{RateFactors}
 use Rattle.river.specs.declared.card.RateFactors.the-variants.{AsGiven, PerDegree}
-use Rattle.river.specs.Card.{withNitrification, rateMost, RatesInRange}
+use Rattle.river.specs.Card.{withNitrification, RatesInRange}
+use Rattle.river.specs.Records.{rateMost}
 use Rattle.river.specs.River.{River}
 
 -- each degree above 20 multiplies by factor / 1,000, rounded each time

@@ -3,7 +3,9 @@ ghost use mathlib.Core.Path.{_≡_};
 ghost use Prim.Native.Nat.{_≤_};
 ghost use Rattle.river.specs.declared.card.RateFactors.the-variants.{PerDegree};
 ghost use Rattle.river.specs.Card.{cardList};
-ghost use Rattle.river.specs.River.{FactorInRange, LawfulRiver, riverOf};
+ghost use Rattle.river.specs.River.{LawfulRiver, riverOf};
+ghost use Rattle.river.specs.Fields.{Within};
+ghost use Rattle.river.specs.Records.{rateFactor};
 ghost use Rattle.river.specs.Source.{nitrogenousRate};
 ghost use Rattle.flows.specs.Rates as Rates;
 ghost use Rattle.flows.specs.Rates.{correctedRate, withRate, cardInForce, inForce, Correctable, CorrectableCard};
@@ -52,7 +54,7 @@ fn cooled(factor: u64, degrees: u8, rate: u64) -> u64
 
 // A rate at a temperature, by the factor of a degree.
 fn corrected_rate(factor: u16, temperature: u8, rate: u32) -> u32
-    requires { ⌜ FactorInRange factor × Correctable temperature rate ⌝ }
+    requires { ⌜ Within rateFactor factor × Correctable temperature rate ⌝ }
     ensures { λ r. ⌜ r ≡ correctedRate factor temperature rate ⌝ }
 {
     let millionths = rate as u64 * MILLION;
@@ -69,7 +71,7 @@ fn corrected_nitrification(
     temperature: u8,
     nitrification: Nitrification,
 ) -> Nitrification
-    requires { ⌜ FactorInRange factor × Correctable temperature (nitrogenousRate nitrification) ⌝ }
+    requires { ⌜ Within rateFactor factor × Correctable temperature (nitrogenousRate nitrification) ⌝ }
     ensures { λ r. ⌜ r ≡ withRate (correctedRate factor temperature) nitrification ⌝ }
 {
     match nitrification {
@@ -88,7 +90,7 @@ fn corrected_nitrification(
 
 // A card with its rates corrected.
 fn corrected(decay: u16, aeration: u16, card: Card) -> Card
-    requires { ⌜ FactorInRange decay × FactorInRange aeration × CorrectableCard card ⌝ }
+    requires { ⌜ Within rateFactor decay × Within rateFactor aeration × CorrectableCard card ⌝ }
     ensures { λ r. ⌜ r ≡ cardInForce (PerDegree decay aeration) card ⌝ }
 {
     let dam = card.dam;

@@ -17,7 +17,9 @@ use Rattle.river.specs.declared.card.Nitrification.the-variants.{Idle, Nitrifyi
 use Rattle.river.specs.declared.card.Card.{Card}
 use Rattle.river.specs.declared.source.Demand.{Demand}
 use Rattle.river.specs.declared.source.Demand.the-variants.{Bod, Nitrogenous}
-use Rattle.river.specs.Card.{noOptionals, withTake, withNitrification, LawfulDam, amountOr}
+use Rattle.river.specs.Card.{noOptionals, withTake, withNitrification, amountOr}
+use Rattle.river.specs.Described.{InRange}
+use Rattle.river.specs.Records.{DM}
 use Rattle.river.specs.Source.{nitrogenousSource, nitrogenousRate, sourceOf, rateOf, sourceMass}
 use Rattle.flows.specs.Flow.{Feeders, none, more, joinedIf, feedersAmong, cardOf, above, fed, flowOf, massOf, deepest, sludgeOf, reachFlow, reachDepth, DamRule}
 use Rattle.flows.specs.Saturation.{saturation, saturationThousandths, saturationOf, SaturationInRange}
@@ -98,7 +100,7 @@ accepted-first take nitrification still h =
           };
     }
 
-accepted-second : (dam : Dam) (take pressure : Amount) {up : Feeders} → SaturationInRange (second dam take pressure) → LawfulDam dam → DamRule dam up → flowOf up ≤ 3000 → massOf up ≤ 1000000 * flowOf up → amountOr 0 take ≤ 1000 → 0 < flowOf up → AcceptedReach (second dam take pressure) up
+accepted-second : (dam : Dam) (take pressure : Amount) {up : Feeders} → SaturationInRange (second dam take pressure) → InRange DM dam → DamRule dam up → flowOf up ≤ 3000 → massOf up ≤ 1000000 * flowOf up → amountOr 0 take ≤ 1000 → 0 < flowOf up → AcceptedReach (second dam take pressure) up
 accepted-second dam take pressure conditions h k few within drawn-few some =
     record {
       fields = omega arith;

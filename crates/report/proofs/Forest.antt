@@ -9,7 +9,9 @@ use Rattle.decay.specs.held.Step.{RatesPass}
 use Rattle.river.specs.declared.card.Card.{Card}
 use Rattle.river.specs.declared.card.Amount.{Amount}
 use Rattle.river.specs.declared.card.Amount.the-variants.{Without, Given}
-use Rattle.river.specs.Card.{FieldsInRange, LawfulDam, LawfulAmount, sludgeLayout, amountOr, Lawful, blank}
+use Rattle.river.specs.Described.{InRange}
+use Rattle.river.specs.Records.{DM, SD}
+use Rattle.river.specs.Card.{FieldsInRange, amountOr, Lawful, blank}
 use Rattle.river.specs.declared.source.Demand.{Demand}
 use Rattle.river.specs.declared.source.Demand.the-variants.{Bod, Nitrogenous}
 use Rattle.river.specs.Source.{rateOf}
@@ -26,7 +28,7 @@ use Rattle.report.specs.held.Bed.{BedPasses}
 pub record AcceptedReach (card : Card) (up : Feeders) : Type 0 where
   pub fields : FieldsInRange card
   pub saturation : SaturationInRange card
-  pub dam : LawfulDam (card .dam)
+  pub dam : InRange DM (card .dam)
   pub sludge : sludgeOf card ≤ 65_535
   pub flows : ReachPasses card up
 
@@ -63,9 +65,9 @@ joined-accepted true card up rest own water others = one-more own water others
 joined-accepted false card up rest own water others = others
 
 -- a lawful bed's demand has two bytes
-demand-small : (a : Amount) → LawfulAmount sludgeLayout a → amountOr 0 a ≤ 65_535
+demand-small : (a : Amount) → InRange SD a → amountOr 0 a ≤ 65_535
 demand-small Without h = zero-le
-demand-small (Given n) h = h .1
+demand-small (Given n) h = h .0 .most
 
 -- a river: lawful cards whose flows pass
 module _ (cards : List Card) (lawful : Lawful cards) (flows : Flows cards) where

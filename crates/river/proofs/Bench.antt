@@ -12,8 +12,9 @@ use Rattle.river.specs.declared.card.Card.{Card}
 use Rattle.river.specs.declared.card.Optionals.{Optionals}
 use Rattle.river.specs.declared.card.RateFactors.the-variants.{AsGiven, PerDegree}
 use Rattle.river.specs.Refusal.{accepted, refused, refuse, need, choose, after}
-use Rattle.river.specs.Card.{noOptionals, withTake, withPressure, withSludge, withNitrification, countOk, inRange, outletOk, damInRange, amountInRange, nitrificationInRange}
-use Rattle.river.specs.River.{River, riverOf, longestFile, factorInRange, factorsInRange}
+use Rattle.river.specs.Card.{noOptionals, withTake, withPressure, withSludge, withNitrification, countOk, inRange, outletOk}
+use Rattle.river.specs.River.{River, riverOf, longestFile}
+use Rattle.river.specs.Fields.{within, allWithin}
 use Rattle.river.specs.Optional.{readOptional, readOptionals}
 use Rattle.river.specs.Read.{readFile, readRest, readHeader, readReaches, readReach, cardAt}
 use Rattle.river.specs.Write.{encode}
@@ -107,7 +108,7 @@ pub record Rows : Type 0 where
 
 -- THEOREM: the bench values of the paper for files, a row each
 pub bench : Rows
-unfolding readFile readRest readHeader readReaches readReach readOptionals readOptional cardAt countOk inRange outletOk damInRange amountInRange nitrificationInRange factorInRange factorsInRange need choose after encode
+unfolding readFile readRest readHeader readReaches readReach readOptionals readOptional cardAt countOk inRange outletOk within allWithin need choose after encode
 bench =
     record {
       empty-file = refl;

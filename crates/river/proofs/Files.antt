@@ -12,10 +12,12 @@ use lib.Seq.{drop-append-seam}
 use borrow.Author.Tests.{le-leb, leb-true, eqb-true}
 use Rattle.river.specs.Bytes.{AreBytes, twoAt, marked}
 use Rattle.river.specs.Card.{LawfulCard, EachFrom, RV, optional, sizeOf, longestCard}
+use Rattle.river.specs.Described.{InRange}
 use Rattle.river.specs.File.{IsFile}
 use Rattle.river.specs.Read.{readHeader, readReaches, readRest, readFile}
 use Rattle.river.specs.Refusal.{accepted}
-use Rattle.river.specs.River.{River, riverOf, LawfulFactors, LawfulRiver, TH, encodeFactors, factorsRecord, longestFile}
+use Rattle.river.specs.River.{River, riverOf, LawfulRiver, longestFile}
+use Rattle.river.specs.Records.{TH, factorsRecord}
 use Rattle.river.specs.Write.{encode, encodeCard, encodeCards, encodeHeader}
 use Rattle.river.specs.declared.card.Amount.the-variants.{Without, Given}
 use Rattle.river.specs.declared.card.Card.{Card}
@@ -24,7 +26,8 @@ use Rattle.river.specs.declared.card.Nitrification.the-variants.{Idle, N
 use Rattle.river.specs.declared.card.RateFactors.the-variants.{AsGiven, PerDegree}
 use Rattle.river.proofs.Answers.{need-true, after-accepted, passed, went}
 use Rattle.river.proofs.bytes.Numbers.{are-bytes-drop, true-marked, twoBytes-twoAt, leads-spelled}
-use Rattle.river.proofs.range.Ranges.{countOk-true, true-countOk, factorsInRange-true, true-factorsInRange}
+use Rattle.river.proofs.range.Ranges.{countOk-true, true-countOk}
+use Rattle.river.proofs.card.Described.{in-range-true, true-in-range}
 use Rattle.river.proofs.card.Optional.{unmarked, readOptional-encode, readOptional-is, optional-small}
 use Rattle.river.proofs.card.Rows.{sound-factors, length-encodeCard, size-small}
 use Rattle.river.proofs.read.Records.{readReach-encode, drop-encodeCard, readReach-is}
@@ -32,7 +35,7 @@ use Rattle.river.proofs.read.Records.{readReach-encode, drop-encodeCard
 -- Reading what was encoded.
 
 -- no cards' records begin with the record of rate factors or with one that may follow an `RE` record
-no-factors-first : (cs : List Card) → marked (encodeCards cs) TH ≡ false
+no-factors-first : (cs : List Card) → marked (encodeCards cs) (TH .mark) ≡ false
 no-factors-first [] = refl
 no-factors-first (c ∷ cs) = refl
 
@@ -55,18 +58,18 @@ readHeader-encode n rest p q =
     need-true _ _ _ _ (rw div-add-mod' (countOk-true n p q)) ∙
     ap accepted (div-add-mod' n 256)
 
-readRest-encode : (r : River) → LawfulRiver r → readRest (length (r .cards)) (encodeFactors (r .factors) ++ encodeCards (r .cards)) ≡ accepted r
+readRest-encode : (r : River) → LawfulRiver r → readRest (length (r .cards)) (factorsRecord .encode (r .factors) ++ encodeCards (r .cards)) ≡ accepted r
 unfolding readRest
 readRest-encode r h =
     let cs = r .cards in
-    after-accepted _ _ (readOptional-encode factorsRecord sound-factors 0 (r .factors) (encodeCards cs) (factorsInRange-true (r .factors) (h .factors)) (no-factors-first cs)) ∙
+    after-accepted _ _ (readOptional-encode factorsRecord sound-factors 0 (r .factors) (encodeCards cs) (in-range-true TH (r .factors) (h .factors)) (no-factors-first cs)) ∙
     after-accepted _ _ (rw drop-append-seam (readReaches-encode (length cs) 1 cs (h .cards .each)))
 
 -- THEOREM: the file of a lawful river is read as this river
 pub reads-lawful : (r : River) → LawfulRiver r → readFile (encode r) ≡ accepted r
 unfolding readFile encode
 reads-lawful r h =
-    after-accepted _ _ (readHeader-encode (length (r .cards)) (encodeFactors (r .factors) ++ encodeCards (r .cards)) (h .cards .some) (h .cards .few)) ∙
+    after-accepted _ _ (readHeader-encode (length (r .cards)) (factorsRecord .encode (r .factors) ++ encodeCards (r .cards)) (h .cards .some) (h .cards .few)) ∙
     readRest-encode r h
 
 -- What was read, encoded.
@@ -123,10 +126,10 @@ readHeader-is s n h e =
     })
 
 record IsRest (n : ℕ) (s : List ℕ) (r : River) : Type 0 where
-  factors : LawfulFactors (r .factors)
+  factors : InRange TH (r .factors)
   cards : EachFrom LawfulCard n 1 (r .cards)
   count : length (r .cards) ≡ n
-  bytes : s ≡ encodeFactors (r .factors) ++ encodeCards (r .cards)
+  bytes : s ≡ factorsRecord .encode (r .factors) ++ encodeCards (r .cards)
 
 readRest-is : (n : ℕ) (s : List ℕ) (r : River) → AreBytes s → readRest n s ≡ accepted r → IsRest n s r
 unfolding readRest
@@ -134,16 +137,16 @@ readRest-is n s r h e =
     let p = went _ _ e in
     let q = went _ _ (p .then) in
     let f = p .value in
-    let k = length (encodeFactors f) in
+    let k = length (factorsRecord .encode f) in
     let a = readOptional-is factorsRecord sound-factors 0 s f h (p .first) in
     let b = readReaches-is n 1 n (drop k s) (q .value) (are-bytes-drop k h) (q .first) in
     let same : riverOf f (q .value) ≡ r = cc (q .then) in
     subst (IsRest n s) same
     (record {
-      factors = true-factorsInRange f (a .in-range);
+      factors = true-in-range TH f (a .in-range);
       cards = b .lawful;
       count = b .count;
-      bytes = a .bytes ∙ ap (λ (x : List ℕ). encodeFactors f ++ x) (b .bytes);
+      bytes = a .bytes ∙ ap (λ (x : List ℕ). factorsRecord .encode f ++ x) (b .bytes);
     })
 
 -- THEOREM: whatever is read as a river is the file of this river, and it is lawful
@@ -169,7 +172,7 @@ reads-only-lawful s r h e =
       bytes =
           a .bytes ∙
           ap (λ (x : List ℕ). encodeHeader n ++ x) (b .bytes) ∙
-          ap (λ (x : ℕ). encodeHeader x ++ encodeFactors (r .factors) ++ encodeCards (r .cards)) same;
+          ap (λ (x : ℕ). encodeHeader x ++ factorsRecord .encode (r .factors) ++ encodeCards (r .cards)) same;
     }
 
 -- THEOREM: reading yields a river exactly for the files of lawful rivers
@@ -226,4 +229,4 @@ cards-length (c ∷ cs) =
 pub file-length : (r : River) → LawfulRiver r → length (encode r) ≤ longestFile
 unfolding encode
 file-length r h =
-    omega (arith, length-append (encodeFactors (r .factors)) (encodeCards (r .cards)), optional-small factorsRecord sound-factors (r .factors), cards-length (r .cards), h .cards .few)
+    omega (arith, length-append (factorsRecord .encode (r .factors)) (encodeCards (r .cards)), optional-small factorsRecord sound-factors (r .factors), cards-length (r .cards), h .cards .few)

@@ -15,9 +15,11 @@ use Rattle.river.specs.declared.card.Optionals.{Optionals}
 use Rattle.river.specs.declared.card.RateFactors.{RateFactors}
 use Rattle.river.specs.declared.card.RateFactors.the-variants.{AsGiven, PerDegree}
 use Rattle.river.specs.Refusal.{Answer, accepted, refused, refuse, need, choose, after}
-use Rattle.river.specs.Card.{noOptionals, withTake, withPressure, withSludge, withNitrification, countOk, inRange, outletOk, encodeDam, damInRange, takeLayout, pressureLayout, sludgeLayout, encodeAmount, amountInRange, encodeNitrification, nitrificationInRange}
+use Rattle.river.specs.Card.{noOptionals, withTake, withPressure, withSludge, withNitrification, countOk, inRange, outletOk}
+use Rattle.river.specs.Fields.{within, allWithin}
+use Rattle.river.specs.Records.{damRecord, nitrificationRecord, factorsRecord, takeRecord, pressureRecord, sludgeRecord}
 use Rattle.river.specs.Optional.{readOptional, readOptionals, optionalsInRange}
-use Rattle.river.specs.River.{riverOf, factorInRange, factorsInRange, encodeFactors}
+use Rattle.river.specs.River.{riverOf}
 use Rattle.river.specs.Read.{readHeader, readReach, readReaches, readRest, readFile, cardAt}
 use Rattle.river.specs.Write.{encode, encodeCard, encodeHeader, encodeOpening, checkCard, checkFrom, checkRiver, writeAnswer}
 use Rattle.river.specs.Rewrite.{rewriteAnswer}
@@ -97,8 +99,8 @@ pub record Reading : Type 0 where
   pub factors-and-reach : readFile (file-by first-out (reach 9 36 0 1 0 Absent Without)) ≡ refused (refuse 4 0)
   pub second-factor-and-reach : readFile (take 12 (file-by second-out (reach 9 36 0 1 0 Absent Without))) ≡ refused (refuse 4 0)
   -- a second record of rate factors is no record that is due, nor is one behind a reach
-  pub factors-twice : readFile (encodeOpening 1 factors ++ encodeFactors factors ++ encodeCard (reach 0 20 0 1 0 Absent Without)) ≡ refused (refuse 2 1)
-  pub reach-then-factors : readFile (file (reach 0 20 0 1 0 Absent Without) ++ encodeFactors factors) ≡ refused (refuse 6 0)
+  pub factors-twice : readFile (encodeOpening 1 factors ++ factorsRecord .encode factors ++ encodeCard (reach 0 20 0 1 0 Absent Without)) ≡ refused (refuse 2 1)
+  pub reach-then-factors : readFile (file (reach 0 20 0 1 0 Absent Without) ++ factorsRecord .encode factors) ≡ refused (refuse 6 0)
   -- a reach: 1, 2, 4, 5
   pub cut-reach : readFile (82 ∷ 86 ∷ 0 ∷ 1 ∷ 88 ∷ 69 ∷ []) ≡ refused (refuse 1 1)
   pub wrong-reach : readReach 1 1 (88 ∷ 69 ∷ drop 2 (encodeCard (reach 0 36 0 1 0 Absent Without))) ≡ refused (refuse 2 1)
@@ -111,32 +113,32 @@ pub record Reading : Type 0 where
   pub dam-and-cut-take : readFile (take 43 (file (reach 0 20 0 1 0 weir-out take-out))) ≡ refused (refuse 4 1)
   pub cut-take : readFile (take 35 (file (reach 0 20 0 1 0 Absent take-out))) ≡ refused (refuse 1 1)
   -- a dam behind a take is no record that is due
-  pub take-then-dam : readFile (file (reach 0 20 0 1 0 Absent (Given 0)) ++ encodeDam weir) ≡ refused (refuse 6 0)
-  pub next-after-dam : readFile (encodeHeader 2 ++ encodeCard (reach 2 20 0 1 0 Absent (Given 0)) ++ encodeDam weir ++ encodeCard (reach 0 20 0 1 0 Absent Without)) ≡ refused (refuse 2 2)
+  pub take-then-dam : readFile (file (reach 0 20 0 1 0 Absent (Given 0)) ++ damRecord .encode weir) ≡ refused (refuse 6 0)
+  pub next-after-dam : readFile (encodeHeader 2 ++ encodeCard (reach 2 20 0 1 0 Absent (Given 0)) ++ damRecord .encode weir ++ encodeCard (reach 0 20 0 1 0 Absent Without)) ≡ refused (refuse 2 2)
   -- nor is a second take
-  pub take-twice : readFile (file (reach 0 20 0 1 0 Absent (Given 0)) ++ encodeAmount takeLayout (Given 0)) ≡ refused (refuse 6 0)
+  pub take-twice : readFile (file (reach 0 20 0 1 0 Absent (Given 0)) ++ takeRecord .encode (Given 0)) ≡ refused (refuse 6 0)
   -- then its pressure: 1, 4
   pub outlet-and-pressure : readFile (file (reach-with (withPressure pressure-out noOptionals) 9 20 0 1 0 Absent)) ≡ refused (refuse 5 1)
   pub take-and-cut-pressure : readFile (take 39 (file (reach-with (withTake take-out (withPressure pressure-out noOptionals)) 0 20 0 1 0 Absent))) ≡ refused (refuse 4 1)
   pub cut-pressure : readFile (take 33 (file (reach-with (withPressure pressure-out noOptionals) 0 20 0 1 0 Absent))) ≡ refused (refuse 1 1)
   -- a take behind a pressure is no record that is due, nor is a second pressure
-  pub pressure-then-take : readFile (file (reach-with (withPressure (Given 760) noOptionals) 0 20 0 1 0 Absent) ++ encodeAmount takeLayout (Given 0)) ≡ refused (refuse 6 0)
-  pub pressure-twice : readFile (file (reach-with (withPressure (Given 760) noOptionals) 0 20 0 1 0 Absent) ++ encodeAmount pressureLayout (Given 760)) ≡ refused (refuse 6 0)
+  pub pressure-then-take : readFile (file (reach-with (withPressure (Given 760) noOptionals) 0 20 0 1 0 Absent) ++ takeRecord .encode (Given 0)) ≡ refused (refuse 6 0)
+  pub pressure-twice : readFile (file (reach-with (withPressure (Given 760) noOptionals) 0 20 0 1 0 Absent) ++ pressureRecord .encode (Given 760)) ≡ refused (refuse 6 0)
   -- then its sludge bed: 1
   pub outlet-and-cut-sludge : readFile (take 33 (file (reach-with (withSludge (Given 0) noOptionals) 9 20 0 1 0 Absent))) ≡ refused (refuse 5 1)
   pub pressure-and-cut-sludge : readFile (take 37 (file (reach-with (withPressure pressure-out (withSludge (Given 0) noOptionals)) 0 20 0 1 0 Absent))) ≡ refused (refuse 4 1)
   pub cut-sludge : readFile (take 33 (file (reach-with (withSludge (Given 0) noOptionals) 0 20 0 1 0 Absent))) ≡ refused (refuse 1 1)
   -- a pressure behind a sludge bed is no record that is due, nor is a second sludge bed
-  pub sludge-then-pressure : readFile (file (reach-with (withSludge (Given 0) noOptionals) 0 20 0 1 0 Absent) ++ encodeAmount pressureLayout (Given 760)) ≡ refused (refuse 6 0)
-  pub sludge-twice : readFile (file (reach-with (withSludge (Given 0) noOptionals) 0 20 0 1 0 Absent) ++ encodeAmount sludgeLayout (Given 0)) ≡ refused (refuse 6 0)
+  pub sludge-then-pressure : readFile (file (reach-with (withSludge (Given 0) noOptionals) 0 20 0 1 0 Absent) ++ pressureRecord .encode (Given 760)) ≡ refused (refuse 6 0)
+  pub sludge-twice : readFile (file (reach-with (withSludge (Given 0) noOptionals) 0 20 0 1 0 Absent) ++ sludgeRecord .encode (Given 0)) ≡ refused (refuse 6 0)
   -- then its nitrification: 1, 4
   pub outlet-and-nitrification : readFile (file (reach-with (withNitrification nitrification-out noOptionals) 9 20 0 1 0 Absent)) ≡ refused (refuse 5 1)
   pub pressure-and-cut-nitrification : readFile (take 49 (file (reach-with (withPressure pressure-out (withNitrification nitrifying noOptionals)) 0 20 0 1 0 Absent))) ≡ refused (refuse 4 1)
   pub cut-sludge-and-nitrification : readFile (take 33 (file (reach-with (withSludge (Given 0) (withNitrification nitrification-out noOptionals)) 0 20 0 1 0 Absent))) ≡ refused (refuse 1 1)
   pub cut-nitrification : readFile (take 45 (file (reach-with (withNitrification nitrification-out noOptionals) 0 20 0 1 0 Absent))) ≡ refused (refuse 1 1)
   -- a sludge bed behind a nitrification is no record that is due, nor is a second nitrification
-  pub nitrification-then-sludge : readFile (file (reach-with (withNitrification nitrifying noOptionals) 0 20 0 1 0 Absent) ++ encodeAmount sludgeLayout (Given 0)) ≡ refused (refuse 6 0)
-  pub nitrification-twice : readFile (file (reach-with (withNitrification nitrifying noOptionals) 0 20 0 1 0 Absent) ++ encodeNitrification nitrifying) ≡ refused (refuse 6 0)
+  pub nitrification-then-sludge : readFile (file (reach-with (withNitrification nitrifying noOptionals) 0 20 0 1 0 Absent) ++ sludgeRecord .encode (Given 0)) ≡ refused (refuse 6 0)
+  pub nitrification-twice : readFile (file (reach-with (withNitrification nitrifying noOptionals) 0 20 0 1 0 Absent) ++ nitrificationRecord .encode nitrifying) ≡ refused (refuse 6 0)
   -- 6 comes last
   pub dam-and-more : readFile (file (reach 0 20 0 1 0 weir-out Without) ++ (0 ∷ [])) ≡ refused (refuse 4 1)
   pub take-and-more : readFile (file (reach 0 20 0 1 0 weir take-out) ++ (0 ∷ [])) ≡ refused (refuse 4 1)
@@ -165,7 +167,7 @@ pub record Writing : Type 0 where
 
 -- THEOREM: whoever breaks two rules of reading gets the earlier one's number
 pub reading-order : Reading
-unfolding readFile readHeader readRest readReaches readReach readOptionals readOptional cardAt countOk factorInRange factorsInRange inRange outletOk damInRange amountInRange nitrificationInRange need after choose
+unfolding readFile readHeader readRest readReaches readReach readOptionals readOptional cardAt countOk inRange outletOk within allWithin need after choose
 reading-order =
     record {
       cut-header = refl;
@@ -211,7 +213,7 @@ reading-order =
 
 -- THEOREM: the same for writing and rewriting
 pub writing-order : Writing
-unfolding rewriteAnswer readFile readHeader writeAnswer checkRiver checkFrom checkCard encode countOk factorInRange factorsInRange inRange outletOk damInRange amountInRange nitrificationInRange optionalsInRange need after
+unfolding rewriteAnswer readFile readHeader writeAnswer checkRiver checkFrom checkCard encode countOk inRange outletOk within allWithin optionalsInRange need after
 writing-order =
     record {
       count-and-range = refl;

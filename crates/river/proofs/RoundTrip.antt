@@ -13,6 +13,7 @@ use borrow.Author.Tests.{le-leb, leb-true}
 use Rattle.river.specs.Bytes.{AreBytes}
 use Rattle.river.specs.Card.{LawfulCard, EachFrom, cardList}
 use Rattle.river.specs.Read.{readFile}
+use Rattle.river.specs.Records.{TH}
 use Rattle.river.specs.Refusal.{Answer, accepted, refused, refuse, need, after, outcomeOf}
 use Rattle.river.specs.River.{River, LawfulRiver}
 use Rattle.river.specs.Write.{encode, checkCard, checkFrom, checkRiver, writeAnswer, bufferWritten, writtenOf, Writes, HasRoom, LoadsFit}
@@ -24,7 +25,8 @@ use Rattle.river.specs.declared.file.Reading.{Reading}
 use Rattle.river.specs.declared.write.Written.{Written}
 use Rattle.river.proofs.Answers.{never, need-true, after-accepted, after-refused, passed, went}
 use Rattle.river.proofs.Files.{reads-lawful, reads-only-lawful, reads-exactly}
-use Rattle.river.proofs.range.Ranges.{inRange-true, lawful-optionals, lawful-card, countOk-true, true-countOk, factorsInRange-true, true-factorsInRange}
+use Rattle.river.proofs.range.Ranges.{inRange-true, lawful-optionals, lawful-card, countOk-true, true-countOk}
+use Rattle.river.proofs.card.Described.{in-range-true, true-in-range}
 use Rattle.river.specs.File.{riverRead, answerOf, Yields, Reads}
 
 checkCard-lawful : (n i : ℕ) (c : Card) → LawfulCard n i c → checkCard n i c ≡ accepted tt
@@ -61,7 +63,7 @@ unfolding checkRiver
 checkRiver-lawful x h =
     let cs = x .cards in
     need-true _ _ _ _ (countOk-true (length cs) (h .cards .some) (h .cards .few)) ∙
-    need-true _ _ _ _ (factorsInRange-true (x .factors) (h .factors)) ∙
+    need-true _ _ _ _ (in-range-true TH (x .factors) (h .factors)) ∙
     checkFrom-lawful (length cs) 1 cs (h .cards .each)
 
 checkRiver-is : (x : River) {u : Unit} → LoadsFit (x .cards) → checkRiver (length (x .cards)) x ≡ accepted u → LawfulRiver x
@@ -72,7 +74,7 @@ checkRiver-is x l e =
     let q = passed _ _ _ _ (p .rest) in
     let ok = true-countOk (length cs) (p .test) in
     record {
-      factors = true-factorsInRange (x .factors) (q .test);
+      factors = true-in-range TH (x .factors) (q .test);
       cards = record { some = ok .0; few = ok .1; each = checkFrom-is (length cs) 1 cs l (q .rest) };
     }
 

@@ -1,7 +1,7 @@
 -- Cards: the ranges of their fields, outlets, the lawful lists of cards, and the records of a card.
 use mathlib.Core.Path.{_≡_}
-use mathlib.Core.Bool.{Bool, true, false, _&&_, cond}
-use mathlib.Core.List.{List, [], _∷_, _++_}
+use mathlib.Core.Bool.{Bool, true, _&&_, cond}
+use mathlib.Core.List.{List, [], _∷_}
 use Prim.Native.Char.{code}
 use Prim.Native.Nat.{ℕ, suc, _+_, _≤_, _<_}
 use lib.ListN.{length, take}
@@ -10,14 +10,15 @@ use Rattle.river.specs.declared.card.Card.{Card}
 use Rattle.river.specs.declared.card.Cards.{Cards}
 use Rattle.river.specs.declared.card.Optionals.{Optionals}
 use Rattle.river.specs.declared.card.Dam.{Dam}
-use Rattle.river.specs.declared.card.Dam.the-variants.{Absent, Aerating}
+use Rattle.river.specs.declared.card.Dam.the-variants.{Absent}
 use Rattle.river.specs.declared.card.Amount.{Amount}
 use Rattle.river.specs.declared.card.Amount.the-variants.{Without, Given}
-use Rattle.river.specs.declared.card.Layout.{Layout}
 use Rattle.river.specs.declared.card.Nitrification.{Nitrification}
 use Rattle.river.specs.declared.card.Nitrification.the-variants.{Idle, Nitrifying}
 use Rattle.river.specs.declared.source.Demand.the-variants.{Nitrogenous}
-use Rattle.river.specs.Bytes.{Mark, mark, markBytes, twoBytes, narrowBytes, fourBytes, twoAt, fourAt}
+use Rattle.river.specs.Bytes.{Mark, mark}
+use Rattle.river.specs.Described.{InRange}
+use Rattle.river.specs.Records.{DM, damRecord, WD, takeRecord, BP, pressureRecord, SD, sludgeRecord, rateMost, NT, nitrificationRecord}
 use Rattle.river.specs.Optional.{Kind, Values, encodeOptionals, sizes}
 use Rattle.river.specs.Source.{rateOf}
 
@@ -89,46 +90,13 @@ pub record FieldsInRange (c : Card) : Type 0 where
   pub inflow-bod : c .«inflow_bod» ≤ 1_000_000
   pub inflow-oxygen : c .«inflow_oxygen» ≤ 20_000
 
--- the ranges of a `DM` record's fields
-pub record DamInRange (s g : ℕ) : Type 0 where
-  pub share : s ≤ 1000
-  pub generating : g ≤ 100_000_000
+-- a nitrification with its rate left out, and one whose numbers are in range, its rate aside
+abbrev pub withoutRate : Nitrification → Nitrification
+withoutRate Idle = Idle
+withoutRate (Nitrifying rate concentration load) = Nitrifying 0 concentration load
 
--- a dam is none, or has its numbers in range
-abbrev pub LawfulDam : Dam → Type 0
-LawfulDam Absent = Unit
-LawfulDam (Aerating s g) = DamInRange s g
-
--- the `WD` record: mark; take (4; to 100,000,000)
-abbrev pub takeLayout : Layout
-takeLayout = record { first = code "W"; second = code "D"; wide = true; least = 0; most = 100_000_000 }
-
--- the `BP` record: mark; pressure (2; 500 to 800)
-abbrev pub pressureLayout : Layout
-pressureLayout = record { first = code "B"; second = code "P"; wide = false; least = 500; most = 800 }
-
--- the `SD` record: mark; demand (2; any)
-abbrev pub sludgeLayout : Layout
-sludgeLayout = record { first = code "S"; second = code "D"; wide = false; least = 0; most = 65_535 }
-
--- an amount is none, or a number in the range of its layout
-abbrev pub LawfulAmount : Layout → Amount → Type 0
-LawfulAmount l Without = Unit
-LawfulAmount l (Given n) = (l .least ≤ n) × (n ≤ l .most)
-
--- the ranges of an `NT` record's fields, its rate aside; any load that four bytes hold will do
-pub record NitrificationInRange (c l : ℕ) : Type 0 where
-  pub concentration : c ≤ 1_000_000
-  pub load : l < 4_294_967_296
-
--- a nitrification is none, or has its numbers in range, its rate aside
 abbrev pub RegularNitrification : Nitrification → Type 0
-RegularNitrification Idle = Unit
-RegularNitrification (Nitrifying r c l) = NitrificationInRange c l
-
--- the most that a rate may be, on a card as in force
-abbrev pub rateMost : ℕ
-rateMost = 20_000
+RegularNitrification n = InRange NT (withoutRate n)
 
 -- the ranges of a card's rates; one without nitrification has a nitrogenous rate of 0
 pub record RatesInRange (c : Card) : Type 0 where
@@ -142,9 +110,9 @@ outletOk n i o = cond (eqb i n) (eqb o 0) (ltb i o && leb o n)
 
 -- what is asked of a card's optional fields, the nitrogenous rate aside
 pub record RegularOptionals (o : Optionals) : Type 0 where
-  pub take : LawfulAmount takeLayout (o .take)
-  pub pressure : LawfulAmount pressureLayout (o .pressure)
-  pub sludge : LawfulAmount sludgeLayout (o .sludge)
+  pub take : InRange WD (o .take)
+  pub pressure : InRange BP (o .pressure)
+  pub sludge : InRange SD (o .sludge)
   pub nitrification : RegularNitrification (o .nitrification)
 
 -- what is asked of the card of reach i of n, its rates aside, so of a card with the rates in force too; any load that four bytes hold will do
@@ -152,7 +120,7 @@ pub record RegularCard (n i : ℕ) (c : Card) : Type 0 where
   pub in-range : FieldsInRange c
   pub load : c .load < 4_294_967_296
   pub outlet : outletOk n i (c .outlet) ≡ true
-  pub dam : LawfulDam (c .dam)
+  pub dam : InRange DM (c .dam)
   pub optionals : RegularOptionals (c .optionals)
 
 -- a lawful card of reach i of n: a regular one with its rates in range
@@ -187,14 +155,6 @@ inRange c =
     (leb (c .volume) 1_000_000_000 &&
     (leb (c .inflow) 100_000_000 && (leb (c .«inflow_bod») 1_000_000 && leb (c .«inflow_oxygen») 20_000)))))
 
-unfoldable pub damInRange : Dam → Bool
-damInRange Absent = true
-damInRange (Aerating s g) = leb s 1000 && leb g 100_000_000
-
-unfoldable pub nitrificationInRange : Nitrification → Bool
-nitrificationInRange Idle = true
-nitrificationInRange (Nitrifying r c l) = leb r rateMost && (leb c 1_000_000 && ltb l 4_294_967_296)
-
 unfoldable pub ratesInRange : Card → Bool
 ratesInRange c = leb (c .k1) rateMost && (leb (c .k2) rateMost && leb (rateOf Nitrogenous c) rateMost)
 
@@ -214,102 +174,6 @@ RE = mark (code "R") (code "E")
 
 abbrev pub reachBytes : ℕ
 reachBytes = 26
-
--- the `DM` record: mark; aeration share (2); generating flow (4)
-abbrev pub DM : Mark
-DM = mark (code "D") (code "M")
-
-abbrev pub damAt : List ℕ → Dam
-damAt s = Aerating (twoAt s 2) (fourAt s 4)
-
-abbrev pub encodeDam : Dam → List ℕ
-encodeDam Absent = []
-encodeDam (Aerating s g) = markBytes DM ++ twoBytes s ++ fourBytes g
-
-abbrev pub damRecord : Kind
-damRecord =
-    record {
-      Value = Dam;
-      none = Absent;
-      mark = DM;
-      size = 8;
-      decode = damAt;
-      test = λ s. damInRange (damAt s);
-      encode = encodeDam;
-      inRange = damInRange;
-    }
-
--- a record of one number, by its layout: mark; the number (4 or 2); this is its length
-abbrev pub layoutSize : Layout → ℕ
-layoutSize l = cond (l .wide) 6 4
-
--- the number in its bytes
-abbrev pub numberAt : (wide : Bool) → List ℕ → ℕ
-numberAt true s = fourAt s 2
-numberAt false s = twoAt s 2
-
--- a number as its bytes
-abbrev pub numberBytes : (wide : Bool) → ℕ → List ℕ
-numberBytes true n = fourBytes n
-numberBytes false n = narrowBytes n
-
--- the record of an amount, no byte for none
-abbrev pub encodeAmount : Layout → Amount → List ℕ
-encodeAmount l Without = []
-encodeAmount l (Given n) = markBytes (mark (l .first) (l .second)) ++ numberBytes (l .wide) n
-
--- the test of its range
-unfoldable pub amountInRange : Layout → Amount → Bool
-amountInRange l Without = true
-amountInRange l (Given n) = leb (l .least) n && leb n (l .most)
-
--- the kind of record that a layout describes
-abbrev pub amountRecord : Layout → Kind
-amountRecord l =
-    record {
-      Value = Amount;
-      none = Without;
-      mark = mark (l .first) (l .second);
-      size = layoutSize l;
-      decode = λ s. Given (numberAt (l .wide) s);
-      test = λ s. amountInRange l (Given (numberAt (l .wide) s));
-      encode = encodeAmount l;
-      inRange = amountInRange l;
-    }
-
--- the `WD`, `BP` and `SD` records among them
-abbrev pub takeRecord : Kind
-takeRecord = amountRecord takeLayout
-
-abbrev pub pressureRecord : Kind
-pressureRecord = amountRecord pressureLayout
-
-abbrev pub sludgeRecord : Kind
-sludgeRecord = amountRecord sludgeLayout
-
--- the `NT` record: mark; rate (2); concentration (4); load (4); four bytes of zeros, so that a nitrification has one record
-abbrev pub NT : Mark
-NT = mark (code "N") (code "T")
-
-abbrev pub nitrificationAt : List ℕ → Nitrification
-nitrificationAt s = Nitrifying (twoAt s 2) (fourAt s 4) (fourAt s 8)
-
-abbrev pub encodeNitrification : Nitrification → List ℕ
-encodeNitrification Idle = []
-encodeNitrification (Nitrifying r c l) = markBytes NT ++ narrowBytes r ++ fourBytes c ++ fourBytes l ++ fourBytes 0
-
-abbrev pub nitrificationRecord : Kind
-nitrificationRecord =
-    record {
-      Value = Nitrification;
-      none = Idle;
-      mark = NT;
-      size = 16;
-      decode = nitrificationAt;
-      test = λ s. nitrificationInRange (nitrificationAt s) && eqb (fourAt s 12) 0;
-      encode = encodeNitrification;
-      inRange = nitrificationInRange;
-    }
 
 -- the records that may follow an `RE` record, in file order
 abbrev pub optional : List Kind

@@ -1,6 +1,9 @@
 pub mod Bytes
 pub mod Refusal
 pub mod Optional
+pub mod Fields
+pub mod Described
+pub mod Records
 pub mod Card
 pub mod River
 pub mod Read

@@ -19,7 +19,8 @@ use Rattle.river.specs.Bytes.{byteAt, twoAt, fourAt, marked}
 use Rattle.river.specs.Card.{RV, RE, headerBytes, reachBytes, optional, optionalsOf, countOk, inRange, outletOk, sizeOf}
 use Rattle.river.specs.Optional.{Values, absent, readOptional, readOptionals}
 use Rattle.river.specs.Refusal.{Answer, accepted, refused, refuse, need, after}
-use Rattle.river.specs.River.{River, riverOf, encodeFactors, factorsRecord}
+use Rattle.river.specs.River.{River, riverOf}
+use Rattle.river.specs.Records.{factorsRecord}
 
 -- the header of a file: 1, 2, 3, with reach 0, or the reach count
 unfoldable pub readHeader : List ℕ → Answer ℕ
@@ -64,7 +65,7 @@ readReaches n i (suc m) s =
 unfoldable pub readRest : ℕ → List ℕ → Answer River
 readRest n s =
     after (readOptional factorsRecord 0 s)
-    (λ f. after (readReaches n 1 n (drop (length (encodeFactors f)) s)) (λ cs. accepted (riverOf f cs)))
+    (λ f. after (readReaches n 1 n (drop (length (factorsRecord .encode f)) s)) (λ cs. accepted (riverOf f cs)))
 
 -- a river file: the header, and what follows it
 unfoldable pub readFile : List ℕ → Answer River

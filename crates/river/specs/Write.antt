@@ -12,7 +12,8 @@ use Rattle.river.specs.Bytes.{twoBytes, narrowBytes, fourBytes, markByte
 use Rattle.river.specs.Card.{RV, RE, optional, optionalOf, countOk, inRange, outletOk}
 use Rattle.river.specs.Optional.{encodeOptionals, optionalsInRange}
 use Rattle.river.specs.Refusal.{Answer, accepted, refused, need, after}
-use Rattle.river.specs.River.{River, LawfulRiver, factorsInRange, encodeFactors}
+use Rattle.river.specs.River.{River, LawfulRiver}
+use Rattle.river.specs.Records.{factorsRecord}
 
 -- the `RE` record of a card
 abbrev pub encodeReach : Card → List ℕ
@@ -40,7 +41,7 @@ encodeHeader n = markBytes RV ++ twoBytes n
 
 -- the opening of a file: the header, and the record of the rate factors
 abbrev pub encodeOpening : ℕ → RateFactors → List ℕ
-encodeOpening n factors = encodeHeader n ++ encodeFactors factors
+encodeOpening n factors = encodeHeader n ++ factorsRecord .encode factors
 
 -- the file of a river
 unfoldable pub encode : River → List ℕ
@@ -59,7 +60,7 @@ checkFrom n i (c ∷ cs) = after (checkCard n i c) (λ _. checkFrom n (suc i) cs
 
 -- 3 for a reach count n, then 4 with reach 0 for the rate factors, then the reaches
 unfoldable pub checkRiver : ℕ → River → Answer Unit
-checkRiver n r = need (countOk n) 3 0 (need (factorsInRange (r .factors)) 4 0 (checkFrom n 1 (r .cards)))
+checkRiver n r = need (countOk n) 3 0 (need (factorsRecord .inRange (r .factors)) 4 0 (checkFrom n 1 (r .cards)))
 
 -- the refusals of a river with n reaches, then 12 for a buffer of a length, else the file's length
 unfoldable pub writeAnswer : ℕ → River → ℕ → Answer ℕ

@@ -14,7 +14,8 @@ use Rattle.river.specs.declared.writer.Putting.{Putting}
 use Rattle.river.specs.Bytes.{Put}
 use Rattle.river.specs.Card.{countOk, headerBytes, sizeOf}
 use Rattle.river.specs.Refusal.{Answer, accepted, refused, refuse, need}
-use Rattle.river.specs.River.{River, factorsInRange, openingSize}
+use Rattle.river.specs.River.{River, openingSize}
+use Rattle.river.specs.Records.{factorsRecord}
 use Rattle.river.specs.Write.{encode, encodeCard, encodeOpening, checkRiver, checkOf}
 
 -- a refusal, after which no card is due
@@ -33,7 +34,7 @@ startFrom (accepted u) factors n = record { check = Outcome.Accepted; due = n; p
 startFrom (refused r) factors n = stoppedAt r
 
 abbrev pub startChecking : RateFactors → ℕ → Checking
-startChecking factors n = startFrom (need (countOk n) 3 0 (need (factorsInRange factors) 4 0 (accepted tt))) factors n
+startChecking factors n = startFrom (need (countOk n) 3 0 (need (factorsRecord .inRange factors) 4 0 (accepted tt))) factors n
 
 -- a river is checked: 3, 4 for its factors, then each reach's refusals; where all pass, all cards are due, and the file's length is known
 pub record ChecksAll (r : River) (s : Checking) : Type 0 where

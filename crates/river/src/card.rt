@@ -1,8 +1,9 @@
 // The cards of a river, and its rate factors.
 ghost use mathlib.Core.Path.{_≡_};
 ghost use lib.ListN.{length};
-ghost use Rattle.river.specs.Card.{noOptionals, withNitrification, withOptionals, blank, encodeDam, layoutSize, encodeAmount, amountOr, encodeNitrification, sizeOf};
-ghost use Rattle.river.specs.River.{encodeFactors, longestFile};
+ghost use Rattle.river.specs.Card.{noOptionals, withNitrification, withOptionals, blank, amountOr, sizeOf};
+ghost use Rattle.river.specs.Records.{damRecord, nitrificationRecord, factorsRecord, amountRecord};
+ghost use Rattle.river.specs.River.{longestFile};
 
 // The lengths of the records `RV`, `TH`, `RE`, `DM`, `WD`, `BP`, `SD` and `NT`.
 pub const HEADER_BYTES: usize = 4;
@@ -207,7 +208,7 @@ pub fn blank() -> Card
 
 // The length of a dam's record, if there is one.
 pub fn dam_size(dam: Dam) -> usize
-    ensures { λ r. ⌜ r ≡ length (encodeDam dam) ⌝ }
+    ensures { λ r. ⌜ r ≡ length (damRecord .encode dam) ⌝ }
 {
     match dam {
         Dam::Absent => 0,
@@ -220,7 +221,7 @@ pub fn dam_size(dam: Dam) -> usize
 
 // The length of a nitrification's record, if there is one.
 pub(crate) fn nitrification_size(nitrification: Nitrification) -> usize
-    ensures { λ r. ⌜ r ≡ length (encodeNitrification nitrification) ⌝ }
+    ensures { λ r. ⌜ r ≡ length (nitrificationRecord .encode nitrification) ⌝ }
 {
     match nitrification {
         Nitrification::Idle => 0,
@@ -234,7 +235,7 @@ pub(crate) fn nitrification_size(nitrification: Nitrification) -> usize
 
 // The length of the record of rate factors, if there is one.
 pub(crate) fn factors_size(factors: RateFactors) -> usize
-    ensures { λ r. ⌜ r ≡ length (encodeFactors factors) ⌝ }
+    ensures { λ r. ⌜ r ≡ length (factorsRecord .encode factors) ⌝ }
 {
     match factors {
         RateFactors::AsGiven => 0,
@@ -247,7 +248,7 @@ pub(crate) fn factors_size(factors: RateFactors) -> usize
 
 // The length of a record of one number.
 pub(crate) fn layout_size(layout: Layout) -> usize
-    ensures { λ r. ⌜ r ≡ layoutSize layout ⌝ }
+    ensures { λ r. ⌜ r ≡ amountRecord layout .size ⌝ }
 {
     if layout.wide {
         WIDE_BYTES
@@ -268,7 +269,7 @@ pub fn amount_or(none: u32, amount: Amount) -> u32
 
 // The length of an amount's record, if there is one.
 pub(crate) fn amount_size(layout: Layout, amount: Amount) -> usize
-    ensures { λ r. ⌜ r ≡ length (encodeAmount layout amount) ⌝ }
+    ensures { λ r. ⌜ r ≡ length (amountRecord layout .encode amount) ⌝ }
 {
     match amount {
         Amount::Without => 0,

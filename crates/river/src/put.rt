@@ -3,9 +3,10 @@ ghost use Prim.Native.Nat.{_+_, _≤_};
 ghost use mathlib.Core.List.{_∷_, _++_};
 ghost use lib.ListN.{length};
 ghost use Rattle.river.specs.Bytes.{Put, markBytes, twoBytes, narrowBytes, fourBytes};
-ghost use Rattle.river.specs.Card.{RE, headerBytes, reachBytes, encodeDam, encodeAmount, encodeNitrification, optional, optionalOf, sizeOf};
+ghost use Rattle.river.specs.Card.{RE, headerBytes, reachBytes, optional, optionalOf, sizeOf};
 ghost use Rattle.river.specs.Optional.{encodeOptionals};
-ghost use Rattle.river.specs.River.{encodeFactors, openingSize};
+ghost use Rattle.river.specs.Records.{damRecord, nitrificationRecord, factorsRecord, amountRecord};
+ghost use Rattle.river.specs.River.{openingSize};
 ghost use Rattle.river.specs.Write.{encodeReach, encodeCard, encodeHeader, encodeOpening};
 use crate::bytes::put_four;
 use crate::bytes::put_narrow;
@@ -32,8 +33,8 @@ pub fn put_header(out: &mut [u8], count: u16) -> usize
 
 // The `TH` record of rate factors, if there are some.
 fn put_factors(out: &mut [u8], at: usize, factors: RateFactors) -> usize
-    requires { ⌜ at + length (encodeFactors factors) ≤ length (now out) ⌝ }
-    ensures { λ r. ⌜ Put (now (out .entry)) at (encodeFactors factors) (now (out .exit)) r ⌝ }
+    requires { ⌜ at + length (factorsRecord .encode factors) ≤ length (now out) ⌝ }
+    ensures { λ r. ⌜ Put (now (out .entry)) at (factorsRecord .encode factors) (now (out .exit)) r ⌝ }
 {
     let RateFactors::PerDegree { decay, aeration } = factors else {
         return at;
@@ -94,8 +95,8 @@ fn put_reach(out: &mut [u8], at: usize, c: Card) -> usize
 
 // The `DM` record of a dam, if there is one.
 fn put_dam(out: &mut [u8], at: usize, dam: Dam) -> usize
-    requires { ⌜ at + length (encodeDam dam) ≤ length (now out) ⌝ }
-    ensures { λ r. ⌜ Put (now (out .entry)) at (encodeDam dam) (now (out .exit)) r ⌝ }
+    requires { ⌜ at + length (damRecord .encode dam) ≤ length (now out) ⌝ }
+    ensures { λ r. ⌜ Put (now (out .entry)) at (damRecord .encode dam) (now (out .exit)) r ⌝ }
 {
     let Dam::Aerating { share, generating } = dam else {
         return at;
@@ -107,8 +108,8 @@ fn put_dam(out: &mut [u8], at: usize, dam: Dam) -> usize
 
 // The record of an amount, if there is one.
 fn put_amount(out: &mut [u8], at: usize, layout: Layout, amount: Amount) -> usize
-    requires { ⌜ at + length (encodeAmount layout amount) ≤ length (now out) ⌝ }
-    ensures { λ r. ⌜ Put (now (out .entry)) at (encodeAmount layout amount) (now (out .exit)) r ⌝ }
+    requires { ⌜ at + length (amountRecord layout .encode amount) ≤ length (now out) ⌝ }
+    ensures { λ r. ⌜ Put (now (out .entry)) at (amountRecord layout .encode amount) (now (out .exit)) r ⌝ }
 {
     let Amount::Given(n) = amount else {
         return at;
@@ -122,8 +123,8 @@ fn put_amount(out: &mut [u8], at: usize, layout: Layout, amount: Amount) -> usiz
 
 // The `NT` record of a nitrification, if there is one.
 fn put_nitrification(out: &mut [u8], at: usize, nitrification: Nitrification) -> usize
-    requires { ⌜ at + length (encodeNitrification nitrification) ≤ length (now out) ⌝ }
-    ensures { λ r. ⌜ Put (now (out .entry)) at (encodeNitrification nitrification) (now (out .exit)) r ⌝ }
+    requires { ⌜ at + length (nitrificationRecord .encode nitrification) ≤ length (now out) ⌝ }
+    ensures { λ r. ⌜ Put (now (out .entry)) at (nitrificationRecord .encode nitrification) (now (out .exit)) r ⌝ }
 {
     let Nitrification::Nitrifying {
         rate,

@@ -1,8 +1,9 @@
 // The tests that reading and writing share: ranges, outlets and the reach count; and that of check 15.
 ghost use mathlib.Core.Path.{_≡_};
-ghost use Rattle.river.specs.Card.{optional, optionalOf, inRange, damInRange, amountInRange, nitrificationInRange, ratesInRange, outletOk, countOk};
+ghost use Rattle.river.specs.Card.{optional, optionalOf, inRange, ratesInRange, outletOk, countOk};
+ghost use Rattle.river.specs.Fields.{within};
 ghost use Rattle.river.specs.Optional.{optionalsInRange};
-ghost use Rattle.river.specs.River.{factorInRange, factorsInRange};
+ghost use Rattle.river.specs.Records.{damRecord, nitrificationRecord, rateFactor, factorsRecord, amountRecord};
 use crate::card::Amount;
 use crate::card::Card;
 use crate::card::Dam;
@@ -75,7 +76,7 @@ pub fn rates_in_range(c: Card) -> bool
 
 // Whether the fields of a dam's `DM` record are in range.
 pub fn dam_in_range(d: Dam) -> bool
-    ensures { λ r. ⌜ r ≡ damInRange d ⌝ }
+    ensures { λ r. ⌜ r ≡ damRecord .inRange d ⌝ }
 {
     let Dam::Aerating { share, generating } = d else {
         return true;
@@ -88,7 +89,7 @@ pub fn dam_in_range(d: Dam) -> bool
 
 // Whether an amount is in the range of its layout.
 pub(crate) fn amount_in_range(layout: Layout, amount: Amount) -> bool
-    ensures { λ r. ⌜ r ≡ amountInRange layout amount ⌝ }
+    ensures { λ r. ⌜ r ≡ amountRecord layout .inRange amount ⌝ }
 {
     let Amount::Given(n) = amount else {
         return true;
@@ -101,7 +102,7 @@ pub(crate) fn amount_in_range(layout: Layout, amount: Amount) -> bool
 
 // Whether the fields of a nitrification's `NT` record are in range; any load is.
 pub(crate) fn nitrification_in_range(n: Nitrification) -> bool
-    ensures { λ r. ⌜ r ≡ nitrificationInRange n ⌝ }
+    ensures { λ r. ⌜ r ≡ nitrificationRecord .inRange n ⌝ }
 {
     let Nitrification::Nitrifying {
         rate,
@@ -119,7 +120,7 @@ pub(crate) fn nitrification_in_range(n: Nitrification) -> bool
 
 // Whether a rate factor is in range.
 fn factor_in_range(factor: u16) -> bool
-    ensures { λ r. ⌜ r ≡ factorInRange factor ⌝ }
+    ensures { λ r. ⌜ r ≡ within rateFactor factor ⌝ }
 {
     if factor < FACTOR_LEAST {
         return false;
@@ -129,7 +130,7 @@ fn factor_in_range(factor: u16) -> bool
 
 // Whether the fields of the `TH` record of rate factors are in range.
 pub(crate) fn factors_in_range(factors: RateFactors) -> bool
-    ensures { λ r. ⌜ r ≡ factorsInRange factors ⌝ }
+    ensures { λ r. ⌜ r ≡ factorsRecord .inRange factors ⌝ }
 {
     let RateFactors::PerDegree { decay, aeration } = factors else {
         return true;

@@ -2,10 +2,11 @@
 ghost use mathlib.Core.Path.{_≡_};
 ghost use Prim.Native.Nat.{_<_, _^_};
 ghost use lib.ListN.{drop};
-ghost use Rattle.river.specs.Card.{reachBytes, damRecord, amountRecord, numberAt, nitrificationRecord, optional};
+ghost use Rattle.river.specs.Card.{reachBytes, optional};
+ghost use Rattle.river.specs.Fields.{numberAt};
 ghost use Rattle.river.specs.Optional.{absent, readOptional, readOptionals};
+ghost use Rattle.river.specs.Records.{damRecord, nitrificationRecord, factorsRecord, widthOf, amountRecord};
 ghost use Rattle.river.specs.Refusal.{accepted, after};
-ghost use Rattle.river.specs.River.{factorsRecord};
 ghost use Rattle.river.specs.Read.{readHeader, headerOf, headerRefusal, factorsReadOf, factorsRefusal, cardAt, damOf, damRefusal, amountOf, amountRefusal, nitrificationOf, nitrificationRefusal, readReach, reachOf, reachRefusal};
 use crate::bytes::behind;
 use crate::bytes::byte_at;
@@ -161,7 +162,7 @@ pub fn read_dam(s: &[u8], reach: u8) -> DamRead
 
 // The number in a record of one number.
 fn number_at(s: &[u8], wide: bool) -> u32
-    ensures { λ r. ⌜ r ≡ numberAt wide (now (s .entry)) ⌝ }
+    ensures { λ r. ⌜ r ≡ numberAt (widthOf wide) (now (s .entry)) 2 ⌝ }
 {
     if wide {
         four_at(s, 2)

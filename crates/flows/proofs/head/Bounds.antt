@@ -11,7 +11,9 @@ use Rattle.river.specs.declared.card.Amount.{Amount}
 use Rattle.river.specs.declared.card.Amount.the-variants.{Without, Given}
 use Rattle.river.specs.declared.card.Card.{Card}
 use Rattle.river.specs.declared.source.Source.{Source}
-use Rattle.river.specs.Card.{LawfulAmount, pressureLayout, amountOr, RegularCard}
+use Rattle.river.specs.Card.{amountOr, RegularCard}
+use Rattle.river.specs.Described.{InRange}
+use Rattle.river.specs.Records.{BP}
 use Rattle.river.specs.Source.{sourceMass}
 use Rattle.flows.specs.Flow.{flowLimit}
 use Rattle.flows.specs.Saturation.{saturation, saturationThousandths, standardPressure, pressureOf, saturationOf, ConditionsInRange, SaturationInRange}
@@ -46,9 +48,9 @@ unfolding saturationOf saturation
 standard-saturation card e = rw e (mul-div-mul-right (saturationThousandths (card .temperature)) 1000 (lit< tt))
 
 -- a regular card has what saturation asks
-pressure-small : (a : Amount) → LawfulAmount pressureLayout a → amountOr standardPressure a ≤ 800
+pressure-small : (a : Amount) → InRange BP a → amountOr standardPressure a ≤ 800
 pressure-small Without h = omega arith
-pressure-small (Given p) h = h .1
+pressure-small (Given p) h = h .0 .most
 
 pub conditions-in-range : {n i : ℕ} {c : Card} → RegularCard n i c → SaturationInRange c
 conditions-in-range {c = c} h = record { temperature = h .in-range .temperature; pressure = pressure-small (c .optionals .pressure) (h .optionals .pressure) }

@@ -18,7 +18,9 @@ use Rattle.flows.specs.declared.flow.FlowTable.{FlowTable}
 use Rattle.flows.specs.declared.head.Brought.{Brought}
 use Rattle.flows.specs.declared.head.FootTable.{FootTable}
 use Rattle.flows.specs.declared.head.Head.{Head}
-use Rattle.river.specs.Card.{LawfulDam, blank}
+use Rattle.river.specs.Card.{blank}
+use Rattle.river.specs.Described.{InRange}
+use Rattle.river.specs.Records.{DM}
 use Rattle.flows.specs.Flow.{Feeders, cardOf, above, feedersAmong, joinedIf, flowOf, massOf, deepest, fed, flowLimit, takeOf, mixedFlow, reachFlow, mixedMass, reachMass, ownMass, flowAt, massAt, ReachPasses, DamRule}
 use Rattle.flows.specs.Head.{headDemand}
 use Rattle.river.proofs.range.Ranges.{asked-at}
@@ -43,10 +45,10 @@ flow-of-fed cards (suc n) i s e =
     step true p f e = lt-of-lt-of-le p (le-add-right _ _)
     step false p f e = f e
 
-dam-within : (dam : Dam) (up : Feeders) → LawfulDam dam → DamRule dam up → DamWithin dam (flowOf up)
+dam-within : (dam : Dam) (up : Feeders) → InRange DM dam → DamRule dam up → DamWithin dam (flowOf up)
 unfolding DamRule
 dam-within Absent up l r = tt
-dam-within (Aerating share generating) up l r = (l .share, r .1)
+dam-within (Aerating share generating) up l r = (l .0 .most, r .1)
 
 -- flow × two demands at a head is at most what comes down and comes in of both
 both-kept : (s t : Source) (fed : Bool) (Qu Qm a b : ℕ) → Qm ≡ Qu + s .inflow → Qm ≡ Qu + t .inflow → Qm * (headDemand s fed Qu a + headDemand t fed Qu b) ≤ a + b + 1000 * (sourceMass s + sourceMass t)

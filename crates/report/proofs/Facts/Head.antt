@@ -13,7 +13,8 @@ use Rattle.river.specs.declared.card.Dam.the-variants.{Absent, Aerating}
 use Rattle.river.specs.declared.card.Card.{Card}
 use Rattle.river.specs.declared.source.Demand.{Demand}
 use Rattle.river.specs.declared.source.Source.{Source}
-use Rattle.river.specs.Card.{LawfulDam}
+use Rattle.river.specs.Described.{InRange}
+use Rattle.river.specs.Records.{DM}
 use Rattle.flows.specs.Flow.{Feeders, more, fed, flowOf}
 use Rattle.flows.proofs.flow.Take.{flow-remains}
 use Rattle.river.specs.Source.{sourceOf}
@@ -114,14 +115,14 @@ part-dammed saturated n d C p h =
       high = certify-over (ofℕ d) (positive-whole p) vs no-equations (slack (rounded .high) ⊞ multiple (ofℕ 1) (≈-sym ez) ⊞ multiple way es ⊞ multiple (ofℕ d) (≈-sym ec)) (search quote depth 40 fits 9999) tt;
     }
 
-aerated-dammed : (dam : Dam) (saturated Qu : ℕ) (C : ℤ) → 0 < Qu → LawfulDam dam → Dammed (ofℤ C) (ofℕ saturated) (damPart true dam Qu) (ofℤ (aerated dam saturated Qu C))
+aerated-dammed : (dam : Dam) (saturated Qu : ℕ) (C : ℤ) → 0 < Qu → InRange DM dam → Dammed (ofℤ C) (ofℕ saturated) (damPart true dam Qu) (ofℤ (aerated dam saturated Qu C))
 unfolding aerated damPart
 aerated-dammed Absent saturated Qu C p h = unchanged (ofℤ C) (ofℕ saturated)
 aerated-dammed (Aerating share generating) saturated Qu C p h =
-    part-dammed saturated (share * (Qu - generating)) (1000 * Qu) C (omega arith) (mul-le-mul (h .share) (omega arith))
+    part-dammed saturated (share * (Qu - generating)) (1000 * Qu) C (omega arith) (mul-le-mul (h .0 .most) (omega arith))
 
 -- oxygen below the dam of an accepted reach
-pub below-dam : (card : Card) {up : Feeders} → AllAccepted up → LawfulDam (card .dam) → (C : ℤ) → Dammed (ofℤ C) (ofℕ (saturationOf card)) (damPart (fed up) (card .dam) (flowOf up)) (ofℤ (belowDam card (fed up) (flowOf up) C))
+pub below-dam : (card : Card) {up : Feeders} → AllAccepted up → InRange DM (card .dam) → (C : ℤ) → Dammed (ofℤ C) (ofℕ (saturationOf card)) (damPart (fed up) (card .dam) (flowOf up)) (ofℤ (belowDam card (fed up) (flowOf up) C))
 unfolding fed belowDam damPart
 below-dam card no-more h C = unchanged (ofℤ C) (ofℕ (saturationOf card))
 below-dam card (one-more {card = feeder} {up} {rest} own above others) h C =

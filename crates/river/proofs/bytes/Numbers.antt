@@ -4,13 +4,13 @@ use Prim.Native.Nat.{ℕ, zero, suc, _+_, _-_, _*_, _/_, _%_, _≤_, _<_}
 use mathlib.Core.Path.{_≡_, ap, ap₂, sym, _∙_}
 use mathlib.Core.List.{List, [], _∷_, _++_, append-assoc}
 use mathlib.Core.Bool.{true, false}
-use native.Mathlib.Nat.{suc-add, add-suc, zero-add}
+use native.Mathlib.Nat.{mod-eq-of-lt, suc-add, add-suc, zero-add}
 use native.Mathlib.Omega.{arith}
 use lib.Arith.{digits-div, digits-mod}
 use lib.ListN.{length, take, drop, length-drop}
 use lib.Seq.{drop-cons, drop-append-seam, getD-drop, take-all}
 use borrow.Author.Tests.{eqb-true, eq-eqb}
-use Rattle.river.specs.Bytes.{AreBytes, twoBytes, fourBytes, byteAt, twoAt, fourAt, Mark, marked, markBytes}
+use Rattle.river.specs.Bytes.{AreBytes, twoBytes, narrowBytes, fourBytes, byteAt, twoAt, fourAt, Mark, marked, markBytes}
 use Rattle.river.proofs.Answers.{both, both-true}
 
 -- a number of two digits to a base has these two digits
@@ -25,6 +25,9 @@ fourAt-below s k h = omega (arith, twoAt-below s k h, twoAt-below s (k + 2) h)
 
 pub twoBytes-twoAt : (s : List ℕ) (k : ℕ) → AreBytes s → twoBytes (twoAt s k) ≡ byteAt s k ∷ byteAt s (k + 1) ∷ []
 twoBytes-twoAt s k h = two-digits 256 (byteAt s k) (byteAt s (k + 1)) (h .below (k + 1))
+
+pub narrowBytes-twoAt : (s : List ℕ) (k : ℕ) → AreBytes s → narrowBytes (twoAt s k) ≡ byteAt s k ∷ byteAt s (k + 1) ∷ []
+narrowBytes-twoAt s k h = ap twoBytes (mod-eq-of-lt (twoAt-below s k h)) ∙ twoBytes-twoAt s k h
 
 pub fourBytes-fourAt : (s : List ℕ) (k : ℕ) → AreBytes s
     → fourBytes (fourAt s k) ≡ byteAt s k ∷ byteAt s (k + 1) ∷ byteAt s (k + 2) ∷ byteAt s (k + 2 + 1) ∷ []

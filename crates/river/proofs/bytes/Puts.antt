@@ -1,14 +1,14 @@
 -- Bytes put into a buffer one after the other.
 -- Assumes nothing.
-use Prim.Native.Nat.{ℕ, suc, _+_, _≤_}
+use Prim.Native.Nat.{ℕ, suc, _+_, _≤_, _<_}
 use mathlib.Core.Path.{_≡_, refl, ap, sym, _∙_}
 use mathlib.Core.List.{List, [], _∷_, _++_}
-use native.Mathlib.Nat.{add-zero, add-suc, suc-add}
+use native.Mathlib.Nat.{mod-eq-of-lt, add-zero, add-suc, suc-add}
 use native.Mathlib.Numerals.{add-one}
 use native.Mathlib.Omega.{arith}
 use lib.ListN.{length, drop, set, length-append}
 use lib.Seq.{sets, sets-eq}
-use Rattle.river.specs.Bytes.{Put}
+use Rattle.river.specs.Bytes.{Put, twoBytes, narrowBytes}
 
 pub put-pair : (b : List ℕ) (at x y : ℕ) → Put b at (x ∷ y ∷ []) (set (set b at x) (at + 1) y) (at + 2)
 put-pair b at x y = record { buffer = rw add-one; place = refl }
@@ -29,6 +29,10 @@ chain {b} {m} {l} {x} {y} {at} {k} {r} p q =
           sym (sets-append b at x y);
       place = omega (arith, p .place, q .place, length-append x y);
     }
+
+-- two bytes hold a number below 65,536 as it is
+pub held : (x : ℕ) {b l : List ℕ} {at k : ℕ} → x < 65536 → Put b at (twoBytes x) l k → Put b at (narrowBytes x) l k
+held x h p = rw (mod-eq-of-lt h) p
 
 -- no bytes put
 pub put-none : (b : List ℕ) (at : ℕ) → Put b at [] b at

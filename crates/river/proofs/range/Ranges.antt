@@ -8,23 +8,18 @@ use native.Mathlib.Nat.{add-zero, not-suc-le-zero, le-of-suc-le-suc}
 use native.Mathlib.Numerals.{one-add}
 use native.Mathlib.Omega.{arith}
 use lib.ListN.{length, getD}
-use borrow.Author.Tests.{le-leb, leb-true, lt-ltb, ltb-true, eq-eqb, eqb-true, ne-eqb}
-use Rattle.river.specs.Card.{FieldsInRange, LawfulDam, LawfulAmount, RegularNitrification, RegularOptionals, withNitrification, rateMost, RatesInRange, ratesInRange, LawfulCard, EachFrom, Each, blank, takeLayout, pressureLayout, sludgeLayout, optional, optionalOf, inRange, damInRange, amountInRange, nitrificationInRange, countOk, outletOk}
+use borrow.Author.Tests.{le-leb, leb-true, ltb-true, eq-eqb, eqb-true, ne-eqb}
+use Rattle.river.specs.Card.{FieldsInRange, RegularNitrification, RegularOptionals, withNitrification, RatesInRange, ratesInRange, LawfulCard, EachFrom, Each, blank, optional, optionalOf, inRange, countOk, outletOk}
 use Rattle.river.specs.Optional.{optionalsInRange}
-use Rattle.river.specs.River.{FactorInRange, LawfulFactors, factorInRange, factorsInRange}
 use Rattle.river.specs.Source.{nitrogenousRate}
-use Rattle.river.specs.declared.card.Amount.{Amount}
-use Rattle.river.specs.declared.card.Amount.the-variants.{Without, Given}
 use Rattle.river.specs.declared.card.Card.{Card}
-use Rattle.river.specs.declared.card.Dam.{Dam}
-use Rattle.river.specs.declared.card.Dam.the-variants.{Absent, Aerating}
-use Rattle.river.specs.declared.card.Layout.{Layout}
 use Rattle.river.specs.declared.card.Nitrification.{Nitrification}
 use Rattle.river.specs.declared.card.Nitrification.the-variants.{Idle, Nitrifying}
 use Rattle.river.specs.declared.card.Optionals.{Optionals}
-use Rattle.river.specs.declared.card.RateFactors.{RateFactors}
-use Rattle.river.specs.declared.card.RateFactors.the-variants.{AsGiven, PerDegree}
+use Rattle.river.specs.Described.{InRange}
+use Rattle.river.specs.Records.{DM, rateMost, NT, WD, BP, SD}
 use Rattle.river.proofs.Answers.{both, both-true}
+use Rattle.river.proofs.card.Described.{in-range-true, true-in-range}
 
 pub inRange-true : (c : Card) → FieldsInRange c → RatesInRange c → inRange c ≡ true
 unfolding inRange
@@ -75,59 +70,14 @@ true-ratesInRange c e =
     let b = both-true (a .right) in
     record { k1 = leb-true _ _ (a .left); k2 = leb-true _ _ (b .left); nitrogenous = leb-true _ _ (b .right) }
 
-pub damInRange-true : (d : Dam) → LawfulDam d → damInRange d ≡ true
-unfolding damInRange
-damInRange-true Absent h = refl
-damInRange-true (Aerating s g) h = both (le-leb _ _ (h .share)) (le-leb _ _ (h .generating))
+-- a nitrification is in range exactly where it is regular and its rate is in range
+regular-in-range : (n : Nitrification) → RegularNitrification n → nitrogenousRate n ≤ rateMost → InRange NT n
+regular-in-range Idle h r = tt
+regular-in-range (Nitrifying rate c l) h r = (record { least = zero-le; most = r }, h .1)
 
-pub true-damInRange : (d : Dam) → damInRange d ≡ true → LawfulDam d
-unfolding damInRange
-true-damInRange Absent e = tt
-true-damInRange (Aerating s g) e =
-    let t = both-true e in record { share = leb-true _ _ (t .left); generating = leb-true _ _ (t .right) }
-
-pub amountInRange-true : (l : Layout) (a : Amount) → LawfulAmount l a → amountInRange l a ≡ true
-unfolding amountInRange
-amountInRange-true l Without h = refl
-amountInRange-true l (Given n) h = both (le-leb _ _ (h .0)) (le-leb _ _ (h .1))
-
-pub true-amountInRange : (l : Layout) (a : Amount) → amountInRange l a ≡ true → LawfulAmount l a
-unfolding amountInRange
-true-amountInRange l Without e = tt
-true-amountInRange l (Given n) e = let t = both-true e in (leb-true _ _ (t .left), leb-true _ _ (t .right))
-
-pub nitrificationInRange-true : (n : Nitrification) → RegularNitrification n → nitrogenousRate n ≤ rateMost → nitrificationInRange n ≡ true
-unfolding nitrificationInRange
-nitrificationInRange-true Idle h r = refl
-nitrificationInRange-true (Nitrifying k c l) h r = both (le-leb _ _ r) (both (le-leb _ _ (h .concentration)) (lt-ltb _ _ (h .load)))
-
-pub true-nitrificationInRange : (n : Nitrification) → nitrificationInRange n ≡ true → RegularNitrification n × (nitrogenousRate n ≤ rateMost)
-unfolding nitrificationInRange
-true-nitrificationInRange Idle e = (tt, zero-le)
-true-nitrificationInRange (Nitrifying k c l) e =
-    let a = both-true e in
-    let b = both-true (a .right) in
-    (record { concentration = leb-true _ _ (b .left); load = ltb-true _ _ (b .right) }, leb-true _ _ (a .left))
-
--- the tests of rate factors
-factorInRange-true : (f : ℕ) → FactorInRange f → factorInRange f ≡ true
-unfolding factorInRange
-factorInRange-true f h = both (le-leb _ _ (h .least)) (le-leb _ _ (h .most))
-
-true-factorInRange : (f : ℕ) → factorInRange f ≡ true → FactorInRange f
-unfolding factorInRange
-true-factorInRange f e = let t = both-true e in record { least = leb-true _ _ (t .left); most = leb-true _ _ (t .right) }
-
-pub factorsInRange-true : (f : RateFactors) → LawfulFactors f → factorsInRange f ≡ true
-unfolding factorsInRange
-factorsInRange-true AsGiven h = refl
-factorsInRange-true (PerDegree decay aeration) h = both (factorInRange-true decay (h .0)) (factorInRange-true aeration (h .1))
-
-pub true-factorsInRange : (f : RateFactors) → factorsInRange f ≡ true → LawfulFactors f
-unfolding factorsInRange
-true-factorsInRange AsGiven e = tt
-true-factorsInRange (PerDegree decay aeration) e =
-    let t = both-true e in (true-factorInRange decay (t .left), true-factorInRange aeration (t .right))
+in-range-regular : (n : Nitrification) → InRange NT n → RegularNitrification n × (nitrogenousRate n ≤ rateMost)
+in-range-regular Idle h = (tt, zero-le)
+in-range-regular (Nitrifying rate c l) h = ((record { least = zero-le; most = zero-le }, h .1), h .0 .most)
 
 -- the tests of a card hold exactly where it is lawful
 pub lawful-optionals : {n i : ℕ} {c : Card} → LawfulCard n i c → optionalsInRange optional (optionalOf c) ≡ true
@@ -135,11 +85,11 @@ unfolding optionalsInRange
 lawful-optionals {n} {i} {c} lawful =
     let o = c .optionals in
     let h = lawful .regular .optionals in
-    both (damInRange-true (c .dam) (lawful .regular .dam))
-    (both (amountInRange-true takeLayout (o .take) (h .take))
-    (both (amountInRange-true pressureLayout (o .pressure) (h .pressure))
-    (both (amountInRange-true sludgeLayout (o .sludge) (h .sludge))
-    (both (nitrificationInRange-true (o .nitrification) (h .nitrification) (lawful .rates .nitrogenous)) refl))))
+    both (in-range-true DM (c .dam) (lawful .regular .dam))
+    (both (in-range-true WD (o .take) (h .take))
+    (both (in-range-true BP (o .pressure) (h .pressure))
+    (both (in-range-true SD (o .sludge) (h .sludge))
+    (both (in-range-true NT (o .nitrification) (regular-in-range (o .nitrification) (h .nitrification) (lawful .rates .nitrogenous))) refl))))
 
 pub lawful-card : (n i : ℕ) (c : Card) → inRange c ≡ true → c .load < 4294967296 → outletOk n i (c .outlet) ≡ true
     → optionalsInRange optional (optionalOf c) ≡ true → LawfulCard n i c
@@ -152,19 +102,19 @@ lawful-card n i c r l o e =
     let g = both-true (f .right) in
     let reach = true-inRange c r in
     let optionals = c .optionals in
-    let nitrification = true-nitrificationInRange (optionals .nitrification) (g .left) in
+    let nitrification = in-range-regular (optionals .nitrification) (true-in-range NT (optionals .nitrification) (g .left)) in
     record {
       regular =
           record {
             in-range = reach .fields;
             load = l;
             outlet = o;
-            dam = true-damInRange (c .dam) (a .left);
+            dam = true-in-range DM (c .dam) (a .left);
             optionals =
                 record {
-                  take = true-amountInRange takeLayout (optionals .take) (b .left);
-                  pressure = true-amountInRange pressureLayout (optionals .pressure) (d .left);
-                  sludge = true-amountInRange sludgeLayout (optionals .sludge) (f .left);
+                  take = true-in-range WD (optionals .take) (b .left);
+                  pressure = true-in-range BP (optionals .pressure) (d .left);
+                  sludge = true-in-range SD (optionals .sludge) (f .left);
                   nitrification = nitrification .0;
                 };
           };

@@ -1,10 +1,10 @@
 -- A reach is read from its card's records, and whatever is read as a reach is a lawful card's records.
 -- Assumes nothing.
-use Prim.Native.Nat.{ℕ, _≤_}
+use Prim.Native.Nat.{ℕ, _%_, _≤_}
 use mathlib.Core.Path.{_≡_, refl, ap, sym, subst, _∙_}
 use mathlib.Core.List.{List, _∷_, _++_}
 use mathlib.Core.Bool.{true}
-use native.Mathlib.Nat.{div-add-mod'}
+use native.Mathlib.Nat.{div-add-mod', mod-eq-of-lt}
 use native.Mathlib.Omega.{arith}
 use lib.ListN.{length, drop}
 use lib.Seq.{drop-at}
@@ -13,14 +13,15 @@ use Rattle.river.specs.Bytes.{AreBytes, byteAt}
 use Rattle.river.specs.Card.{RatesInRange, LawfulCard, RE, withOptionals, optional, optionalOf, optionalsOf, inRange, outletOk, sizeOf}
 use Rattle.river.specs.Optional.{Values, absent, encodeOptionals}
 use Rattle.river.specs.Read.{cardAt, readReach}
+use Rattle.river.specs.Records.{rateMost}
 use Rattle.river.specs.Refusal.{accepted}
 use Rattle.river.specs.Write.{encodeReach, encodeCard}
 use Rattle.river.specs.declared.card.Card.{Card}
 use Rattle.river.proofs.Answers.{need-true, after-accepted, passed, went}
-use Rattle.river.proofs.bytes.Numbers.{HasMark, true-marked, twoBytes-twoAt, fourBytes-fourAt, fourAt-below, bytesFrom, leads-spelled, leads-more, are-bytes-drop}
+use Rattle.river.proofs.bytes.Numbers.{HasMark, true-marked, twoBytes-twoAt, narrowBytes-twoAt, fourBytes-fourAt, fourAt-below, bytesFrom, leads-spelled, leads-more, are-bytes-drop}
 use Rattle.river.proofs.range.Ranges.{inRange-true, lawful-card, lawful-optionals}
 use Rattle.river.proofs.card.Optional.{unmarked, AreOptionals, readOptionals-encode, readOptionals-are}
-use Rattle.river.proofs.card.Rows.{sound-optional, rate-held, narrow-spelled, length-encodeCard}
+use Rattle.river.proofs.card.Rows.{sound-optional, length-encodeCard}
 
 -- the fields of an `RE` record do not depend on the records that follow
 inRange-cardAt : (s : List ℕ) (vs ws : Values optional) → inRange (cardAt s vs) ≡ inRange (cardAt s ws)
@@ -33,6 +34,10 @@ unfolding cardAt
 with-values s vs = refl
 
 -- Reading what was encoded.
+
+-- two bytes hold a rate in range
+rate-held : {k : ℕ} → k ≤ rateMost → k % 65536 ≡ k
+rate-held h = mod-eq-of-lt (omega arith)
 
 cardAt-encode : (c : Card) (post : List ℕ) → RatesInRange c → cardAt (encodeCard c ++ post) (optionalOf c) ≡ c
 unfolding cardAt
@@ -67,8 +72,8 @@ encodeReach-cardAt s vs h m i =
     sym (m .second) i ∷
     byteAt s 2 ∷
     byteAt s 3 ∷
-    narrow-spelled s 4 h i ++
-    narrow-spelled s 6 h i ++
+    narrowBytes-twoAt s 4 h i ++
+    narrowBytes-twoAt s 6 h i ++
     fourBytes-fourAt s 8 h i ++
     fourBytes-fourAt s 12 h i ++
     fourBytes-fourAt s 16 h i ++ twoBytes-twoAt s 20 h i ++ fourBytes-fourAt s 22 h i

@@ -9,7 +9,8 @@ use Rattle.river.specs.Card.{sizeOf}
 use Rattle.river.specs.Optional.{readOptional}
 use Rattle.river.specs.Read.{headerOf, factorsReadOf, damOf, amountOf, nitrificationOf, reachOf, headerRefusal, factorsRefusal, damRefusal, amountRefusal, nitrificationRefusal, reachRefusal, readHeader, readReaches, readRest, readFile}
 use Rattle.river.specs.Refusal.{Answer, accepted, refused, after}
-use Rattle.river.specs.River.{riverOf, encodeFactors, factorsRecord}
+use Rattle.river.specs.River.{riverOf}
+use Rattle.river.specs.Records.{factorsRecord}
 use Rattle.river.specs.declared.card.Amount.{Amount}
 use Rattle.river.specs.declared.card.Card.{Card}
 use Rattle.river.specs.declared.card.Dam.{Dam}
@@ -100,7 +101,7 @@ header-refuses s e = after-refused _ _ e
 
 -- what follows the header by the rate factors
 pub rest-reaches : (n : ℕ) (s : List ℕ) {f : RateFactors} → readOptional factorsRecord 0 s ≡ accepted f
-    → readRest n s ≡ after (readReaches n 1 n (drop (length (encodeFactors f)) s)) (λ cs. accepted (riverOf f cs))
+    → readRest n s ≡ after (readReaches n 1 n (drop (length (factorsRecord .encode f)) s)) (λ cs. accepted (riverOf f cs))
 unfolding readRest
 rest-reaches n s e = after-accepted _ _ e
 

@@ -12,7 +12,8 @@ use Rattle.river.specs.Optional.{readOptional}
 use Rattle.river.specs.Read.{readHeader, headerOf, readReach, readReaches, readFile}
 use Rattle.river.specs.Reader.{haltedAt, withCards, continued, ReadingGoesOn}
 use Rattle.river.specs.Refusal.{Answer, accepted, refused, refuse, after}
-use Rattle.river.specs.River.{River, riverOf, encodeFactors, factorsRecord}
+use Rattle.river.specs.River.{River, riverOf}
+use Rattle.river.specs.Records.{factorsRecord}
 use Rattle.river.specs.declared.card.Card.{Card}
 use Rattle.river.specs.declared.card.RateFactors.{RateFactors}
 use Rattle.river.specs.declared.read.Header.{Header}
@@ -70,10 +71,10 @@ module _ (s : List ℕ) where
 
   -- the header and the rate factors are read
   pub begun : (at : List Card) {n next k : ℕ} {rest : List ℕ} {f : RateFactors} → headerOf (readHeader s) ≡ Header.Count n next → rest ≡ drop next s → readOptional factorsRecord 0 rest ≡ accepted f
-      → k ≡ length (encodeFactors f) → ReadingGoesOn s (record { outcome = Outcome.Accepted; at = at; count = n; read = 0; next = next + k; factors = f })
+      → k ≡ length (factorsRecord .encode f) → ReadingGoesOn s (record { outcome = Outcome.Accepted; at = at; count = n; read = 0; next = next + k; factors = f })
   begun at {n} {next} {k} {rest} {f} e behind found size =
       let same : n ≡ n - 0 = omega arith in
-      let place : drop (length (encodeFactors f)) rest ≡ drop (next + k) s = rw (behind, drop-drop, size) in
+      let place : drop (length (factorsRecord .encode f)) rest ≡ drop (next + k) s = rw (behind, ← size) (drop-drop k next s) in
       record {
         few = header-few s (header-counted (readHeader s) e .0);
         most = omega arith;
@@ -81,7 +82,7 @@ module _ (s : List ℕ) where
         rest =
             file-rest s e behind ∙
             rest-reaches n rest found ∙
-            joined-nil f (readReaches n 1 n (drop (length (encodeFactors f)) rest)) ∙
+            joined-nil f (readReaches n 1 n (drop (length (factorsRecord .encode f)) rest)) ∙
             λ j. withCards f [] (readReaches n 1 (same j) (place j));
       }
 

@@ -10,7 +10,8 @@ use Rattle.river.specs.declared.card.Nitrification.the-variants.{Idle, N
 use Rattle.river.specs.declared.source.Demand.{Demand}
 use Rattle.river.specs.declared.source.Demand.the-variants.{Bod, Nitrogenous}
 use Rattle.river.specs.declared.source.Source.{Source}
-use Rattle.river.specs.Card.{RegularNitrification, rateMost, RatesInRange, RegularCard}
+use Rattle.river.specs.Card.{RegularNitrification, RatesInRange, RegularCard}
+use Rattle.river.specs.Records.{rateMost}
 use Rattle.river.specs.Source.{nitrogenousSource, sourceOf, rateOf, sourceMass, SourceInRange, SourcesInRange}
 
 -- every demand comes in with the inflow of the reach
@@ -25,7 +26,7 @@ source-inflow Nitrogenous c = nitrogenous-inflow (c .inflow) (c .optionals .nitr
 -- the source of nitrogenous BOD is in range
 nitrogenous-in-range : (inflow : ℕ) (n : Nitrification) → inflow ≤ 100_000_000 → RegularNitrification n → SourceInRange (nitrogenousSource inflow n)
 nitrogenous-in-range inflow Idle i h = record { inflow = i; concentration = zero-le; load = lit< tt }
-nitrogenous-in-range inflow (Nitrifying rate concentration load) i h = record { inflow = i; concentration = h .concentration; load = h .load }
+nitrogenous-in-range inflow (Nitrifying rate concentration load) i h = record { inflow = i; concentration = h .1 .0 .most; load = omega (arith, h .1 .1 .0 .most) }
 
 pub sources-in-range : {n i : ℕ} {c : Card} → RegularCard n i c → SourcesInRange c
 sources-in-range {c = c} h = record { each = each }

@@ -9,7 +9,8 @@ use lib.ListN.{length, take, drop, length-append, take-append-drop, drop-of-leng
 use lib.Seq.{take-add, take-all}
 use Rattle.river.specs.Bytes.{Put}
 use Rattle.river.specs.Refusal.{Answer, accepted, refused}
-use Rattle.river.specs.River.{River, encodeFactors, factorsRecord, openingSize, longestOpening}
+use Rattle.river.specs.River.{River, openingSize, longestOpening}
+use Rattle.river.specs.Records.{factorsRecord}
 use Rattle.river.specs.Write.{encode, encodeCard, encodeCards, encodeOpening, checkCard, checkFrom, checkOf}
 use Rattle.river.specs.declared.card.Card.{Card}
 use Rattle.river.specs.declared.card.RateFactors.{RateFactors}
@@ -77,7 +78,7 @@ opening-small f = omega (arith, optional-small factorsRecord sound-factors f)
 
 pub length-encode : (r : River) → length (encode r) ≡ openingSize (r .factors) + length (encodeCards (r .cards))
 unfolding encode
-length-encode r = omega (arith, length-append (encodeFactors (r .factors)) (encodeCards (r .cards)))
+length-encode r = omega (arith, length-append (factorsRecord .encode (r .factors)) (encodeCards (r .cards)))
 
 -- the sum of the first i cards' sizes, and of the opening's
 pub record Measured (r : River) (i total : ℕ) : Type 0 where

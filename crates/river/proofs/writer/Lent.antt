@@ -14,7 +14,8 @@ use denote.Memory.{mem}
 use Rattle.river.specs.Bytes.{Put}
 use Rattle.river.specs.Card.{countOk, blank, longestCard, sizeOf}
 use Rattle.river.specs.Refusal.{Answer, accepted, refused, need}
-use Rattle.river.specs.River.{River, factorsInRange, openingSize, longestOpening}
+use Rattle.river.specs.River.{River, openingSize, longestOpening}
+use Rattle.river.specs.Records.{factorsRecord}
 use Rattle.river.specs.Write.{encode, encodeOpening, checkCard, checkFrom, checkRiver, checkOf, writeAnswer, bufferWritten, Writes}
 use Rattle.river.specs.Writer.{stoppedAt, startFrom, startChecking, nextChecking, ChecksAll, Unput, PutsStart, PutsNext}
 use Rattle.river.specs.declared.card.Card.{Card}
@@ -82,7 +83,7 @@ module _ (x : River) where
 
   -- the tests before the cards, and what they guard
   abbrev guarded : Answer Unit → Answer Unit
-  guarded y = need (countOk (length (x .cards))) 3 0 (need (factorsInRange (x .factors)) 4 0 y)
+  guarded y = need (countOk (length (x .cards))) 3 0 (need (factorsRecord .inRange (x .factors)) 4 0 y)
 
   -- they decide how checking starts
   starts-by : {y : Answer Unit} → guarded (accepted tt) ≡ y → CardsChecked x (startFrom y (x .factors) (length (x .cards)))
@@ -93,7 +94,7 @@ module _ (x : River) where
   unfolding checkRiver
   stops e = starts-by (e _) (halted (e _))
 
-  starts-as : (b d : Bool) → countOk (length (x .cards)) ≡ b → factorsInRange (x .factors) ≡ d → CardsChecked x (startChecking (x .factors) (length (x .cards)))
+  starts-as : (b d : Bool) → countOk (length (x .cards)) ≡ b → factorsRecord .inRange (x .factors) ≡ d → CardsChecked x (startChecking (x .factors) (length (x .cards)))
   unfolding checkRiver
   starts-as true true e f =
       let passes : (y : Answer Unit) → guarded y ≡ y = λ y. need-true _ _ _ _ e ∙ need-true _ _ _ _ f in
@@ -115,7 +116,7 @@ module _ (x : River) where
   starts-as false d e f = stops (λ y. need-false _ _ _ _ e)
 
   pub starts : CardsChecked x (startChecking (x .factors) (length (x .cards)))
-  starts = starts-as (countOk (length (x .cards))) (factorsInRange (x .factors)) refl refl
+  starts = starts-as (countOk (length (x .cards))) (factorsRecord .inRange (x .factors)) refl refl
 
   module _ {s : Checking} (g : CardsChecked x s) where
     -- while a card is due no refusal is found

@@ -12,7 +12,9 @@ use Rattle.river.specs.declared.card.Card.{Card}
 use Rattle.river.specs.declared.card.RateFactors.{RateFactors}
 use Rattle.river.specs.declared.card.RateFactors.the-variants.{PerDegree}
 use Rattle.river.specs.Card.{cardList, blank}
-use Rattle.river.specs.River.{LawfulFactors, riverOf}
+use Rattle.river.specs.River.{riverOf}
+use Rattle.river.specs.Described.{InRange}
+use Rattle.river.specs.Records.{TH}
 use Rattle.flows.specs.Rates.{cardInForce, inForce}
 use Rattle.river.proofs.Tests.{mapped-length}
 use Rattle.flows.proofs.flow.Count.{card-of-river}
@@ -62,11 +64,11 @@ corrected-requires c κs =
     let loop = c .before .before in
     let known = loop .before .before .before in
     let s = known .before .before in
-    let f = subst LawfulFactors (known .factors .given .1) (s .pre .0 .factors) in
+    let f = subst (InRange TH) (known .factors .given .1) (s .pre .0 .factors) in
     let i = loop .loop .i in
     let cards = s .args .t2 in
     let here : i < length (cardList cards) = rw (length-take (cards .count) (cards .at), full s) (omega (arith, s .pre .1)) in
-    (f .0, f .1, rw (card-of-river cards i here) (correctable (s .pre .0 .cards) i here))
+    (f .0, f .1 .0, rw (card-of-river cards i here) (correctable (s .pre .0 .cards) i here))
 
 array-set-from-at : tie.Need-array-set-from-at Inv-loop μ-loop
 array-set-from-at c = let loop = c .before .before .before in omega (arith, loop .before .before .before .before .before .pre .1)

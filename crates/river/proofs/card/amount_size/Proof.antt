@@ -2,12 +2,13 @@
 -- Assumes nothing.
 use borrow.Author.Needs.{needs}
 use mathlib.Core.Path.{sym, _∙_}
-use Rattle.river.proofs.card.Rows.{amount-long}
+use Rattle.river.specs.Records.{described}
+use Rattle.river.proofs.card.Described.{record-long}
 use Rattle.river.proofs.card.amount_size.Statement.{statement}
 use Rattle.river.proofs.card.amount_size.Tie as tie
 
 returns-2 : tie.Need-returns-2
-returns-2 c = rw (c .before .enum-told2 .given .1) (c .layout-size .ensures ∙ sym (amount-long (c .before .before .before .args .layout) (c .before .enum-told2 .given .0 .0)))
+returns-2 c = rw (c .before .enum-told2 .given .1) (c .layout-size .ensures ∙ sym (record-long (described (c .before .before .before .args .layout)) (c .before .enum-told2 .given .0 .0, tt)))
 
 pub amount-size-spec : {M : Type 1} → statement M
 amount-size-spec =

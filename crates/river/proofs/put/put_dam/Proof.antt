@@ -2,7 +2,7 @@
 -- Assumes nothing.
 use borrow.Author.Needs.{needs}
 use native.Mathlib.Omega.{arith}
-use Rattle.river.proofs.bytes.Puts.{chain, put-none}
+use Rattle.river.proofs.bytes.Puts.{chain, held, put-none}
 use Rattle.river.proofs.put.put_dam.Statement.{statement}
 use Rattle.river.proofs.put.put_dam.Tie as tie
 
@@ -23,7 +23,8 @@ returns-2 c =
     let d = c .before .before in
     let b = d .before .before .before .before in
     let a = b .before .before .before .before in
-    rw (a .before .before .before .dam .given .1) (chain (chain (a .put-pair .ensures) (b .put-two .ensures)) (d .put-four .ensures))
+    let dam = a .before .before .before .dam in
+    rw (dam .given .1) (chain (chain (a .put-pair .ensures) (held (dam .given .0 .0) (search needs) (b .put-two .ensures))) (d .put-four .ensures))
 
 pub put-dam-spec : {M : Type 1} → statement M
 put-dam-spec =

@@ -2,7 +2,7 @@
 -- Assumes nothing.
 use borrow.Author.Needs.{needs}
 use native.Mathlib.Omega.{arith}
-use Rattle.river.proofs.bytes.Puts.{chain, put-none}
+use Rattle.river.proofs.bytes.Puts.{chain, held, put-none}
 use Rattle.river.proofs.put.put_factors.Statement.{statement}
 use Rattle.river.proofs.put.put_factors.Tie as tie
 
@@ -23,7 +23,8 @@ returns-2 c =
     let d = c .before .before in
     let b = d .before .before .before .before in
     let a = b .before .before .before .before in
-    rw (a .before .before .before .factors .given .1) (chain (chain (a .put-pair .ensures) (b .put-two .ensures)) (d .put-two2 .ensures))
+    let factors = a .before .before .before .factors in
+    rw (factors .given .1) (chain (chain (a .put-pair .ensures) (held (factors .given .0 .0) (search needs) (b .put-two .ensures))) (held (factors .given .0 .1 .0) (search needs) (d .put-two2 .ensures)))
 
 pub put-factors-spec : {M : Type 1} → statement M
 put-factors-spec =

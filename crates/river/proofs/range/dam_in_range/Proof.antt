@@ -2,22 +2,23 @@
 -- Assumes nothing.
 use mathlib.Core.Path.{sym, ap}
 use borrow.Author.Needs.{needs}
-use Rattle.river.specs.Card.{damInRange}
-use Rattle.river.proofs.Tests.{tests}
+use Rattle.river.specs.Fields.{within, allWithin}
+use Rattle.river.specs.Records.{damRecord}
+use Rattle.river.proofs.Tests.{ranges}
 use Rattle.river.proofs.range.dam_in_range.Statement.{statement}
 use Rattle.river.proofs.range.dam_in_range.Tie as tie
 
 returns : tie.Need-returns
-unfolding damInRange
-returns c = sym (ap damInRange (c .enum-told .given .1))
+unfolding within allWithin
+returns c = sym (ap (damRecord .inRange) (c .enum-told .given .1))
 
 returns-2 : tie.Need-returns-2
-unfolding damInRange
-returns-2 c = rw (c .before .before .d .given .1) (search tests)
+unfolding within allWithin
+returns-2 c = rw (c .before .before .d .given .1) (search ranges)
 
 returns-3 : tie.Need-returns-3
-unfolding damInRange
-returns-3 c = rw (c .before .before .d .given .1) (search tests)
+unfolding within allWithin
+returns-3 c = rw (c .before .before .d .given .1) (search ranges)
 
 pub dam-in-range-spec : {M : Type 1} → statement M
 dam-in-range-spec = tie.close (tie.spec (λ enum-known-d. search needs) (λ enum-told. search needs) returns returns-2 returns-3)

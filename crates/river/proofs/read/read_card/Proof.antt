@@ -7,7 +7,8 @@ use Prim.Native.Nat.{ℕ}
 use denote.Ref.{now}
 use lib.ListN.{drop}
 use native.Mathlib.Omega.{arith}
-use Rattle.river.specs.Card.{withOptionals, reachBytes, takeRecord, pressureRecord, sludgeRecord, nitrificationRecord, optional}
+use Rattle.river.specs.Card.{withOptionals, reachBytes, optional}
+use Rattle.river.specs.Records.{nitrificationRecord, takeRecord, pressureRecord, sludgeRecord}
 use Rattle.river.specs.Optional.{Values, readOptionals}
 use Rattle.river.specs.Read.{cardAt, reachOf}
 use Rattle.river.specs.Refusal.{Answer, accepted, after}

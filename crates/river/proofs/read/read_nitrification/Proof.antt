@@ -4,6 +4,7 @@ use borrow.Author.Needs.{needs}
 use borrow.Author.Tests.{le-leb, lt-leb, eq-eqb, ne-eqb, not-true, not-false}
 use Rattle.river.specs.Optional.{readOptional}
 use Rattle.river.specs.Refusal.{need, choose}
+use Rattle.river.proofs.card.Rows.{nitrification-test}
 use Rattle.river.proofs.read.read_nitrification.Statement.{statement}
 use Rattle.river.proofs.read.read_nitrification.Tie as tie
 
@@ -24,7 +25,7 @@ returns-3 c =
     let load = n .before in
     let e2 = load .before .before .before in
     let e1 = e2 .before in
-    rw (c .refuse2 .ensures, ← e1 .before .marked .ensures, not-false (e1 .before .marked .result) (e1 .if1 .left), le-leb _ _ (e2 .if2 .left), ← load .before .before .two-at .ensures, ← load .before .four-at .ensures, ← load .four-at2 .ensures, ← n .nitrification-in-range .ensures, not-true (n .nitrification-in-range .result) (c .before .if3 .taken))
+    rw (c .refuse2 .ensures, ← e1 .before .marked .ensures, not-false (e1 .before .marked .result) (e1 .if1 .left), le-leb _ _ (e2 .if2 .left), ← load .before .before .two-at .ensures, ← load .before .four-at .ensures, ← load .four-at2 .ensures, nitrification-test, ← n .nitrification-in-range .ensures, not-true (n .nitrification-in-range .result) (c .before .if3 .taken))
 
 returns-4 : tie.Need-returns-4
 unfolding readOptional need choose
@@ -34,7 +35,7 @@ returns-4 c =
     let load = n .before in
     let e2 = load .before .before .before in
     let e1 = e2 .before in
-    rw (c .refuse3 .ensures, ← e1 .before .marked .ensures, not-false (e1 .before .marked .result) (e1 .if1 .left), le-leb _ _ (e2 .if2 .left), ← load .before .before .two-at .ensures, ← load .before .four-at .ensures, ← load .four-at2 .ensures, ← n .nitrification-in-range .ensures, not-false (n .nitrification-in-range .result) (z .before .if3 .left), ← z .four-at3 .ensures, ne-eqb (z .four-at3 .result) 0 (c .before .if4 .taken))
+    rw (c .refuse3 .ensures, ← e1 .before .marked .ensures, not-false (e1 .before .marked .result) (e1 .if1 .left), le-leb _ _ (e2 .if2 .left), ← load .before .before .two-at .ensures, ← load .before .four-at .ensures, ← load .four-at2 .ensures, nitrification-test, ← n .nitrification-in-range .ensures, not-false (n .nitrification-in-range .result) (z .before .if3 .left), ← z .four-at3 .ensures, ne-eqb (z .four-at3 .result) 0 (c .before .if4 .taken))
 
 returns-5 : tie.Need-returns-5
 unfolding readOptional need choose
@@ -44,7 +45,7 @@ returns-5 c =
     let load = n .before in
     let e2 = load .before .before .before in
     let e1 = e2 .before in
-    rw (← e1 .before .marked .ensures, not-false (e1 .before .marked .result) (e1 .if1 .left), le-leb _ _ (e2 .if2 .left), ← load .before .before .two-at .ensures, ← load .before .four-at .ensures, ← load .four-at2 .ensures, ← n .nitrification-in-range .ensures, not-false (n .nitrification-in-range .result) (z .before .if3 .left), ← z .four-at3 .ensures, eq-eqb (z .four-at3 .result) 0 (c .if4 .left))
+    rw (← e1 .before .marked .ensures, not-false (e1 .before .marked .result) (e1 .if1 .left), le-leb _ _ (e2 .if2 .left), ← load .before .before .two-at .ensures, ← load .before .four-at .ensures, ← load .four-at2 .ensures, nitrification-test, ← n .nitrification-in-range .ensures, not-false (n .nitrification-in-range .result) (z .before .if3 .left), ← z .four-at3 .ensures, eq-eqb (z .four-at3 .result) 0 (c .if4 .left))
 
 pub read-nitrification-spec : {M : Type 1} → statement M
 read-nitrification-spec =

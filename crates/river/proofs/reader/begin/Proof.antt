@@ -9,7 +9,7 @@ use denote.Ref.{now}
 use Rattle.river.specs.declared.read.Header.{Header}
 use Rattle.river.specs.Read.{readHeader, headerOf}
 use Rattle.river.specs.Refusal.{refused}
-use Rattle.river.specs.River.{factorsRecord}
+use Rattle.river.specs.Records.{factorsRecord}
 use Rattle.river.proofs.card.Optional.{optional-small}
 use Rattle.river.proofs.card.Rows.{sound-factors}
 use Rattle.river.proofs.reader.Reaches.{begun, halted}
