@@ -1,16 +1,15 @@
--- The entry's contract follows from its result and the buffer that it leaves: 0 is no refusal's result, and the figures read
--- back from the bytes are those of the definitions, for which demand 3 holds. Assumes nothing.
-pub mod Numbers
+-- The entry's contract follows from its result and the buffer that it leaves: the figures read back from the bytes are those of the definitions, for
+-- which demand 3 holds. Assumes nothing.
 pub mod Signed
 use mathlib.Core.Path.{_≡_, refl, sym, ap, _∙_, subst}
 use mathlib.Core.Logic.{_↔_}
 use mathlib.Core.Bool.{Bool, true, false, cond}
 use mathlib.Core.List.{List, _++_}
-use Prim.Native.Nat.{ℕ, zero, suc, _-_, _≤_, _<_}
+use Prim.Native.Nat.{ℕ, suc, _-_, _≤_, _<_}
 use native.Mathlib.Nat.{le-refl}
 use native.Mathlib.Omega.{arith}
 use borrow.Author.Tests.{lt-ltb, le-ltb, le-leb, lt-leb, leb-true}
-use lib.Dec.{eqb, leb→le}
+use lib.Dec.{eqb, leb→le, lit<}
 use lib.IntN.{ℤ, pos, negsuc}
 use lib.Signed.{_≤ℤ_}
 use lib.ListN.{length, drop}
@@ -31,9 +30,12 @@ use Rattle.report.specs.Status.{shownOxygen}
 use Rattle.report.specs.Program.{oxygenAt, criticalOxygen, usedAbove, statusOf, figuresOf, figuresAt, reportedAt, foot}
 use Rattle.report.specs.Distance.{allowanceAt, WithinAllowance}
 use Rattle.report.specs.Record.{hasNitrification, complement, fromComplement, recordSize, recordAt, readRecord, Figures}
-use Rattle.report.specs.Report.{recordOf, reportOf, reportSize, roomAnswer, reportAnswer, resultOf, bufferReported, figuresRead, Accepted, UsedUpAbove, Reports}
+use Rattle.report.specs.Answers.{resultBy, AnswersReport}
+use Rattle.report.specs.Call.{resultOf, leftBy}
+use Rattle.report.specs.Report.{recordOf, reportOf, reportSize, roomAnswer, reportAnswer, bufferReported, figuresRead, Accepted, UsedUpAbove, TellsReach, Reports}
 use Rattle.report.specs.Ties.{Tied}
 use Rattle.report.specs.held.Lines.{Ready}
+use Rattle.report.specs.declared.reporting.Reported.{Reported}
 use Rattle.report.proofs.Lowest.{lowest-first}
 use Rattle.report.proofs.Bounds.{Range}
 use Rattle.report.proofs.Orders.{reporting-order}
@@ -43,7 +45,8 @@ use Rattle.report.proofs.UsedAbove.{UsedReach, used-exactly}
 use Rattle.report.proofs.River.{IsRiver, river-of-file, head-in-range, instant-in-range, reach-tied, reach-within-allowance}
 use Rattle.report.proofs.record.Encoding.{Writable, record-length, read-back}
 use Rattle.report.proofs.record.Rows.{Begins, stands}
-use Rattle.report.proofs.Entry.Numbers.{Numbered, read-refusal, report-numbered}
+use Rattle.report.proofs.Calls.{IsAccepted, called, result-is}
+use Rattle.report.proofs.Calls.Numbers.{Numbered, needs, next, accept-numbered}
 
 -- two's complement holds the oxygen of an accepted river
 pub complement-in-range : (z : ℤ) → negsuc 1_640_000_383 ≤ℤ z → z ≤ℤ pos 20_000_128 → fromComplement (complement z) ≡ z
@@ -89,25 +92,29 @@ answers file {room} river =
 -- the record of each reach of a reported river stands at its place
 pub record-stands :
     (file before : List ℕ) {after : List ℕ} →
-    after ≡ bufferReported (reportAnswer file (length before)) before →
+    after ≡ leftBy bufferReported (reportAnswer file (length before)) before →
     (river : Accepted file (length before)) (i : ℕ) →
     i < length (river .cards) →
     Begins (recordOf (river .cards) i) (recordAt (recordSize (river .cards)) after i)
-unfolding bufferReported
+unfolding leftBy
 record-stands file before buffer river i l =
     rw (buffer, answers file river)
     (stands (recordOf (river .cards)) (recordSize (river .cards)) (λ j. record-length (hasNitrification (river .cards)) (reportedAt (river .cards) (suc j))) (length (river .cards)) i (drop (reportSize (river .cards)) before) l)
 
-module _ (file before : List ℕ) where
-  answered : (x : Answer (List Card)) → reportAnswer file (length before) ≡ x → Numbered x → resultOf x ≡ 0 → Accepted file (length before)
-  unfolding reportAnswer roomAnswer resultOf
-  answered (accepted cards) e n z =
-      let w = went (acceptFile file) _ e in
-      let p = passed _ 12 0 (accepted (w .value)) (w .then) in
-      record { cards = w .value; passes = w .first; holds = leb-true _ _ (p .test) }
-  answered (refused r) e n z = absurd (let h : ⊥ = omega arith in h)
+-- and what it answers is such a river
+answered : (file : List ℕ) {room : ℕ} → IsAccepted (reportAnswer file room) → Accepted file room
+unfolding reportAnswer roomAnswer
+answered file a =
+    let w = went (acceptFile file) _ (a .is) in
+    let p = passed _ 12 0 (accepted (w .value)) (w .then) in
+    record { cards = w .value; passes = w .first; holds = leb-true _ _ (p .test) }
 
-  module _ (bytes : AreBytes file) {after : List ℕ} (buffer : after ≡ bufferReported (reportAnswer file (length before)) before) (river : Accepted file (length before)) where
+numbered : (file : List ℕ) (room : ℕ) → Numbered (reportAnswer file room)
+unfolding reportAnswer roomAnswer
+numbered file room = next (acceptFile file) _ (accept-numbered file) (λ _. search (needs, lit<))
+
+module _ (file before : List ℕ) where
+  module _ (bytes : AreBytes file) {after : List ℕ} (buffer : after ≡ leftBy bufferReported (reportAnswer file (length before)) before) (river : Accepted file (length before)) where
     is-river : IsRiver (river .cards)
     is-river = river-of-file file bytes (river .passes)
 
@@ -145,60 +152,51 @@ module _ (file before : List ℕ) where
         let used = used-exactly (is-river .lawful) i l in
         ((λ e. used-told (used .0 (two .0 (sym (status-read i l) ∙ e)))), λ u. status-read i l ∙ two .1 (used .1 (used-meant u)))
 
--- a refusal leaves the buffer as it was
-left-alone : (x : Answer (List Card)) (before : List ℕ) → (resultOf x ≡ 0 → ⊥) → bufferReported x before ≡ before
-unfolding resultOf bufferReported
-left-alone (accepted cards) before h = absurd (h refl)
-left-alone (refused r) before h = refl
+    -- so the bytes tell all that the paper says of a reach
+    tells-reach : (i : ℕ) → i < length (river .cards) → TellsReach (river .cards) after i
+    unfolding figuresOf
+    tells-reach i l =
+        let card = cardOf (river .cards) (suc i) in
+        let up = above (river .cards) (suc i) in
+        let read = figures-read i l in
+        record {
+          figures = read;
+          whole = figures-whole i l;
+          depth = ap (λ (f : Figures). f .depth) read;
+          flow = ap (λ (f : Figures). f .flow) read;
+          status = status-read i l;
+          used-up-above = two-read i l;
+          tied = subst (Tied card (oxygenAt card up)) (sym read) (reach-tied is-river i l);
+          within =
+              λ N long.
+              subst (λ (f : Figures). WithinAllowance N card up f (allowanceAt (river .cards) (suc i))) (sym read)
+              (reach-within-allowance is-river i l N long);
+        }
 
 -- THEOREM: what the entry returns and leaves behind is all that the river file paper says of reporting, demand 3 included
 pub reports-of :
     (file before after : List ℕ) (result : ℕ) →
     AreBytes file →
     result ≡ resultOf (reportAnswer file (length before)) →
-    after ≡ bufferReported (reportAnswer file (length before)) before →
+    after ≡ leftBy bufferReported (reportAnswer file (length before)) before →
     Reports file before after result
-unfolding resultOf figuresOf
 reports-of file before after result bytes answer buffer =
     record {
-      answer = answer;
-      refuses = read-refusal (reportAnswer file (length before)) (report-numbered file (length before)) answer;
+      call =
+          called bufferReported (reportAnswer file (length before)) (numbered file (length before))
+          (answered file, λ river. record { value = river .cards; is = answers file river }) answer buffer;
       lawful = λ cards. accepts-exactly file cards bytes;
-      accepts = λ z. answered file before (reportAnswer file (length before)) refl (report-numbered file (length before)) (sym answer ∙ z);
-      zero = λ river. answer ∙ ap resultOf (answers file river);
-      buffer = buffer;
-      untouched = λ h. buffer ∙ left-alone (reportAnswer file (length before)) before (λ z. h (answer ∙ z));
-      figures = figures-read file before bytes buffer;
-      whole = figures-whole file before bytes buffer;
-      depth = λ river i l. ap (λ (f : Figures). f .depth) (figures-read file before bytes buffer river i l);
-      flow = λ river i l. ap (λ (f : Figures). f .flow) (figures-read file before bytes buffer river i l);
-      status = status-read file before bytes buffer;
-      used-up-above = two-read file before bytes buffer;
-      tied =
-          λ river i l.
-          subst (Tied (cardOf (river .cards) (suc i)) (oxygenAt (cardOf (river .cards) (suc i)) (above (river .cards) (suc i)))) (sym (figures-read file before bytes buffer river i l))
-          (reach-tied (is-river file before bytes buffer river) i l);
-      within =
-          λ river i l N long.
-          subst (λ (f : Figures). WithinAllowance N (cardOf (river .cards) (suc i)) (above (river .cards) (suc i)) f (allowanceAt (river .cards) (suc i))) (sym (figures-read file before bytes buffer river i l))
-          (reach-within-allowance (is-river file before bytes buffer river) i l N long);
+      each = tells-reach file before bytes buffer;
     }
 
--- the entry's contract for a refusal, and for a report
-module _ {file before : List ℕ} (bytes : AreBytes file) where
-  pub reports-refusal : {result : ℕ} {r : Refusal} → reportAnswer file (length before) ≡ refused r → result ≡ codeOf r → Reports file before before result
-  unfolding resultOf bufferReported
-  reports-refusal {result} e c =
-      reports-of file before before result bytes (c ∙ sym (ap resultOf e)) (sym (ap (λ (a : Answer (List Card)). bufferReported a before) e))
-
-  pub reports-river :
-      {after : List ℕ} {cards : List Card} →
-      reportAnswer file (length before) ≡ accepted cards →
-      after ≡ reportOf cards ++ drop (reportSize cards) before →
-      Reports file before after 0
-  unfolding resultOf bufferReported
-  reports-river {after} e b =
-      reports-of file before after 0 bytes (sym (ap resultOf e)) (b ∙ sym (ap (λ (a : Answer (List Card)). bufferReported a before) e))
+-- the entry's contract, by what reporting answers
+pub reports :
+    {file before after : List ℕ} {result : ℕ} (r : Reported) →
+    AreBytes file →
+    AnswersReport file before after r →
+    result ≡ resultBy (r .outcome) →
+    Reports file before after result
+reports {file} {before} {after} {result} r bytes h e = reports-of file before after result bytes (e ∙ result-is (r .outcome) h) (h .leaves)
 
 -- the answer for a file, by the outcome of reading and flow check and by the room
 module _ {file : List ℕ} {r : Acceptance} (h : Accepts file r) where

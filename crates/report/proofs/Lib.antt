@@ -18,6 +18,7 @@ pub mod River
 pub mod MeanOxygen
 pub mod Orders
 pub mod NoNitrification
+pub mod Calls
 pub mod Entry
 pub mod Means
 pub mod Reported

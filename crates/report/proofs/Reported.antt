@@ -24,7 +24,7 @@ module _ {file before after : List ℕ} {result : ℕ} (call : Reports file befo
   -- the bytes of a reach
   pub record-bytes : bytesRead (river .cards) after i ≡ recordOf (river .cards) i
   record-bytes =
-      let s = record-stands file before (call .buffer) river i l in
+      let s = record-stands file before (call .call .leaves) river i l in
       ap (take (recordSize (river .cards))) (s .is) ∙ take-at (recordOf (river .cards) i) (s .rest) (recordSize (river .cards)) (record-length (hasNitrification (river .cards)) (reportedAt (river .cards) (suc i)))
 
 -- two calls, and reaches with the same card and the same forest above them, outlets and the order of feeders aside

@@ -1,40 +1,38 @@
--- The contract of the rewriting entry follows from that of `river::rewrite`: 0 is no refusal's result.
--- Assumes nothing.
-use mathlib.Core.Path.{_≡_, refl, sym, ap, subst, _∙_}
+-- The contract of the rewriting entry follows from that of `river::rewrite`. Assumes nothing.
+use mathlib.Core.Path.{_≡_, refl, sym, ap, _∙_}
+use mathlib.Core.Logic.{_↔_}
 use mathlib.Core.List.{List}
 use Prim.Native.Nat.{ℕ}
-use native.Mathlib.Omega.{arith}
+use lib.Dec.{lit<}
 use lib.ListN.{length}
 use Rattle.river.specs.declared.refusal.Outcome.{Outcome}
-use Rattle.river.specs.Refusal.{Answer, outcomeOf}
-use Rattle.river.specs.Rewrite.{bufferRewritten, WritesBack}
-use Rattle.river.proofs.Answers.{no-refusal}
-use Rattle.report.specs.Report.{resultOf}
-use Rattle.report.specs.Rewrite.{Rewrites}
-use Rattle.report.proofs.Entry.Numbers.{Numbered, read-refusal, rewrite-numbered}
+use Rattle.river.specs.Read.{readFile}
+use Rattle.river.specs.Refusal.{Answer, accepted, refused}
+use Rattle.river.specs.Rewrite.{rewriteAnswer, bufferRewritten, Rewritable, WritesBack}
+use Rattle.river.proofs.Answers.{never, no-refusal}
+use Rattle.report.specs.Answers.{resultBy}
+use Rattle.report.specs.Call.{resultOf, leftBy}
+use Rattle.report.specs.Rewrite.{fileWritten, Rewrites}
+use Rattle.report.proofs.Calls.{IsAccepted, called, outcome-result}
+use Rattle.report.proofs.Calls.Numbers.{Numbered, needs, next, read-numbered}
 
-module _ {file before after : List ℕ} {result : ℕ} where
-  by-end : (o : Outcome) → WritesBack file before o after → result ≡ resultOf {A = Unit} (outcomeOf o tt) → Rewrites file before after result
-  unfolding resultOf bufferRewritten
-  by-end Outcome.Accepted w e =
-      record {
-        answer = e ∙ ap resultOf (w .answer);
-        refuses = λ h. absurd (h e);
-        exactly = ((λ _. w .exactly .0 refl), λ _. e);
-        written = λ _. w .buffer ∙ ap (λ (a : Answer Unit). bufferRewritten a file before) (sym (w .answer));
-        untouched = λ h. absurd (h e);
-      }
-  by-end (Outcome.Refused r) w e =
-      let numbered = rewrite-numbered file (length before) in
-      let not-zero : result ≡ 0 → ⊥ = λ z. omega (arith, subst Numbered (sym (w .answer)) numbered .0, z, e) in
-      record {
-        answer = e ∙ ap resultOf (w .answer);
-        refuses = read-refusal _ numbered (e ∙ ap resultOf (w .answer));
-        exactly = ((λ z. absurd (not-zero z)), λ p. no-refusal (sym (w .exactly .1 p)));
-        written = λ z. absurd (not-zero z);
-        untouched = λ _. w .buffer ∙ ap (λ (a : Answer Unit). bufferRewritten a file before) (sym (w .answer));
-      }
+numbered : (file : List ℕ) (room : ℕ) → Numbered (rewriteAnswer file room)
+unfolding rewriteAnswer
+numbered file room = next (readFile file) _ (read-numbered file) (λ _. search (needs, lit<))
+
+left-written : (x : Answer Unit) (file before : List ℕ) → bufferRewritten x file before ≡ leftBy (λ _. fileWritten file) x before
+unfolding bufferRewritten leftBy
+left-written (accepted u) file before = refl
+left-written (refused r) file before = refl
+
+module _ {file before after : List ℕ} where
+  -- rewriting is accepted exactly where the file can be rewritten
+  rewritable : (o : Outcome) → WritesBack file before o after → IsAccepted (rewriteAnswer file (length before)) ↔ Rewritable file (length before)
+  rewritable Outcome.Accepted w = ((λ _. w .exactly .0 refl), λ _. record { value = tt; is = sym (w .answer) })
+  rewritable (Outcome.Refused r) w = ((λ a. never (w .answer ∙ a .is)), λ h. no-refusal (sym (w .exactly .1 h)))
 
   -- the entry's contract, by the outcome of rewriting
-  pub rewrites : {o : Outcome} (p : Outcome) → WritesBack file before o after → o ≡ p → result ≡ resultOf {A = Unit} (outcomeOf p tt) → Rewrites file before after result
-  rewrites p w told e = by-end p (subst (λ (o : Outcome). WritesBack file before o after) told w) e
+  pub rewrites : {result : ℕ} (o : Outcome) → WritesBack file before o after → result ≡ resultBy o → Rewrites file before after result
+  rewrites o w e =
+      called (λ _. fileWritten file) (rewriteAnswer file (length before)) (numbered file (length before)) (rewritable o w)
+      (e ∙ outcome-result o tt ∙ ap resultOf (w .answer)) (w .buffer ∙ left-written (rewriteAnswer file (length before)) file before)

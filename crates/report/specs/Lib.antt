@@ -6,7 +6,9 @@ pub mod Distance
 pub mod Ties
 pub mod Locality
 pub mod Record
+pub mod Call
 pub mod Report
 pub mod Rewrite
 pub mod Mean
+pub mod Answers
 pub mod held

@@ -1,7 +1,6 @@
 -- "Mean oxygen" of the river file paper: the mean of a reach as it is reported, the mean of the river weighted by volume, and what a call of the entry
 -- returns and leaves in the buffer.
 use mathlib.Core.Path.{_≡_}
-use mathlib.Core.Logic.{_↔_}
 use mathlib.Core.Bool.{cond}
 use mathlib.Core.List.{List, _++_}
 use Prim.Native.Nat.{ℕ, zero, suc, _+_, _-_, _*_, _/_, _%_, _≤_, _<_}
@@ -14,17 +13,15 @@ use Rattle.river.specs.declared.source.Demand.the-variants.{Bod, Nitrogenous}
 use Rattle.river.specs.Bytes.{fourBytes, fourAt}
 use Rattle.flows.specs.Flow.{Feeders, reachFlow, cardOf, above}
 use Rattle.flows.specs.Head.{floor}
-use Rattle.flows.specs.held.Stored.{oxygenOf}
-use Rattle.river.specs.Refusal.{Answer, accepted, refused, refuse, need, after as then}
-use Rattle.flows.specs.Accept.{acceptFile, AcceptedFile}
+use Rattle.river.specs.Refusal.{Answer, accepted, need, after as then}
+use Rattle.flows.specs.Accept.{acceptFile}
 use Rattle.report.specs.Program.{demandAtHead, oxygenAtHead, usedAbove, statusOf}
 use Rattle.report.specs.Record.{complement, fromComplement}
 use Rattle.report.specs.Distance.{allowanceAt}
 use Rattle.report.specs.Ties.{NoChange}
 use Rattle.report.specs.ExactMean.{exactMeanOxygen, IsMean}
-use Rattle.report.specs.Report.{firstRows, resultOf}
-use Rattle.report.specs.declared.mean.RiverMean.{RiverMean}
-use Rattle.report.specs.declared.mean.RiverMean.the-variants.{Refused, Weighed}
+use Rattle.report.specs.Call.{Called, AcceptedExactly}
+use Rattle.report.specs.Report.{firstRows}
 use Rattle.report.specs.held.MeanAlong.{meanAlong}
 
 -- mean oxygen of a reach
@@ -96,20 +93,9 @@ meanRoomAnswer room cards = need (leb (meansSize cards) room) 12 0 (need (ltb 0 
 unfoldable pub meanAnswer : (file : List ℕ) (room : ℕ) → Answer (List Card)
 meanAnswer file room = then (acceptFile file) (meanRoomAnswer room)
 
--- the buffer afterwards: the means and then what stood there, and as it was after a refusal
-unfoldable pub bufferAveraged : Answer (List Card) → List ℕ → List ℕ
-bufferAveraged (accepted cards) before = meansOf cards ++ drop (meansSize cards) before
-bufferAveraged (refused r) before = before
-
--- an answer of the program: the river's mean, or the refusal
-abbrev pub meaningOf : RiverMean → Answer Weighted
-meaningOf (Refused r) = refused r
-meaningOf (Weighed units remainder) = accepted (record { units = oxygenOf units; remainder = remainder })
-
--- what the call on a file answers, and the buffer before and after it
-pub record Averages (file before after : List ℕ) (result : RiverMean) : Type 0 where
-  pub answer : meaningOf result ≡ then (meanAnswer file (length before)) (λ cards. accepted (riverMean cards))
-  pub buffer : after ≡ bufferAveraged (meanAnswer file (length before)) before
+-- the buffer with the means: the means and then what stood there
+abbrev pub bufferAveraged : List Card → (before : List ℕ) → List ℕ
+bufferAveraged cards before = meansOf cards ++ drop (meansSize cards) before
 
 -- the file's river is accepted and has volume of status 0 or 1, and a buffer of so many bytes can hold its means
 pub record Averaged (file : List ℕ) (room : ℕ) : Type 0 where
@@ -122,60 +108,57 @@ pub record Averaged (file : List ℕ) (room : ℕ) : Type 0 where
 unfoldable pub meanRead : (buffer : List ℕ) → ℕ → ℤ
 meanRead buffer i = fromComplement (fourAt (drop (meanBytes * i) buffer) 0)
 
--- a call of the entry on a file, with the buffer before and after and with the two numbers that it is lent, before and after, that returns the result
-pub record Means (file before after : List ℕ) (units₀ units : ℤ) (remainder₀ remainder : ℕ) (result : ℕ) : Type 0 where
-  -- the result, by the order of refusals
-  pub answer : result ≡ resultOf (meanAnswer file (length before))
-  -- any other than 0 has the number and the reach of the refusal
-  pub refuses : (result ≡ 0 → ⊥) → meanAnswer file (length before) ≡ refused (refuse (result % 256) (result / 256))
-  -- a file is accepted exactly if it is the file of a lawful river whose cards, with the rates in force, pass the flow rules
-  pub lawful : (cards : List Card) → (acceptFile file ≡ accepted cards) ↔ AcceptedFile file cards
-  -- the result is 0 exactly for an accepted river with volume of status 0 or 1 whose means the buffer can hold
-  pub accepts : result ≡ 0 → Averaged file (length before)
-  pub zero : Averaged file (length before) → result ≡ 0
-  -- the whole buffer: untouched by a refusal, else each reach's mean, and past the means what stood there
-  pub buffer : after ≡ bufferAveraged (meanAnswer file (length before)) before
-  -- a refused call writes no byte and neither number
-  pub untouched : (result ≡ 0 → ⊥) → (after ≡ before) × (units ≡ units₀) × (remainder ≡ remainder₀)
-  -- the mean of each reach, read back from its bytes, which is 0 at status 2
-  pub means : (river : Averaged file (length before)) (i : ℕ) → i < length (river .cards) → meanRead after i ≡ meanAt (river .cards) (suc i)
+-- what a call of the entry is lent: a buffer for the means of the reaches, and two numbers for the mean of the river
+pub record MeansLent : Type 0 where
+  pub buffer : List ℕ
+  pub mean : Weighted
+
+abbrev pub lent : (buffer : List ℕ) (units : ℤ) (remainder : ℕ) → MeansLent
+lent buffer units remainder = record { buffer = buffer; mean = record { units = units; remainder = remainder } }
+
+-- and what it writes there
+abbrev pub meansWritten : List Card → MeansLent → MeansLent
+meansWritten cards before = record { buffer = bufferAveraged cards (before .buffer); mean = riverMean cards }
+
+-- what the bytes of the means tell of reach i + 1
+pub record TellsMean (cards : List Card) (buffer : List ℕ) (i : ℕ) : Type 0 where
+  -- its mean, read back from its bytes
+  pub mean : meanRead buffer i ≡ meanAt cards (suc i)
+  -- at status 2 the mean is 0 and no volume counts, and at status 0 and 1 the whole volume does
   pub used-up-above :
-      (river : Averaged file (length before)) (i : ℕ) →
-      i < length (river .cards) →
-      statusOf (cardOf (river .cards) (suc i)) (above (river .cards) (suc i)) ≡ 2 →
-      (meanRead after i ≡ pos 0) × (countedVolumeAt (river .cards) (suc i) ≡ 0)
-  -- at status 0 and 1 the whole volume counts
-  pub counted :
-      (river : Averaged file (length before)) (i : ℕ) →
-      i < length (river .cards) →
-      statusOf (cardOf (river .cards) (suc i)) (above (river .cards) (suc i)) ≤ 1 →
-      countedVolumeAt (river .cards) (suc i) ≡ cardOf (river .cards) (suc i) .volume
-  -- the two numbers are the river's mean
-  pub river-mean : (river : Averaged file (length before)) → record { units = units; remainder = remainder } ≡ riverMean (river .cards)
-  -- of the means in the bytes: units × the volume that counts + remainder is the sum of volume × mean, also below zero
-  pub weighted :
-      (river : Averaged file (length before)) →
-      units *ℤ pos (countedVolume (river .cards)) +ℤ pos remainder ≡ weightedSum (λ i. countedVolumeAt (river .cards) (suc i)) (meanRead after) (length (river .cards))
-  pub remains : (river : Averaged file (length before)) → remainder < countedVolume (river .cards)
+      statusOf (cardOf cards (suc i)) (above cards (suc i)) ≡ 2 → (meanRead buffer i ≡ pos 0) × (countedVolumeAt cards (suc i) ≡ 0)
+  pub counted : statusOf (cardOf cards (suc i)) (above cards (suc i)) ≤ 1 → countedVolumeAt cards (suc i) ≡ cardOf cards (suc i) .volume
   -- oxygen that does not change along a reach of status 0 or 1 has its head value for its mean, to the unit
   pub constant :
-      (river : Averaged file (length before)) (i : ℕ) →
-      i < length (river .cards) →
-      statusOf (cardOf (river .cards) (suc i)) (above (river .cards) (suc i)) ≤ 1 →
-      NoChange (cardOf (river .cards) (suc i)) →
-      meanRead after i ≡ oxygenAtHead (cardOf (river .cards) (suc i)) (above (river .cards) (suc i))
-  -- the promised distance: at every reach of status 0 or 1, and for every series length from 40 on, the mean in the bytes is near the exact one
+      statusOf (cardOf cards (suc i)) (above cards (suc i)) ≤ 1 →
+      NoChange (cardOf cards (suc i)) →
+      meanRead buffer i ≡ oxygenAtHead (cardOf cards (suc i)) (above cards (suc i))
+  -- the promised distance: at status 0 and 1, and for every series length from 40 on, the mean is near the exact one
   pub within :
-      (river : Averaged file (length before)) (i : ℕ) →
-      i < length (river .cards) →
-      statusOf (cardOf (river .cards) (suc i)) (above (river .cards) (suc i)) ≤ 1 →
+      statusOf (cardOf cards (suc i)) (above cards (suc i)) ≤ 1 →
       (N : ℕ) →
       40 ≤ N →
-      distance (ofℤ (meanRead after i)) (exactMeanOxygen N (cardOf (river .cards) (suc i)) (above (river .cards) (suc i))) ≼ allowanceAt (river .cards) (suc i)
+      distance (ofℤ (meanRead buffer i)) (exactMeanOxygen N (cardOf cards (suc i)) (above cards (suc i))) ≼ allowanceAt cards (suc i)
   -- which is the integral of the oxygen formula, divided by the travel time
-  pub exact :
-      (river : Averaged file (length before)) (i : ℕ) →
-      i < length (river .cards) →
-      (N : ℕ) →
-      40 ≤ N →
-      IsMean N (cardOf (river .cards) (suc i)) (above (river .cards) (suc i))
+  pub exact : (N : ℕ) → 40 ≤ N → IsMean N (cardOf cards (suc i)) (above cards (suc i))
+
+-- what the two numbers tell of a river whose means stand in these bytes
+pub record TellsRiverMean (cards : List Card) (buffer : List ℕ) (units : ℤ) (remainder : ℕ) : Type 0 where
+  -- they are the river's mean
+  pub mean : record { units = units; remainder = remainder } ≡ riverMean cards
+  -- of the means in the bytes: units × the volume that counts + remainder is the sum of volume × mean, also below zero
+  pub weighted :
+      units *ℤ pos (countedVolume cards) +ℤ pos remainder ≡ weightedSum (λ i. countedVolumeAt cards (suc i)) (meanRead buffer) (length cards)
+  pub remains : remainder < countedVolume cards
+
+-- a call of the entry on a file, with the buffer and the two numbers that it is lent, before and after, that returns the result
+pub record Means (file before after : List ℕ) (units₀ units : ℤ) (remainder₀ remainder : ℕ) (result : ℕ) : Type 0 where
+  -- the result, which is 0 exactly for an accepted river with volume of status 0 or 1 whose means the buffer can hold, and all that was lent: the
+  -- whole buffer and both numbers
+  pub call :
+      Called (meanAnswer file (length before)) meansWritten (Averaged file (length before)) (lent before units₀ remainder₀) (lent after units remainder)
+      result
+  pub lawful : AcceptedExactly file
+  -- the bytes of each reach, and the two numbers
+  pub each : (river : Averaged file (length before)) (i : ℕ) → i < length (river .cards) → TellsMean (river .cards) after i
+  pub all : (river : Averaged file (length before)) → TellsRiverMean (river .cards) after units remainder

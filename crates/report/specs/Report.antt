@@ -3,11 +3,11 @@
 use mathlib.Core.Path.{_≡_}
 use mathlib.Core.Logic.{_↔_}
 use mathlib.Core.List.{List, [], _++_}
-use Prim.Native.Nat.{ℕ, zero, suc, _*_, _/_, _%_, _≤_, _<_}
+use Prim.Native.Nat.{ℕ, zero, suc, _*_, _≤_, _<_}
 use lib.Dec.{leb}
 use lib.ListN.{length, take, drop}
 use Rattle.river.specs.declared.card.Card.{Card}
-use Rattle.river.specs.Refusal.{Answer, accepted, refused, refuse, need, after, codeOf}
+use Rattle.river.specs.Refusal.{Answer, accepted, refused, need, after}
 use Rattle.river.specs.declared.refusal.Refusal.{Refusal}
 use Rattle.river.specs.River.{River}
 use Rattle.river.specs.Read.{readFile}
@@ -17,7 +17,8 @@ use Rattle.report.specs.Distance.{allowanceAt, WithinAllowance}
 use Rattle.report.specs.Ties.{Tied}
 use Rattle.report.specs.Locality.{LiesAbove}
 use Rattle.report.specs.Record.{hasNitrification, Figures, encodeRecord, recordSize, recordAt, readRecord}
-use Rattle.flows.specs.Accept.{acceptFile, AcceptedFile}
+use Rattle.flows.specs.Accept.{acceptFile}
+use Rattle.report.specs.Call.{Called, AcceptedExactly}
 
 -- the first n of some rows of bytes, one behind the other
 unfoldable pub firstRows : (ℕ → List ℕ) → ℕ → List ℕ
@@ -43,15 +44,9 @@ roomAnswer room cards = need (leb (reportSize cards) room) 12 0 (accepted cards)
 unfoldable pub reportAnswer : (file : List ℕ) (room : ℕ) → Answer (List Card)
 reportAnswer file room = after (acceptFile file) (roomAnswer room)
 
--- the result: 0 where an answer is accepted, and number + 256 × reach for a refusal
-unfoldable pub resultOf : {A : Type 0} → Answer A → ℕ
-resultOf (accepted a) = 0
-resultOf (refused r) = codeOf r
-
--- the buffer afterwards: the report and then what stood there, and as it was after a refusal
-unfoldable pub bufferReported : Answer (List Card) → List ℕ → List ℕ
-bufferReported (accepted cards) before = reportOf cards ++ drop (reportSize cards) before
-bufferReported (refused r) before = before
+-- the buffer with a report: the report and then what stood there
+abbrev pub bufferReported : List Card → (before : List ℕ) → List ℕ
+bufferReported cards before = reportOf cards ++ drop (reportSize cards) before
 
 -- the file's river is accepted, and a buffer of so many bytes can hold its report
 pub record Accepted (file : List ℕ) (room : ℕ) : Type 0 where
@@ -74,63 +69,32 @@ pub record UsedUpAbove (cards : List Card) (buffer : List ℕ) (i : ℕ) : Type 
   pub lies-above : LiesAbove cards place i
   pub used-up : 1 ≤ figuresRead cards buffer place .status
 
+-- what the bytes of a report tell of reach i + 1
+pub record TellsReach (cards : List Card) (buffer : List ℕ) (i : ℕ) : Type 0 where
+  -- its record, read back from its bytes: what "Oxygen used up" reports of the program's own figures
+  pub figures : figuresRead cards buffer i ≡ reportedAt cards (suc i)
+  -- which at status 0 and 1 are these figures themselves: the head by "Head of a reach", foot and critical point by the program's own factors
+  pub whole : figuresRead cards buffer i .status ≤ 1 → figuresRead cards buffer i ≡ figuresAt cards (suc i)
+  -- the named counts: depth and flow are those of "Flows and depth"
+  pub depth : figuresRead cards buffer i .depth ≡ depthAt cards (suc i)
+  pub flow : figuresRead cards buffer i .flow ≡ flowAt cards (suc i)
+  -- the status: that of the definition, and 2 exactly where a reach above has status 1 or 2 in the bytes
+  pub status : figuresRead cards buffer i .status ≡ statusOf (cardOf cards (suc i)) (above cards (suc i))
+  pub used-up-above : (figuresRead cards buffer i .status ≡ 2) ↔ UsedUpAbove cards buffer i
+  -- the ties, the critical point and what the status says of them, on the program's oxygen at each instant
+  pub tied : Tied (cardOf cards (suc i)) (oxygenAt (cardOf cards (suc i)) (above cards (suc i))) (figuresRead cards buffer i)
+  -- demand 3: for every series length from 40 on, the demands are near the exact ones, and oxygen at status 0 and 1
+  pub within :
+      (N : ℕ) → 40 ≤ N → WithinAllowance N (cardOf cards (suc i)) (above cards (suc i)) (figuresRead cards buffer i) (allowanceAt cards (suc i))
+
 -- a call on a file, with the report buffer before and after, that returns the result
 pub record Reports (file before after : List ℕ) (result : ℕ) : Type 0 where
-  -- the result, by the order of refusals
-  pub answer : result ≡ resultOf (reportAnswer file (length before))
-  -- any other than 0 has the number and the reach of the refusal
-  pub refuses : (result ≡ 0 → ⊥) → reportAnswer file (length before) ≡ refused (refuse (result % 256) (result / 256))
-  -- a file is accepted exactly if it is the file of a lawful river whose cards, with the rates in force, pass the flow rules
-  pub lawful : (cards : List Card) → (acceptFile file ≡ accepted cards) ↔ AcceptedFile file cards
-  -- the result is 0 exactly for an accepted river whose report the buffer can hold
-  pub accepts : result ≡ 0 → Accepted file (length before)
-  pub zero : Accepted file (length before) → result ≡ 0
-  -- the whole buffer: untouched by a refusal, else each reach's record, and past the report what stood there
-  pub buffer : after ≡ bufferReported (reportAnswer file (length before)) before
-  -- in short: a refused call writes no byte
-  pub untouched : (result ≡ 0 → ⊥) → after ≡ before
-  -- the record of each reach, read back from its bytes: what "Oxygen used up" reports of the program's own figures
-  pub figures :
-      (river : Accepted file (length before)) (i : ℕ) →
-      i < length (river .cards) →
-      figuresRead (river .cards) after i ≡ reportedAt (river .cards) (suc i)
-  -- which at status 0 and 1 are these figures themselves: the head by "Head of a reach", foot and critical point by the program's own factors
-  pub whole :
-      (river : Accepted file (length before)) (i : ℕ) →
-      i < length (river .cards) →
-      figuresRead (river .cards) after i .status ≤ 1 →
-      figuresRead (river .cards) after i ≡ figuresAt (river .cards) (suc i)
-  -- the named counts: depth and flow in the bytes are those of "Flows and depth"
-  pub depth :
-      (river : Accepted file (length before)) (i : ℕ) →
-      i < length (river .cards) →
-      figuresRead (river .cards) after i .depth ≡ depthAt (river .cards) (suc i)
-  pub flow :
-      (river : Accepted file (length before)) (i : ℕ) →
-      i < length (river .cards) →
-      figuresRead (river .cards) after i .flow ≡ flowAt (river .cards) (suc i)
-  -- the status in the bytes: that of the definition, and 2 exactly where a reach above has status 1 or 2 in the bytes
-  pub status :
-      (river : Accepted file (length before)) (i : ℕ) →
-      i < length (river .cards) →
-      figuresRead (river .cards) after i .status ≡ statusOf (cardOf (river .cards) (suc i)) (above (river .cards) (suc i))
-  pub used-up-above :
-      (river : Accepted file (length before)) (i : ℕ) →
-      i < length (river .cards) →
-      (figuresRead (river .cards) after i .status ≡ 2) ↔ UsedUpAbove (river .cards) after i
-  -- the ties, the critical point and what the status says of them, on the figures in the bytes and the program's oxygen at each instant
-  pub tied :
-      (river : Accepted file (length before)) (i : ℕ) →
-      i < length (river .cards) →
-      Tied (cardOf (river .cards) (suc i)) (oxygenAt (cardOf (river .cards) (suc i)) (above (river .cards) (suc i))) (figuresRead (river .cards) after i)
-  -- demand 3: at every reach, and for every series length from 40 on, the demands in the bytes are near the exact ones, and oxygen at status 0 and 1
-  pub within :
-      (river : Accepted file (length before)) (i : ℕ) →
-      i < length (river .cards) →
-      (N : ℕ) →
-      40 ≤ N →
-      WithinAllowance N (cardOf (river .cards) (suc i)) (above (river .cards) (suc i)) (figuresRead (river .cards) after i)
-      (allowanceAt (river .cards) (suc i))
+  -- the result, which is 0 exactly for an accepted river whose report the buffer can hold, and the whole buffer: untouched by a refusal, else
+  -- each reach's record, and past the report what stood there
+  pub call : Called (reportAnswer file (length before)) bufferReported (Accepted file (length before)) before after result
+  pub lawful : AcceptedExactly file
+  -- the bytes of each reach
+  pub each : (river : Accepted file (length before)) (i : ℕ) → i < length (river .cards) → TellsReach (river .cards) after i
 
 -- the size of a file's records, by the answer of reading: 0 where it refuses
 unfoldable pub sizeAnswer : Answer River → ℕ

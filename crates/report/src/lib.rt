@@ -4,17 +4,17 @@ pub mod lines;
 pub mod mean;
 pub mod profile;
 pub mod record;
+pub mod reporting;
 pub mod status;
 
-use flows::accept;
 use flows::head::STORED_ZERO;
-use mean::RiverMean;
 use river::file::read_file;
 use river::refusal;
 use river::refusal::Outcome;
 use river::rewrite;
 ghost use mathlib.Core.Path.{_≡_};
 ghost use Prim.Native.Nat.{_/_, _%_};
+ghost use Rattle.report.specs.Answers.{resultBy};
 ghost use Rattle.report.specs.Report.{Reports, TellsSize};
 ghost use Rattle.report.specs.Rewrite.{Rewrites};
 ghost use Rattle.report.specs.Mean.{Means};
@@ -34,24 +34,24 @@ pub fn refusal_reach(result: u32) -> u32
     result / 256
 }
 
+// The result of a call, by its outcome.
+fn result_of(outcome: Outcome) -> u32
+    ensures { λ r. ⌜ r ≡ resultBy outcome ⌝ }
+{
+    match outcome {
+        Outcome::Refused(r) => refusal::code(r),
+        Outcome::Accepted => 0,
+    }
+}
+
 // The report of a river file: 0, or the number and 256 times the reach of a refusal.
 #[no_mangle]
 pub extern "C" fn xylandreo_report(file: &[u8], report: &mut [u8]) -> u32
     ensures { λ r. ⌜ Reports (now (file .entry)) (now (report .entry)) (now (report .exit)) r ⌝ }
 {
-    let river = accept::accept(file);
-    let outcome = river.outcome;
-    match outcome {
-        Outcome::Refused(r) => refusal::code(r),
-        Outcome::Accepted => {
-            let size = record::report_size(river.cards);
-            if report.len() < size {
-                return refusal::code(refusal::refuse(12, 0));
-            }
-            lines::report_all(river.cards, river.flows, report);
-            0
-        }
-    }
+    let answer = reporting::report(file, report);
+    let outcome = answer.outcome;
+    result_of(outcome)
 }
 
 // How many bytes the records in the report of a river file have each, which is told with no flow check: 0 for a file that reading refuses.
@@ -73,10 +73,7 @@ pub extern "C" fn xylandreo_record_size(file: &[u8]) -> u32
 pub extern "C" fn xylandreo_rewrite(file: &[u8], out: &mut [u8]) -> u32
     ensures { λ r. ⌜ Rewrites (now (file .entry)) (now (out .entry)) (now (out .exit)) r ⌝ }
 {
-    match rewrite::rewrite(file, out) {
-        Outcome::Refused(r) => refusal::code(r),
-        Outcome::Accepted => 0,
-    }
+    result_of(rewrite::rewrite(file, out))
 }
 
 // Stored units as a signed number.
@@ -98,15 +95,11 @@ pub extern "C" fn xylandreo_mean(
     ensures { λ r. ⌜ Means (now (file .entry)) (now (means .entry)) (now (means .exit)) (now (units .entry)) (now (units .exit)) (now (remainder .entry)) (now (remainder .exit)) r ⌝ }
 {
     let answer = mean::mean(file, means);
-    match answer {
-        RiverMean::Refused(r) => refusal::code(r),
-        RiverMean::Weighed {
-            units: stored,
-            remainder: rest,
-        } => {
-            *units = signed(stored);
-            *remainder = rest;
-            0
-        }
-    }
+    let outcome = answer.outcome;
+    let Outcome::Accepted = outcome else {
+        return result_of(outcome);
+    };
+    *units = signed(answer.units);
+    *remainder = answer.remainder;
+    0
 }

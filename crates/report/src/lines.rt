@@ -26,6 +26,7 @@ ghost use Rattle.river.specs.declared.source.Demand.the-variants.{Nitrogenous};
 ghost use Rattle.river.specs.Source.{rateOf};
 ghost use Rattle.flows.specs.held.Stored.{oxygenOf};
 ghost use Rattle.report.specs.Program.{figuresBelow};
+ghost use Rattle.report.specs.Record.{hasNitrification};
 ghost use Rattle.report.specs.held.LineFigures.{figuresIn};
 ghost use Rattle.report.specs.held.Lines.{Ready, LineReady, HeadFits, LineAt, HeadBy, LineBy, PlacedAt, ReportedBy};
 ghost use Rattle.report.specs.Report.{reportOf, reportSize};
@@ -131,13 +132,12 @@ pub fn report_reach(
     }
 }
 
-// Puts the records of all reaches in their places.
-pub fn report_all(cards: Cards, flows: FlowTable, report: &mut [u8])
-    requires { ⌜ Ready (cardList cards) flows × (reportSize (cardList cards) ≤ length (now report)) ⌝ }
+// Puts the records of all reaches in their places, by whether their river has nitrification.
+pub fn report_all(cards: Cards, flows: FlowTable, nitrified: bool, report: &mut [u8])
+    requires { ⌜ Ready (cardList cards) flows × (reportSize (cardList cards) ≤ length (now report)) × (nitrified ≡ hasNitrification (cardList cards)) ⌝ }
     ensures { λ _. ⌜ now (report .exit) ≡ reportOf (cardList cards) ++ drop (reportSize (cardList cards)) (now (report .entry)) ⌝ }
 {
     let count = flow::reach_count(cards);
-    let nitrified = record::has_nitrification(cards);
     let size = record::record_bytes(nitrified);
     let mut feet = head::no_feet();
     let mut used = [false; status::OUTLETS];

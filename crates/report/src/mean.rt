@@ -42,7 +42,8 @@ ghost use Rattle.report.specs.held.Lines.{Ready, LineReady, HeadFits, Li
 ghost use Rattle.report.specs.Program.{figuresBelow};
 ghost use Rattle.report.specs.Status.{isUsed};
 ghost use Rattle.report.specs.Report.{firstRows};
-ghost use Rattle.report.specs.Mean.{meanBytes, Averages};
+ghost use Rattle.report.specs.Mean.{meanBytes};
+ghost use Rattle.report.specs.Answers.{AnswersMeans};
 ghost use Rattle.report.specs.held.MeanLines.{demandsAlong, PassageReady, HandsOn, PassageBelow, PassedBelow, TellsNeverBelow, AveragedBy, weighedWith, RoomToWeigh, Divisible, quotientOf, AllAveraged, storedRow};
 
 // How many bytes a mean has.
@@ -92,10 +93,12 @@ pub struct Quotient {
     pub remainder: u64,
 }
 
-// The answer of the call: the mean of a river weighted by volume, its units stored, or a refusal.
-pub enum RiverMean {
-    Refused(Refusal),
-    Weighed { units: u32, remainder: u64 },
+// The answer of the call: its outcome, and beside it how many reaches an accepted river has and its mean weighted by volume, the units stored.
+pub struct RiverMean {
+    pub outcome: Outcome,
+    pub count: usize,
+    pub units: u32,
+    pub remainder: u64,
 }
 
 // Nitrogenous BOD along a reach that starts with so many parts. Without nitrification all of it stays.
@@ -295,27 +298,41 @@ pub fn put_table(means: &mut [u8], stored: &[u32; REACHES], count: usize)
     }
 }
 
+// A refusal, and no mean.
+fn refused(r: Refusal) -> RiverMean
+    ensures { λ x. ⌜ x .outcome ≡ Outcome.Refused r ⌝ }
+{
+    RiverMean {
+        outcome: Outcome::Refused(r),
+        count: 0,
+        units: 0,
+        remainder: 0,
+    }
+}
+
 // The mean oxygen of each reach of a river file, in four bytes each, and the mean of the river, or a refusal, which writes nothing.
 pub fn mean(file: &[u8], means: &mut [u8]) -> RiverMean
-    ensures { λ r. ⌜ Averages (now (file .entry)) (now (means .entry)) (now (means .exit)) r ⌝ }
+    ensures { λ r. ⌜ AnswersMeans (now (file .entry)) (now (means .entry)) (now (means .exit)) r ⌝ }
 {
     let river = accept::accept(file);
     let outcome = river.outcome;
     match outcome {
-        Outcome::Refused(r) => RiverMean::Refused(r),
+        Outcome::Refused(r) => refused(r),
         Outcome::Accepted => {
             let count = flow::reach_count(river.cards);
             if means.len() < MEAN_SIZE * count {
-                return RiverMean::Refused(refusal::refuse(12, 0));
+                return refused(refusal::refuse(12, 0));
             }
             let table = average_all(river.cards, river.flows);
             let weights = table.weights;
             if weights.volume == 0 {
-                return RiverMean::Refused(refusal::refuse(16, 0));
+                return refused(refusal::refuse(16, 0));
             }
             put_table(means, &table.mean, count);
             let q = divide(weights);
-            RiverMean::Weighed {
+            RiverMean {
+                outcome,
+                count,
                 units: q.units,
                 remainder: q.remainder,
             }

@@ -14,7 +14,6 @@ ghost use Rattle.river.specs.Card.{cardList};
 ghost use Rattle.flows.specs.held.Stored.{oxygenOf};
 ghost use Rattle.report.specs.Record.{isNitrified, hasNitrification, complement, fromComplement, RP, nitrogenousBytes, encodeNitrogenous, encodeRecord, recordBytes, recordSize, recordAt, nitrogenousAt, readRecord};
 ghost use Rattle.report.specs.held.LineFigures.{figuresIn};
-ghost use Rattle.report.specs.Report.{reportSize};
 
 // How many bytes an `RP` record has, and an `RN` record.
 pub const RP_SIZE: usize = 30;
@@ -86,14 +85,6 @@ pub fn record_size(cards: Cards) -> usize
     ensures { λ r. ⌜ r ≡ recordSize (cardList cards) ⌝ }
 {
     record_bytes(has_nitrification(cards))
-}
-
-// How many bytes a river's report has.
-pub fn report_size(cards: Cards) -> usize
-    requires { ⌜ length (cardList cards) ≤ 128 ⌝ }
-    ensures { λ r. ⌜ r ≡ reportSize (cardList cards) ⌝ }
-{
-    record_size(cards) * flow::reach_count(cards)
 }
 
 // Stored oxygen in two's complement, and back: the two differ in the topmost bit.

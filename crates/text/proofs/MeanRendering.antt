@@ -35,13 +35,13 @@ module _ {file before after : List ℕ} {units₀ units : ℤ} {remainder₀ rem
       meanLines (meanHeld after) count ++ riverLine (record { units = oxygenOf stored; remainder = remainder }) ≡ meanText file
   unfolding meanTextOf
   means-are stored n e z =
-      let river = means .accepts z in
+      let river = means .call .exactly .0 z in
       rw (n, e, counted bytes (river .passes) .0)
-      (ap₂ _++_ (same-lines (meanHeld after) (meanAt (river .cards)) (length (river .cards)) (means .means river)) (ap riverLine (means .river-mean river))
+      (ap₂ _++_ (same-lines (meanHeld after) (meanAt (river .cards)) (length (river .cards)) (λ i l. means .each river i l .mean)) (ap riverLine (means .all river .mean))
       ∙ sym (ap meanTextOf (averaged file river))
       ∙ by-room)
 
   -- any other: its number and reach are the refusal's
   pub refusal-is : (result ≡ 0 → ⊥) → refusalLine (result % 256) (result / 256) ≡ meanText file
   unfolding meanTextOf
-  refusal-is h = sym (ap meanTextOf (means .refuses h)) ∙ by-room
+  refusal-is h = sym (ap meanTextOf (means .call .refuses h)) ∙ by-room

@@ -64,19 +64,19 @@ module _ {file : List ℕ} (bytes : AreBytes file) where
     pub lines-are : {size : ℕ} → TellsSize file size → result ≡ 0 → linesOf (ltb plainBytes size) (recorded (ltb plainBytes size) after) (twoAt file 2) ≡ textOf (acceptFile file)
     unfolding textOf
     lines-are tells z =
-        let river = reports .accepts z in
+        let river = reports .call .exactly .0 z in
         let nitrified = hasNitrification (river .cards) in
         rw (nitrified-is (river .passes) tells, counted (river .passes) .0)
-        (same-lines nitrified (recorded nitrified after) (reportedAt (river .cards)) (length (river .cards)) (reports .figures river)
+        (same-lines nitrified (recorded nitrified after) (reportedAt (river .cards)) (length (river .cards)) (λ i l. reports .each river i l .figures)
         ∙ sym (ap textOf (river .passes)))
 
     -- any other: its number and reach are the refusal's
     refusal-of : (x : Answer (List Card)) → acceptFile file ≡ x → (result ≡ 0 → ⊥) → refusalLine (result % 256) (result / 256) ≡ textOf x
     unfolding textOf reportAnswer
     refusal-of (accepted cards) e h =
-        absurd (h (reports .zero (record { cards = cards; passes = e; holds = rw long (mul-le-mul (record-bounds (hasNitrification cards) .1) (counted e .1)) })))
+        absurd (h (reports .call .exactly .1 (record { cards = cards; passes = e; holds = rw long (mul-le-mul (record-bounds (hasNitrification cards) .1) (counted e .1)) })))
     refusal-of (refused r) e h =
-        let same : refuse (result % 256) (result / 256) ≡ r = cc (reports .refuses h, after-refused (acceptFile file) _ e) in
+        let same : refuse (result % 256) (result / 256) ≡ r = cc (reports .call .refuses h, after-refused (acceptFile file) _ e) in
         ap (λ (x : Refusal). refusalLine (x .number) (x .reach)) same
 
     pub refusal-is : (result ≡ 0 → ⊥) → refusalLine (result % 256) (result / 256) ≡ textOf (acceptFile file)

@@ -21,7 +21,7 @@ put-means-requires c κs =
     let n = a .before .before .before in
     let x = n .before .before in
     let s = x .before .before .before .before in
-    let river = x .xylandreo-mean .ensures .accepts (n .before .if1 .taken) in
+    let river = x .xylandreo-mean .ensures .call .exactly .0 (n .before .if1 .taken) in
     let count = counted (are-bytes s) (river .passes) in
     rw (n .two-at .ensures, count .0)
     (omega (arith, count .1, river .holds, x .xylandreo-mean .kept .1 .0, a .put-means-arg .given))

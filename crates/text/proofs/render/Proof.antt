@@ -19,7 +19,7 @@ put-lines-requires c κs =
     let t = s .before in
     let x = t .before .before in
     let file = are-bytes (x .before .before) in
-    let river = x .xylandreo-report .ensures .accepts (t .if1 .taken) in
+    let river = x .xylandreo-report .ensures .call .exactly .0 (t .if1 .taken) in
     let n = counted file (river .passes) in
     rw (nitrified-is file (river .passes) (s .xylandreo-record-size .ensures), c .two-at .ensures, n .0)
     (omega (arith, n .1, river .holds, x .xylandreo-report .kept .1 .0, x .before .before .before .good))

@@ -35,16 +35,13 @@ record Progress (cs : Cards) (flows : FlowTable) (report₀ : List ℕ) (count :
   filled : Filled (recordOf (cardList cs)) (recordSize (cardList cs)) report₀ i report
 
 abbrev Inv-loop : tie.InvT-loop
-Inv-loop report₀ cards flows count nitrified size feet₀ used₀ i₀ report feet used i = Progress cards flows report₀ count nitrified size report feet used i
+Inv-loop nitrified report₀ cards flows count size feet₀ used₀ i₀ report feet used i = Progress cards flows report₀ count nitrified size report feet used i
 
 abbrev μ-loop : tie.MeasureT-loop
-μ-loop report₀ cards flows count nitrified size feet₀ used₀ i₀ report feet used i = count - i
+μ-loop nitrified report₀ cards flows count size feet₀ used₀ i₀ report feet used i = count - i
 
 reach-count-requires : tie.Need-reach-count-requires Inv-loop μ-loop
 reach-count-requires c κs = tt
-
-has-nitrification-requires : tie.Need-has-nitrification-requires Inv-loop μ-loop
-has-nitrification-requires c κs = c .before .before .pre .0 .lawful .few
 
 record-bytes-requires : tie.Need-record-bytes-requires Inv-loop μ-loop
 record-bytes-requires c κs = tt
@@ -54,11 +51,11 @@ no-feet-requires c κs = tt
 
 loop-holds : tie.Need-loop-holds Inv-loop μ-loop
 loop-holds c =
-    let pre = c .before .before .before .before .before .pre in
+    let pre = c .before .before .before .before .pre in
     record {
-      reaches = none-yet (pre .0) (c .before .before .before .reach-count .ensures) (c .no-feet .ensures);
-      nitrification = c .before .before .has-nitrification .ensures;
-      sized = c .before .record-bytes .ensures ∙ ap recordBytes (c .before .before .has-nitrification .ensures);
+      reaches = none-yet (pre .0) (c .before .before .reach-count .ensures) (c .no-feet .ensures);
+      nitrification = pre .2;
+      sized = c .before .record-bytes .ensures ∙ ap recordBytes (pre .2);
       room = pre .1;
       filled = fill-start _ _ _;
     }
@@ -129,7 +126,6 @@ report-all-spec =
     Inv-loop
     μ-loop
     reach-count-requires
-    has-nitrification-requires
     record-bytes-requires
     no-feet-requires
     loop-holds

@@ -1,11 +1,14 @@
 -- `report::mean::mean` meets its contract, by the outcome of reading and flow check, the length of the buffer and the volume that counts. Assumes
 -- nothing.
-use mathlib.Core.Path.{refl}
-use Prim.Native.Nat.{_<_}
+use mathlib.Core.Path.{ap, ap₂, _∙_}
+use Prim.Native.Nat.{ℕ, _<_}
 use native.Mathlib.Omega.{arith}
 use borrow.Author.Needs.{needs}
+use Rattle.river.specs.declared.refusal.Outcome.{Outcome}
+use Rattle.report.specs.Mean.{Weighted}
+use Rattle.report.proofs.Calls.{answers-refusal, answers-value}
 use Rattle.report.proofs.Entry.{file-ready}
-use Rattle.report.proofs.Means.{means-refused, means-short, means-empty, means-held, averages-refusal, averages-river, divisible}
+use Rattle.report.proofs.Means.{means-refused, means-short, means-empty, means-held, table-written, mean-told, divisible}
 use Rattle.report.proofs.mean.mean.Statement.{statement}
 use Rattle.report.proofs.mean.mean.Tie as tie
 
@@ -16,9 +19,9 @@ mul-if1 c =
 
 returns : tie.Need-returns
 returns c =
-    let t = c .before in
+    let t = c .before .before in
     let told = t .before .before in
-    averages-refusal (means-short (told .before .before .accept .ensures) _ (told .enum-told .given .1) (omega (arith, t .if1 .taken, t .before .reach-count .ensures))) (c .refuse .ensures)
+    answers-refusal (means-short (told .before .before .accept .ensures) _ (told .enum-told .given .1) (omega (arith, t .if1 .taken, t .before .reach-count .ensures))) (c .refused2 .ensures ∙ ap Outcome.Refused (c .before .refuse .ensures))
 
 average-all-requires : tie.Need-average-all-requires
 average-all-requires c κs =
@@ -27,10 +30,10 @@ average-all-requires c κs =
 
 returns-2 : tie.Need-returns-2
 returns-2 c =
-    let e = c .before .before .before .before .before in
+    let e = c .before .before .before .before .before .before in
     let told = e .before .before in
-    averages-refusal
-    (means-empty (told .before .before .accept .ensures) _ (told .enum-told .given .1) (omega (arith, e .if1 .left, e .before .reach-count .ensures)) (omega (arith, c .before .if2 .taken, c .before .before .before .before .average-all .ensures .weighed .volume))) (c .refuse2 .ensures)
+    answers-refusal
+    (means-empty (told .before .before .accept .ensures) _ (told .enum-told .given .1) (omega (arith, e .if1 .left, e .before .reach-count .ensures)) (omega (arith, c .before .before .if2 .taken, c .before .before .before .before .before .average-all .ensures .weighed .volume))) (c .refused3 .ensures ∙ ap Outcome.Refused (c .before .refuse2 .ensures))
 
 put-table-requires : tie.Need-put-table-requires
 put-table-requires c κs =
@@ -44,7 +47,7 @@ divide-requires c κs =
     divisible (told .before .before .accept .ensures .lawful (told .enum-told .given .1)) (c .before .before .before .before .before .before .before .before .before .average-all .ensures .weighed) (omega (arith, c .before .before .before .before .before .before .if2 .left))
 
 returns-3 : tie.Need-returns-3
-returns-3 c = averages-refusal (means-refused (c .before .before .before .accept .ensures) _ (c .before .outcome .given .1)) refl
+returns-3 c = answers-refusal (means-refused (c .before .before .before .before .accept .ensures) _ (c .before .before .outcome .given .1)) (c .refused .ensures)
 
 returns-4 : tie.Need-returns-4
 returns-4 c =
@@ -53,9 +56,10 @@ returns-4 c =
     let count = e .before .reach-count .ensures in
     let all = c .before .before .before .before .before .before .before .before .before .before .average-all in
     let some : 0 < all .result .weights .volume = omega (arith, c .before .before .before .before .before .before .before .if2 .left) in
-    averages-river (c .divide .result)
+    answers-value
     (means-held (told .before .before .accept .ensures) _ (told .enum-told .given .1) (omega (arith, e .if1 .left, count)) (omega (arith, all .ensures .weighed .volume)))
-    count (c .before .before .before .put-table .ensures) (all .ensures) some (c .divide .ensures)
+    (told .enum-told .given .1) (ap₂ (λ (n : ℕ) (w : Weighted). record { count = n; mean = w }) count (mean-told (all .ensures) some (c .divide .ensures)))
+    (table-written _ count (c .before .before .before .put-table .ensures) (all .ensures))
 
 pub mean-spec : {M : Type 1} → statement M
 mean-spec =
@@ -63,13 +67,16 @@ mean-spec =
     (tie.spec
     (λ accept-requires. search needs)
     (λ enum-known-outcome. search needs)
+    (λ refused-requires. search needs)
     (λ enum-told. search needs)
     (λ reach-count-requires. search needs)
     mul-if1
     (λ refuse-requires. search needs)
+    (λ refused-requires-2. search needs)
     returns
     average-all-requires
     (λ refuse-requires-2. search needs)
+    (λ refused-requires-3. search needs)
     returns-2
     put-table-requires
     divide-requires

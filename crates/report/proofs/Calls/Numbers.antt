@@ -1,5 +1,5 @@
--- Every refusal of reading, of the flow check, of reporting, of the mean and of rewriting has a number from 1 to 255, so that 0 is no refusal's result, and
--- number and reach are read back from the result.
+-- Every refusal of reading and of the flow check has a number from 1 to 255, so that 0 is no refusal's result, and number and reach are read back from
+-- the result. What a call asks besides has its number by `needs` and `next`.
 -- Assumes nothing.
 use mathlib.Core.Path.{_≡_, ap₂}
 use mathlib.Core.Bool.{Bool, true, false}
@@ -12,10 +12,8 @@ use Rattle.river.specs.Refusal.{Answer, accepted, refused, refuse, need, choose
 use Rattle.river.specs.Optional.{Kind, readOptional, readOptionals}
 use Rattle.river.specs.Read.{readHeader, readReach, readReaches, readRest, readFile}
 use Rattle.flows.specs.Flow.{reachChecks, checksFrom, flowCheck}
-use Rattle.report.specs.Mean.{meanRoomAnswer, meanAnswer}
-use Rattle.report.specs.Report.{roomAnswer, reportAnswer, resultOf}
 use Rattle.flows.specs.Accept.{acceptFile}
-use Rattle.river.specs.Rewrite.{rewriteAnswer}
+use Rattle.report.specs.Call.{resultOf}
 
 -- a refusal's number is from 1 to 255
 abbrev pub Numbered : {A : Type 0} → Answer A → Type 0
@@ -23,7 +21,7 @@ Numbered (accepted a) = Unit
 Numbered (refused r) = (0 < r .number) × (r .number < 256)
 
 module _ {A : Type 0} where
-  needs : (b : Bool) (n i : ℕ) (x : Answer A) → 0 < n → n < 256 → Numbered x → Numbered (need b n i x)
+  pub needs : (b : Bool) (n i : ℕ) (x : Answer A) → 0 < n → n < 256 → Numbered x → Numbered (need b n i x)
   unfolding need
   needs true n i x p q h = h
   needs false n i x p q h = (p, q)
@@ -33,7 +31,7 @@ module _ {A : Type 0} where
   either true x y h k = h
   either false x y h k = k
 
-  next : {B : Type 0} (x : Answer A) (f : A → Answer B) → Numbered x → ((a : A) → Numbered (f a)) → Numbered (after x f)
+  pub next : {B : Type 0} (x : Answer A) (f : A → Answer B) → Numbered x → ((a : A) → Numbered (f a)) → Numbered (after x f)
   unfolding after
   next (accepted a) f h k = k a
   next (refused r) f h k = h
@@ -71,14 +69,10 @@ unfolding checksFrom reachChecks
 checks cards i zero = tt
 checks cards i (suc m) = search (needs, lit<, checks cards (suc i) m) depth 12
 
-pub report-numbered : (file : List ℕ) (room : ℕ) → Numbered (reportAnswer file room)
-unfolding reportAnswer roomAnswer acceptFile readFile readHeader flowCheck
-report-numbered file room = search (needs, next, rest, checks, lit<) depth 12
+pub read-numbered : (file : List ℕ) → Numbered (readFile file)
+unfolding readFile readHeader
+read-numbered file = search (needs, next, rest, lit<) depth 12
 
-pub means-numbered : (file : List ℕ) (room : ℕ) → Numbered (meanAnswer file room)
-unfolding meanAnswer meanRoomAnswer acceptFile readFile readHeader flowCheck
-means-numbered file room = search (needs, next, rest, checks, lit<) depth 12
-
-pub rewrite-numbered : (file : List ℕ) (room : ℕ) → Numbered (rewriteAnswer file room)
-unfolding rewriteAnswer readFile readHeader
-rewrite-numbered file room = search (needs, next, rest, lit<) depth 12
+pub accept-numbered : (file : List ℕ) → Numbered (acceptFile file)
+unfolding acceptFile flowCheck
+accept-numbered file = next (readFile file) _ (read-numbered file) (λ _. search checks)
