@@ -1,12 +1,11 @@
 // Flow, undecayed BOD and depth of each reach, and the flow check.
 ghost use mathlib.Core.Path.{_≡_};
-ghost use Prim.Native.Nat.{_<_, _≤_, _^_, max};
+ghost use Prim.Native.Nat.{_<_, _≤_, min, max};
 ghost use lib.Dec.{ltb};
-ghost use lib.ListN.{length};
 ghost use Rattle.river.specs.Card.{Regular, cardList};
 ghost use Rattle.river.specs.Source.{SourcesInRange};
 ghost use Rattle.flows.specs.Flow.{flowLimit, takeOf, sludgeOf, ownMass, remainingMass, damFits, rateFits, flowRules, loadRule, takeRule, rangeRule, rateRules, bedRule, checksOf};
-ghost use Rattle.flows.specs.held.FlowTable.{Decides, tableSum, tableMax, SumsFit, upstreamOf, noFlows, Underway, CheckAt, NextBy, FlowChecked};
+ghost use Rattle.flows.specs.held.FlowTable.{Decides, FeederFits, withFeeder, SumsFit, upstreamOf, noFlows, Underway, CheckAt, NextBy, FlowChecked};
 use river::card::Card;
 use river::card::Cards;
 use river::card::Dam;
@@ -32,12 +31,20 @@ const RATE_LIMIT: u64 = 345_600;
 // The most sludge demand times volume to a litre a second.
 const BED_LIMIT: u64 = 432_000;
 
-// Tables of the reaches that passed: outlet, flow and undecayed BOD after the take, and depth.
+// Tables of the reaches that passed: outlet, Qu, flow and undecayed BOD after the take, and depth.
 pub struct FlowTable {
     pub outlet: [u8; REACHES],
+    pub upstream: [u64; REACHES],
     pub flow: [u64; REACHES],
     pub mass: [u64; REACHES],
     pub depth: [u8; REACHES],
+}
+
+// Qu, flow after the take, and depth of a reach that passed.
+pub struct ReachFlows {
+    pub upstream: u64,
+    pub flow: u64,
+    pub depth: u8,
 }
 
 // What the flow check yields: the flows of every reach if the river is accepted, or a refusal.
@@ -61,27 +68,6 @@ pub struct Upstream {
     pub deepest: u8,
 }
 
-// The sum of a table over the feeders of a reach among the first n reaches.
-pub(crate) fn feeder_sum<'a>(
-    outlet: &'a [u8; REACHES],
-    values: &'a [u64; REACHES],
-    n: usize,
-    reach: u8,
-) -> u64
-    requires { ⌜ (n ≤ 128) × (tableSum (now outlet) (now values) n reach < 2 ^ 64) ⌝ }
-    ensures { λ r. ⌜ r ≡ tableSum (now (outlet .entry)) (now (values .entry)) n reach ⌝ }
-{
-    let mut sum: u64 = 0;
-    let mut j: usize = 0;
-    while j < n {
-        if outlet[j] == reach {
-            sum = sum + values[j];
-        }
-        j = j + 1;
-    }
-    sum
-}
-
 // The larger of two depths.
 fn larger(a: u8, b: u8) -> u8
     ensures { λ r. ⌜ r ≡ max a b ⌝ }
@@ -89,20 +75,16 @@ fn larger(a: u8, b: u8) -> u8
     if a < b { b } else { a }
 }
 
-// The largest depth of the feeders of a reach among the first n reaches.
-fn feeder_depth<'a>(outlet: &'a [u8; REACHES], depth: &'a [u8; REACHES], n: usize, reach: u8) -> u8
-    requires { ⌜ n ≤ 128 ⌝ }
-    ensures { λ r. ⌜ r ≡ tableMax (now (outlet .entry)) (now (depth .entry)) n reach ⌝ }
+// What flows in with one more feeder, of this flow, undecayed BOD and depth.
+fn with_feeder(up: Upstream, flow: u64, mass: u64, depth: u8) -> Upstream
+    requires { ⌜ FeederFits up flow mass ⌝ }
+    ensures { λ r. ⌜ r ≡ withFeeder up flow mass depth ⌝ }
 {
-    let mut deepest: u8 = 0;
-    let mut j: usize = 0;
-    while j < n {
-        if outlet[j] == reach {
-            deepest = larger(depth[j], deepest);
-        }
-        j = j + 1;
+    Upstream {
+        flow: up.flow + flow,
+        mass: up.mass + mass,
+        deepest: larger(depth, up.deepest),
     }
-    deepest
 }
 
 // What flows into reach i + 1, by tables of the reaches before.
@@ -117,14 +99,19 @@ fn upstream_of<'a>(
     ensures { λ r. ⌜ r ≡ upstreamOf (now (outlet .entry)) (now (flow .entry)) (now (mass .entry)) (now (depth .entry)) i ⌝ }
 {
     let reach = (i + 1) as u8;
-    let flow = feeder_sum(outlet, flow, i, reach);
-    let mass = feeder_sum(outlet, mass, i, reach);
-    let deepest = feeder_depth(outlet, depth, i, reach);
-    Upstream {
-        flow,
-        mass,
-        deepest,
+    let mut up = Upstream {
+        flow: 0,
+        mass: 0,
+        deepest: 0,
+    };
+    let mut j: usize = 0;
+    while j < i {
+        if outlet[j] == reach {
+            up = with_feeder(up, flow[j], mass[j], depth[j]);
+        }
+        j = j + 1;
     }
+    up
 }
 
 // Whether a dam passes check 9.
@@ -219,7 +206,7 @@ fn rate_rules(card: Card, flow: u64, reach: u8) -> Outcome
 }
 
 // The take of a reach.
-pub(crate) fn take_of(card: Card) -> u64
+fn take_of(card: Card) -> u64
     ensures { λ r. ⌜ r ≡ takeOf card ⌝ }
 {
     let optionals = card.optionals;
@@ -324,11 +311,11 @@ fn check_next(card: Card, up: Upstream, i: usize) -> ReachChecked
     }
 }
 
-// How many reaches the river of the cards has.
-pub fn reach_count(cards: Cards) -> usize
-    ensures { λ r. ⌜ r ≡ length (cardList cards) ⌝ }
+// How many reaches a river has whose cards have this count.
+pub fn reach_count(count: u8) -> usize
+    ensures { λ r. ⌜ r ≡ min count 128 ⌝ }
 {
-    let count = cards.count as usize;
+    let count = count as usize;
     if REACHES < count { REACHES } else { count }
 }
 
@@ -338,6 +325,7 @@ pub(crate) fn no_flows() -> FlowTable
 {
     FlowTable {
         outlet: [0u8; REACHES],
+        upstream: [0u64; REACHES],
         flow: [0u64; REACHES],
         mass: [0u64; REACHES],
         depth: [0u8; REACHES],
@@ -350,7 +338,7 @@ pub fn check_from(cards: Cards, flows: FlowTable, i: usize) -> Checked
     requires { ⌜ Underway (cardList cards) i flows ⌝ }
     ensures { λ r. ⌜ FlowChecked (cardList cards) r ⌝ }
 {
-    let count = reach_count(cards);
+    let count = reach_count(cards.count);
     let mut flows = flows;
     let mut i = i;
     while i < count {
@@ -362,6 +350,7 @@ pub fn check_from(cards: Cards, flows: FlowTable, i: usize) -> Checked
             return Checked { outcome, flows };
         };
         flows.outlet[i] = card.outlet;
+        flows.upstream[i] = up.flow;
         flows.flow[i] = next.flow;
         flows.mass[i] = next.mass;
         flows.depth[i] = next.depth;

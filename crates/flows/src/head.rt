@@ -5,12 +5,10 @@ ghost use Prim.Native.Nat.{_+_, _-_, _*_, _/_, _<_, _≤_};
 ghost use lib.IntN.{pos, _+ℤ_, _-ℤ_, _*ℤ_};
 ghost use Rattle.flows.specs.Saturation as Sat;
 ghost use Rattle.flows.specs.Saturation.{saturationOf, pressureOf, ConditionsInRange, SaturationInRange};
-ghost use Rattle.flows.specs.Flow.{flowLimit, takeOf};
+ghost use Rattle.flows.specs.Flow.{flowLimit};
 ghost use Rattle.flows.specs.Head.{floor, upstreamDemand, upstreamOxygen, belowDam, headDemand, headOxygen};
 ghost use Rattle.flows.specs.held.Stored.{oxygenOf, oxygenSumOf};
-ghost use Rattle.flows.specs.held.HeadTable.{PartOf, HeadReady, DemandReady, OxygenReady, noFeet, footOf, broughtTo, BroughtFits, HeadInput, HeadOf};
-use crate::flow::feeder_sum;
-use crate::flow::take_of;
+ghost use Rattle.flows.specs.held.HeadTable.{PartOf, HeadReady, DemandReady, OxygenReady, noFeet, footOf, FootFits, broughtWith, broughtTo, BroughtFits, HeadInput, HeadOf};
 use river::card::Card;
 use river::card::Dam;
 use river::card::REACHES;
@@ -25,11 +23,13 @@ pub const STORED_ZERO: u32 = 2_147_483_648;
 // The same as a wide number.
 pub const STORED_ZERO_WIDE: u64 = STORED_ZERO as u64;
 
-// Flow times a value at a foot, of each demand and of stored oxygen: of one foot, or summed over feeders.
+// What a foot brings, or the feeders of a reach bring together: flow times each demand and times stored oxygen, and whether oxygen is used up there or
+// above.
 pub struct Brought {
     pub bod: u64,
     pub nitrogenous: u64,
     pub oxygen: u64,
+    pub used: bool,
 }
 
 // Tables of what the feet of the reaches above bring.
@@ -37,6 +37,7 @@ pub struct FootTable {
     pub bod: [u64; REACHES],
     pub nitrogenous: [u64; REACHES],
     pub oxygen: [u64; REACHES],
+    pub used: [bool; REACHES],
 }
 
 // Each demand and stored oxygen at the head of a reach.
@@ -179,18 +180,33 @@ pub fn no_feet() -> FootTable
         bod: [0u64; REACHES],
         nitrogenous: [0u64; REACHES],
         oxygen: [0u64; REACHES],
+        used: [false; REACHES],
     }
 }
 
 // What a foot with these values brings. The report has the flow of an accepted river's reach.
-pub fn foot_of(flow: u64, bod: u32, nitrogenous: u32, oxygen: u32) -> Brought
+pub fn foot_of(flow: u64, bod: u32, nitrogenous: u32, oxygen: u32, used: bool) -> Brought
     requires { ⌜ flow ≤ flowLimit ⌝ }
-    ensures { λ r. ⌜ r ≡ footOf flow bod nitrogenous oxygen ⌝ }
+    ensures { λ r. ⌜ r ≡ footOf flow bod nitrogenous oxygen used ⌝ }
 {
     Brought {
         bod: flow * (bod as u64),
         nitrogenous: flow * (nitrogenous as u64),
         oxygen: flow * (oxygen as u64),
+        used,
+    }
+}
+
+// What is brought with one more foot.
+fn with_foot(brought: Brought, bod: u64, nitrogenous: u64, oxygen: u64, used: bool) -> Brought
+    requires { ⌜ FootFits brought bod nitrogenous oxygen ⌝ }
+    ensures { λ r. ⌜ r ≡ broughtWith brought bod nitrogenous oxygen used ⌝ }
+{
+    Brought {
+        bod: brought.bod + bod,
+        nitrogenous: brought.nitrogenous + nitrogenous,
+        oxygen: brought.oxygen + oxygen,
+        used: used || brought.used,
     }
 }
 
@@ -200,43 +216,42 @@ pub fn brought_to<'a>(
     bod: &'a [u64; REACHES],
     nitrogenous: &'a [u64; REACHES],
     oxygen: &'a [u64; REACHES],
+    used: &'a [bool; REACHES],
     i: usize,
 ) -> Brought
     requires { ⌜ BroughtFits (now outlet) (now bod) (now nitrogenous) (now oxygen) i ⌝ }
-    ensures { λ r. ⌜ r ≡ broughtTo (now (outlet .entry)) (now (bod .entry)) (now (nitrogenous .entry)) (now (oxygen .entry)) i ⌝ }
+    ensures { λ r. ⌜ r ≡ broughtTo (now (outlet .entry)) (now (bod .entry)) (now (nitrogenous .entry)) (now (oxygen .entry)) (now (used .entry)) i ⌝ }
 {
     let reach = (i + 1) as u8;
-    let bod = feeder_sum(outlet, bod, i, reach);
-    let nitrogenous = feeder_sum(outlet, nitrogenous, i, reach);
-    let oxygen = feeder_sum(outlet, oxygen, i, reach);
-    Brought {
-        bod,
-        nitrogenous,
-        oxygen,
+    let mut brought = Brought {
+        bod: 0,
+        nitrogenous: 0,
+        oxygen: 0,
+        used: false,
+    };
+    let mut j: usize = 0;
+    while j < i {
+        if outlet[j] == reach {
+            brought = with_foot(brought, bod[j], nitrogenous[j], oxygen[j], used[j]);
+        }
+        j = j + 1;
     }
-}
-
-// Qu of a reach, from its flow after the take. The report has the flow of an accepted river's reach.
-pub fn upstream_flow(card: Card, flow: u64) -> u64
-    requires { ⌜ (card .inflow ≤ flow + takeOf card) × (flow + takeOf card ≤ flowLimit) ⌝ }
-    ensures { λ r. ⌜ r ≡ flow + takeOf card - card .inflow ⌝ }
-{
-    flow + take_of(card) - card.inflow as u64
+    brought
 }
 
 // The head of a reach, from whether it has feeders, Qu, and what the feeders bring. The report has these of an accepted river's reach.
-pub fn head_of(card: Card, fed: bool, qu: u64, sums: Brought) -> Head
-    requires { ⌜ HeadInput card fed qu sums ⌝ }
-    ensures { λ r. ⌜ HeadOf card fed qu sums r ⌝ }
+pub fn head_of(card: Card, fed: bool, qu: u64, brought: Brought) -> Head
+    requires { ⌜ HeadInput card fed qu brought ⌝ }
+    ensures { λ r. ⌜ HeadOf card fed qu brought r ⌝ }
 {
     Head {
-        bod: head_demand(source_of(Demand::Bod, card), fed, qu, sums.bod),
+        bod: head_demand(source_of(Demand::Bod, card), fed, qu, brought.bod),
         nitrogenous: head_demand(
             source_of(Demand::Nitrogenous, card),
             fed,
             qu,
-            sums.nitrogenous,
+            brought.nitrogenous,
         ),
-        oxygen: head_oxygen(card, fed, qu, sums.oxygen),
+        oxygen: head_oxygen(card, fed, qu, brought.oxygen),
     }
 }

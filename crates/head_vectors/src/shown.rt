@@ -16,7 +16,6 @@ use flows::head::brought_to;
 use flows::head::foot_of;
 use flows::head::head_of;
 use flows::head::no_feet;
-use flows::head::upstream_flow;
 use river::card::Cards;
 use river::refusal::Outcome;
 use river::refusal::Refusal;
@@ -72,10 +71,17 @@ fn reach(cards: Cards, flows: FlowTable, feet: FootTable, i: usize, oxygen: u32)
     let card = cards.at[i];
     let flow = flows.flow[i];
     let depth = flows.depth[i];
-    let sums = brought_to(&flows.outlet, &feet.bod, &feet.nitrogenous, &feet.oxygen, i);
-    let head = head_of(card, 1 < depth, upstream_flow(card, flow), sums);
+    let sums = brought_to(
+        &flows.outlet,
+        &feet.bod,
+        &feet.nitrogenous,
+        &feet.oxygen,
+        &feet.used,
+        i,
+    );
+    let head = head_of(card, 1 < depth, flows.upstream[i], sums);
     line(i + 1, depth, flow, flows.mass[i], head);
-    foot_of(flow, less(head.bod), less(head.nitrogenous), oxygen)
+    foot_of(flow, less(head.bod), less(head.nitrogenous), oxygen, false)
 }
 
 // Stored foot oxygen of reach i + 1.
@@ -89,7 +95,7 @@ fn foot_oxygen(first: u32, step: u32, i: usize) -> u32
 fn reaches(cards: Cards, flows: FlowTable, first: u32, step: u32)
     requires { ⌜ Lawful (cardList cards) × Flows (cardList cards) × Tabled (cardList cards) (length (cardList cards)) flows ⌝ }
 {
-    let count = reach_count(cards);
+    let count = reach_count(cards.count);
     let mut feet = no_feet();
     let mut i: usize = 0;
     while i < count {
@@ -97,6 +103,7 @@ fn reaches(cards: Cards, flows: FlowTable, first: u32, step: u32)
         feet.bod[i] = foot.bod;
         feet.nitrogenous[i] = foot.nitrogenous;
         feet.oxygen[i] = foot.oxygen;
+        feet.used[i] = foot.used;
         i = i + 1;
     }
 }

@@ -35,8 +35,8 @@ use Rattle.decay.specs.Fraction.{_≼_, ofℕ, ofℤ, distance}
 use Rattle.report.specs.Distance.{allowanceAt}
 use Rattle.report.specs.ExactMean.{exactMeanOxygen}
 use Rattle.report.specs.Mean.{meanAt}
-use Rattle.report.proofs.StatusRows.{Rows as StatusRows, rows as status-rows}
-use Rattle.report.proofs.MeanRows.{Rows as MeanRows, rows as mean-rows, Constant, constant, UsedUp, used-up}
+use Rattle.report.proofs.status.Rows.{Rows as StatusRows, rows as status-rows}
+use Rattle.report.proofs.mean.Rows.{Rows as MeanRows, rows as mean-rows, Constant, constant, UsedUp, used-up}
 use Rattle.report.proofs.MeanRefutation.{allValues, own-mean, own-mean-near, rounded-mean-strays}
 use Rattle.report.proofs.Refutations.{two as equal}
 use Rattle.report.proofs.Forest.{AcceptedReach}

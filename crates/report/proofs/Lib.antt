@@ -1,11 +1,9 @@
 -- What serves all of the crate, and its theorems. The laws of a module of src/ stand in the room of its name beside this file.
 pub mod Forest
 pub mod Facts
-pub mod StatusRows
 pub mod Statuses
 pub mod Distances
 pub mod NitrificationRows
-pub mod MeanRows
 pub mod Lowest
 pub mod Ties
 pub mod Bounds

@@ -26,7 +26,7 @@ use Rattle.report.specs.Status.{isUsed, usedBy}
 use Rattle.report.specs.Program.{demandSum, oxygenSum, demandAtHead, oxygenAtHead, oxygenAt, criticalOxygen, usedAbove, figuresBelow, figuresOf}
 use Rattle.report.specs.held.Along.{factorsAlong, partsAlong, demandAlong, turnedAlong, lossAlong, oxygenAlong}
 use Rattle.report.specs.Locality.{withOutlet, SameButOutlet, SameForest, bare, alike, exchanged, chained, SameReach, LiesAbove, feeds, through, SameCard, Agree}
-use Rattle.report.proofs.StatusRows
+use Rattle.report.proofs.status.Rows
 
 -- ---- what a reach takes from its feeders, and what it gives
 

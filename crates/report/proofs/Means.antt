@@ -30,18 +30,19 @@ use Rattle.report.specs.Report.{firstRows}
 use Rattle.report.specs.Distance.{allowanceAt}
 use Rattle.report.specs.ExactMean.{exactMeanOxygen}
 use Rattle.report.specs.Mean.{meanAt, countedVolumeAt, countedVolume, weightedSum, riverMean, meanBytes, meanRow, meansOf, meansSize, meanRoomAnswer, meanAnswer, bufferAveraged, Weighted, Averaged, meanRead, MeansLent, lent, meansWritten, TellsMean, TellsRiverMean, Means}
-use Rattle.report.specs.held.MeanLines.{volumeLimit, Weighs, Divisible, quotientOf, MeansTabled, AllAveraged, storedRow}
+use Rattle.report.specs.Weights.{volumeLimit, Divisible, quotientOf}
+use Rattle.report.specs.held.MeanLines.{Weighs, MeansTabled, AllAveraged, storedRow}
 use Rattle.report.specs.declared.mean.RiverMean.{RiverMean}
 use Rattle.report.specs.declared.mean.MeanTable.{MeanTable}
-use Rattle.report.specs.declared.mean.Weights.{Weights}
-use Rattle.report.specs.declared.mean.Quotient.{Quotient}
+use Rattle.report.specs.declared.weights.Weights.{Weights}
+use Rattle.report.specs.declared.weights.Quotient.{Quotient}
 use Rattle.report.proofs.River.{IsRiver, river-of-file}
 use Rattle.report.proofs.MeanOxygen.{is-mean, mean-within-allowance, mean-tied, mean-blank, volume-counts, mean-in-range}
 use Rattle.report.proofs.Entry.{complement-in-range, file-accepted}
 use Rattle.report.proofs.Calls.{IsAccepted, called, result-is, refusal-told, value-told}
 use Rattle.report.proofs.Calls.Numbers.{Numbered, needs, next, accept-numbered}
 use Rattle.report.proofs.record.Rows.{Begins, stands, same-rows}
-use Rattle.report.proofs.mean.Weighing.{stored-quotient, divided-back, rest-below}
+use Rattle.report.proofs.weights.Weighing.{stored-quotient, divided-back, rest-below}
 
 -- ---- the answer for a file
 

@@ -16,7 +16,7 @@ use Rattle.report.specs.Record.{Figures}
 use Rattle.report.specs.Status.{statusBy, isUsed, shownNumber, shownOxygen, reported}
 use Rattle.report.specs.Program.{oxygenAt, criticalOxygen, statusOf, figuresOf}
 use Rattle.report.specs.Ties.{NoOxygen}
-use Rattle.report.proofs.StatusRows
+use Rattle.report.proofs.status.Rows
 
 -- at status 0 and 1 the figures are reported as they are
 pub reported-same : (f : Figures) → f .status ≤ 1 → reported f ≡ f

@@ -1,5 +1,5 @@
--- What a reach hands on, its mean by one walk, where its oxygen is nowhere below zero, and the weighing of the means.
+-- The mean of a reach by one walk, the rows of means, what a reach hands on with its mean, and the tables of the means.
 pub mod BySums
-pub mod Weighing
-pub mod Passages
-pub mod NeverBelow
+pub mod Rows
+pub mod Reach
+pub mod Tables

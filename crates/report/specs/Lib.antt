@@ -11,4 +11,6 @@ pub mod Report
 pub mod Rewrite
 pub mod Mean
 pub mod Answers
+pub mod Along
+pub mod Weights
 pub mod held

@@ -1,4 +1,5 @@
 // Reports of BOD and dissolved oxygen along the reaches of a river, and mean oxygen.
+pub mod along;
 pub mod bed;
 pub mod lines;
 pub mod mean;
@@ -6,6 +7,7 @@ pub mod profile;
 pub mod record;
 pub mod reporting;
 pub mod status;
+pub mod weights;
 
 use flows::head::STORED_ZERO;
 use river::file::read_file;

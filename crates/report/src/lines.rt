@@ -9,6 +9,7 @@ use decay::step;
 use decay::step::Step;
 use flows::flow;
 use flows::flow::FlowTable;
+use flows::flow::ReachFlows;
 use flows::head;
 use flows::head::Brought;
 use flows::head::Head;
@@ -30,12 +31,6 @@ ghost use Rattle.report.specs.Record.{hasNitrification};
 ghost use Rattle.report.specs.held.LineFigures.{figuresIn};
 ghost use Rattle.report.specs.held.Lines.{Ready, LineReady, HeadFits, LineAt, HeadBy, LineBy, PlacedAt, ReportedBy};
 ghost use Rattle.report.specs.Report.{reportOf, reportSize};
-
-// What the foot of a reach brings, and whether the status of the reach is 1 or 2.
-pub struct HandedOn {
-    pub foot: Brought,
-    pub used: bool,
-}
 
 // The step of the nitrogenous demand of a reach, beside that of its BOD. Its share filled is that of BOD, so that a walk holds one number for both.
 // Without nitrification nothing is lost, and no series is summed.
@@ -91,45 +86,44 @@ pub fn line_of(card: Card, flow: u32, depth: u8, head: Head, used: bool) -> Line
     }
 }
 
-// The head of a reach, from its card, its flow and depth, and what its feeders bring.
-pub fn head_at(card: Card, flow: u64, depth: u8, sums: Brought) -> Head
-    requires { ⌜ LineAt card flow depth sums ⌝ }
-    ensures { λ r. ⌜ HeadBy card flow depth sums r ⌝ }
+// The head of a reach, from its card, its flows, and what its feeders bring.
+pub fn head_at(card: Card, reach: ReachFlows, brought: Brought) -> Head
+    requires { ⌜ LineAt card reach brought ⌝ }
+    ensures { λ r. ⌜ HeadBy card reach brought r ⌝ }
 {
-    let qu = head::upstream_flow(card, flow);
-    head::head_of(card, 1 < depth, qu, sums)
+    head::head_of(card, 1 < reach.depth, reach.upstream, brought)
 }
 
-// The figures of a reach, from its card, its flow and depth, what its feeders bring, and whether oxygen is used up above.
-pub fn line_at(card: Card, flow: u64, depth: u8, sums: Brought, used: bool) -> Line
-    requires { ⌜ LineAt card flow depth sums ⌝ }
-    ensures { λ r. ⌜ LineBy card flow depth sums used r ⌝ }
+// The figures of a reach, from its card, its flows, and what its feeders bring.
+pub fn line_at(card: Card, reach: ReachFlows, brought: Brought) -> Line
+    requires { ⌜ LineAt card reach brought ⌝ }
+    ensures { λ r. ⌜ LineBy card reach brought r ⌝ }
 {
-    let head = head_at(card, flow, depth, sums);
-    line_of(card, flow as u32, depth, head, used)
+    let head = head_at(card, reach, brought);
+    line_of(card, reach.flow as u32, reach.depth, head, brought.used)
 }
 
-// Puts the record of a reach at a place, by whether oxygen is used up above and whether its river has nitrification, and tells what its foot
-// brings, with oxygen as it is, and whether its status is 1 or 2.
+// Puts the record of a reach at a place, by whether its river has nitrification, and tells what its foot brings, with oxygen as it is.
 pub fn report_reach(
     card: Card,
-    flow: u64,
-    depth: u8,
-    sums: Brought,
-    used: bool,
+    reach: ReachFlows,
+    brought: Brought,
     nitrified: bool,
     report: &mut [u8],
     at: usize,
-) -> HandedOn
-    requires { ⌜ PlacedAt card flow depth sums used nitrified at (length (now report)) ⌝ }
-    ensures { λ r. ⌜ ReportedBy card flow depth sums used nitrified at (now (report .entry)) (now (report .exit)) r ⌝ }
+) -> Brought
+    requires { ⌜ PlacedAt card reach brought nitrified at (length (now report)) ⌝ }
+    ensures { λ r. ⌜ ReportedBy card reach brought nitrified at (now (report .entry)) (now (report .exit)) r ⌝ }
 {
-    let line = line_at(card, flow, depth, sums, used);
+    let line = line_at(card, reach, brought);
     record::put_record(report, at, status::reported(line), nitrified);
-    HandedOn {
-        foot: head::foot_of(flow, line.foot_bod, line.foot_nitrogenous, line.foot_oxygen),
-        used: status::is_used(line.status),
-    }
+    head::foot_of(
+        reach.flow,
+        line.foot_bod,
+        line.foot_nitrogenous,
+        line.foot_oxygen,
+        status::is_used(line.status),
+    )
 }
 
 // Puts the records of all reaches in their places, by whether their river has nitrification.
@@ -137,33 +131,30 @@ pub fn report_all(cards: Cards, flows: FlowTable, nitrified: bool, report: &mut 
     requires { ⌜ Ready (cardList cards) flows × (reportSize (cardList cards) ≤ length (now report)) × (nitrified ≡ hasNitrification (cardList cards)) ⌝ }
     ensures { λ _. ⌜ now (report .exit) ≡ reportOf (cardList cards) ++ drop (reportSize (cardList cards)) (now (report .entry)) ⌝ }
 {
-    let count = flow::reach_count(cards);
+    let count = flow::reach_count(cards.count);
     let size = record::record_bytes(nitrified);
     let mut feet = head::no_feet();
-    let mut used = [false; status::OUTLETS];
     let mut i: usize = 0;
     while i < count {
         let card = cards.at[i];
-        let flow = flows.flow[i];
-        let depth = flows.depth[i];
-        let sums = head::brought_to(&flows.outlet, &feet.bod, &feet.nitrogenous, &feet.oxygen, i);
-        let used_above = used[i + 1];
-        let told = report_reach(
-            card,
-            flow,
-            depth,
-            sums,
-            used_above,
-            nitrified,
-            report,
-            size * i,
+        let reach = ReachFlows {
+            upstream: flows.upstream[i],
+            flow: flows.flow[i],
+            depth: flows.depth[i],
+        };
+        let brought = head::brought_to(
+            &flows.outlet,
+            &feet.bod,
+            &feet.nitrogenous,
+            &feet.oxygen,
+            &feet.used,
+            i,
         );
-        let foot = told.foot;
+        let foot = report_reach(card, reach, brought, nitrified, report, size * i);
         feet.bod[i] = foot.bod;
         feet.nitrogenous[i] = foot.nitrogenous;
         feet.oxygen[i] = foot.oxygen;
-        let outlet = flows.outlet[i] as usize;
-        used[outlet] = status::either(told.used, used[outlet]);
+        feet.used[i] = foot.used;
         i = i + 1;
     }
 }

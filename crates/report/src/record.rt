@@ -56,7 +56,7 @@ pub fn has_nitrification(cards: Cards) -> bool
     requires { ⌜ length (cardList cards) ≤ 128 ⌝ }
     ensures { λ r. ⌜ r ≡ hasNitrification (cardList cards) ⌝ }
 {
-    let count = flow::reach_count(cards);
+    let count = flow::reach_count(cards.count);
     let mut i: usize = 0;
     while i < count {
         let card = cards.at[i];

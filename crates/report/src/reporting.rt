@@ -36,7 +36,7 @@ pub fn report(file: &[u8], report: &mut [u8]) -> Reported
     match outcome {
         Outcome::Refused(r) => refused(r),
         Outcome::Accepted => {
-            let count = flow::reach_count(river.cards);
+            let count = flow::reach_count(river.cards.count);
             let nitrified = record::has_nitrification(river.cards);
             let size = record::record_bytes(nitrified) * count;
             if report.len() < size {

@@ -1,9 +1,8 @@
 // "Oxygen used up": the status of a reach, and what is reported at each status.
 use crate::record::Line;
 use flows::head::STORED_ZERO;
-use river::card::REACHES;
 ghost use mathlib.Core.Path.{_≡_};
-ghost use mathlib.Core.Bool.{_||_, cond};
+ghost use mathlib.Core.Bool.{cond};
 ghost use lib.IntN.{pos};
 ghost use Rattle.flows.specs.held.Stored.{oxygenOf};
 ghost use Rattle.report.specs.held.LineFigures.{figuresIn};
@@ -17,9 +16,6 @@ pub const USED_UP: u8 = 1;
 
 // The status where a reach above has status 1 or 2, whatever critical oxygen is.
 pub const USED_UP_ABOVE: u8 = 2;
-
-// A table by reach number has a place for every reach, and place 0 for what flows out of the river.
-pub const OUTLETS: usize = REACHES + 1;
 
 // The status of a reach, by whether oxygen is used up above and by its stored critical oxygen.
 pub fn status_of(used: bool, critical: u32) -> u8
@@ -40,13 +36,6 @@ pub fn is_used(status: u8) -> bool
     ensures { λ r. ⌜ r ≡ isUsed status ⌝ }
 {
     ORDINARY < status
-}
-
-// One or the other. It is a function of its own, so that the loops that call it have one path.
-pub fn either(a: bool, b: bool) -> bool
-    ensures { λ r. ⌜ r ≡ (a || b) ⌝ }
-{
-    a || b
 }
 
 // The volume of a reach that counts for the mean of its river: none where oxygen is used up above.

@@ -41,6 +41,7 @@ pub first-tabled : {cards : List Card} {i n : ℕ} {t : FlowTable} → i ≤ n �
 first-tabled l h =
     record {
       outlet = λ j k. h .outlet j (omega arith);
+      upstream = λ j k. h .upstream j (omega arith);
       flow = λ j k. h .flow j (omega arith);
       mass = λ j k. h .mass j (omega arith);
       depth = λ j k. h .depth j (omega arith);
@@ -49,31 +50,49 @@ first-tabled l h =
 -- tables of 128 entries
 pub record Full (t : FlowTable) : Type 0 where
   pub outlet : length (t .outlet) ≡ 128
+  pub upstream : length (t .upstream) ≡ 128
   pub flow : length (t .flow) ≡ 128
   pub mass : length (t .mass) ≡ 128
   pub depth : length (t .depth) ≡ 128
 
--- tables with outlet, flow, undecayed BOD and depth of reach i + 1
-abbrev pub withReach : FlowTable → (i outlet flow mass depth : ℕ) → FlowTable
-withReach t i outlet flow mass depth =
-    record { outlet = set (t .outlet) i outlet; flow = set (t .flow) i flow; mass = set (t .mass) i mass; depth = set (t .depth) i depth }
+-- tables with outlet, Qu, flow, undecayed BOD and depth of reach i + 1
+abbrev pub withReach : FlowTable → (i outlet upstream flow mass depth : ℕ) → FlowTable
+withReach t i outlet upstream flow mass depth =
+    record {
+      outlet = set (t .outlet) i outlet;
+      upstream = set (t .upstream) i upstream;
+      flow = set (t .flow) i flow;
+      mass = set (t .mass) i mass;
+      depth = set (t .depth) i depth;
+    }
 
 -- they stay full with one more reach
-pub full-next : {t : FlowTable} (i o q m d : ℕ) → Full t → Full (withReach t i o q m d)
-full-next {t} i o q m d full =
+pub full-next : {t : FlowTable} (i o u q m d : ℕ) → Full t → Full (withReach t i o u q m d)
+full-next {t} i o u q m d full =
     record {
       outlet = length-set (t .outlet) i o ∙ full .outlet;
+      upstream = length-set (t .upstream) i u ∙ full .upstream;
       flow = length-set (t .flow) i q ∙ full .flow;
       mass = length-set (t .mass) i m ∙ full .mass;
       depth = length-set (t .depth) i d ∙ full .depth;
     }
 
 -- the tables with one more reach
-pub next-table : {cards : List Card} {i : ℕ} {t : FlowTable} {o q m d : ℕ} → Tabled cards i t → i < 128 → Full t → o ≡ cardOf cards (suc i) .outlet → q ≡ flowAt cards (suc i) → m ≡ massAt cards (suc i) → d ≡ depthAt cards (suc i)
-    → Tabled cards (suc i) (withReach t i o q m d)
-next-table {cards} {i} {t} {o} {q} {m} {d} h few room eo eq em ed =
+pub next-table :
+    {cards : List Card} {i : ℕ} {t : FlowTable} {o u q m d : ℕ} →
+    Tabled cards i t →
+    i < 128 →
+    Full t →
+    o ≡ cardOf cards (suc i) .outlet →
+    u ≡ flowOf (above cards (suc i)) →
+    q ≡ flowAt cards (suc i) →
+    m ≡ massAt cards (suc i) →
+    d ≡ depthAt cards (suc i) →
+    Tabled cards (suc i) (withReach t i o u q m d)
+next-table {cards} {i} {t} {o} {u} {q} {m} {d} h few room eo eu eq em ed =
     record {
       outlet = entered (t .outlet) i o (λ k x. x ≡ cardOf cards (suc k) .outlet) (rw (room .outlet) few) eo (h .outlet);
+      upstream = entered (t .upstream) i u (λ k x. x ≡ flowOf (above cards (suc k))) (rw (room .upstream) few) eu (h .upstream);
       flow = entered (t .flow) i q (λ k x. x ≡ flowAt cards (suc k)) (rw (room .flow) few) eq (h .flow);
       mass = entered (t .mass) i m (λ k x. x ≡ massAt cards (suc k)) (rw (room .mass) few) em (h .mass);
       depth = entered (t .depth) i d (λ k x. x ≡ depthAt cards (suc k)) (rw (room .depth) few) ed (h .depth);
@@ -115,6 +134,10 @@ module _ {cards : List Card} {i : ℕ} {t : FlowTable} (h : Underway cards i t �
   deepest-here = max-of-feeders (depth-table (h .0 .passed .tabled)) (suc i)
 
   module _ {u : Upstream} (e : u ≡ upstreamBy t i) where
+    -- Qu
+    pub upstream-here : u .flow ≡ flowOf (above cards (suc i))
+    upstream-here = rw e flow-here
+
     pub gathered-small : (u .flow ≤ 128 * flowLimit) × (u .mass ≤ 128 * (massLimit * flowLimit)) × (u .deepest ≤ 127)
     gathered-small = rw e (flow-small, mass-small, rw deepest-here (omega (arith, index-few, deepest-few cards i (suc i))))
 

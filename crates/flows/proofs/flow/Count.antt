@@ -1,7 +1,7 @@
 -- How many reaches the river of an array of 128 cards and a count has, and which card each has.
 use mathlib.Core.Path.{_≡_, sym}
 use mathlib.Core.List.{List}
-use Prim.Native.Nat.{ℕ, _<_, _≤_}
+use Prim.Native.Nat.{ℕ, _<_, _≤_, min}
 use native.Mathlib.Omega.{arith}
 use lib.ListN.{length, getD, length-take}
 use lib.Seq.{getD-take}
@@ -14,12 +14,8 @@ use Rattle.flows.specs.Flow.{ownMass}
 use Rattle.river.proofs.range.Ranges.{asked-at}
 use Rattle.river.proofs.source.Ranges.{sources-in-range, source-mass-small}
 
-module _ (cs : Cards) (full : length (cs .at) ≡ 128) where
-  pub all-reaches : 128 < cs .count → 128 ≡ length (cardList cs)
-  all-reaches h = rw (length-take (cs .count) (cs .at), full) (omega arith)
-
-  pub count-reaches : cs .count ≤ 128 → cs .count ≡ length (cardList cs)
-  count-reaches h = rw (length-take (cs .count) (cs .at), full) (omega arith)
+pub reaches-counted : (cs : Cards) {count : ℕ} → length (cs .at) ≡ 128 → count ≡ min (cs .count) 128 → count ≡ length (cardList cs)
+reaches-counted cs full e = rw (length-take (cs .count) (cs .at), full) (omega arith)
 
 -- the card of a reach in the array is that of the river
 pub card-of-river : (cs : Cards) (i : ℕ) → i < length (cardList cs) → getD (cs .at) i blank ≡ getD (cardList cs) i blank

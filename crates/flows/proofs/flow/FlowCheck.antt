@@ -114,6 +114,7 @@ at-start t h =
             tabled =
                 record {
                   outlet = λ j l. absurd (not-suc-le-zero l);
+                  upstream = λ j l. absurd (not-suc-le-zero l);
                   flow = λ j l. absurd (not-suc-le-zero l);
                   mass = λ j l. absurd (not-suc-le-zero l);
                   depth = λ j l. absurd (not-suc-le-zero l);
@@ -141,9 +142,14 @@ module _ {cards : List Card} {i : ℕ} {t : FlowTable} (h : Underway cards i t) 
         }
 
     -- a reach that passes leads to the next
-    pub at-next : {o : ℕ} → r .outcome ≡ Outcome.Accepted → Full t → o ≡ cardOf cards (suc i) .outlet
-        → Underway cards (i + 1) (withReach t i o (r .flow) (r .mass) (r .depth))
-    at-next e full own =
+    pub at-next :
+        {o u : ℕ} →
+        r .outcome ≡ Outcome.Accepted →
+        Full t →
+        o ≡ cardOf cards (suc i) .outlet →
+        u ≡ flowOf (above cards (suc i)) →
+        Underway cards (i + 1) (withReach t i o u (r .flow) (r .mass) (r .depth))
+    at-next e full own upstream =
         rw
         add-one
         record {
@@ -156,7 +162,7 @@ module _ {cards : List Card} {i : ℕ} {t : FlowTable} (h : Underway cards i t) 
                     (λ (q : j ≡ i). rw q (decided (c .answer) (reach-asks _ _ _) e))
                     (λ (q : j < i). h .passed .sound j q)
                     (eq-or-lt-of-le (le-of-suc-le-suc k));
-                tabled = next-table (h .passed .tabled) (omega (arith, h .regular .few)) full own (c .flow e) (c .mass e) (c .depth e);
+                tabled = next-table (h .passed .tabled) (omega (arith, h .regular .few)) full own upstream (c .flow e) (c .mass e) (c .depth e);
               };
         }
 

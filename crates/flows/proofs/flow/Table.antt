@@ -1,11 +1,11 @@
--- Sums and largest values of a table over the feeders of a reach: one step of the loop that makes them, their bounds,
--- and that over the tables of a river they are the three-clause functions on the feeders.
-use mathlib.Core.Path.{_≡_, refl, sym, ap}
-use mathlib.Core.Bool.{Bool, true, false}
+-- Sums, largest values and flags of a table over the feeders of a reach: one step of the loops that gather them, their bounds,
+-- and that over the tables of a river they are the functions by cases on the feeders.
+use mathlib.Core.Path.{_≡_, refl, sym, ap, _∙_}
+use mathlib.Core.Bool.{Bool, true, false, _&&_, _||_}
 use mathlib.Core.List.{List, []}
-use Prim.Native.Nat.{ℕ, zero, suc, _+_, _*_, _<_, _≤_, max, zero-le}
+use Prim.Native.Nat.{ℕ, zero, suc, _+_, _*_, _^_, _<_, _≤_, max, zero-le}
 use mathlib.Core.Logic.{⊎-elim}
-use native.Mathlib.Nat.{le-trans, le-refl, le-suc-iff, le-add-left, le-add-right, le-of-suc-le-suc, eq-or-lt-of-le, not-suc-le-zero}
+use native.Mathlib.Nat.{le-trans, lt-of-le-of-lt, le-refl, le-suc-iff, le-add-left, le-add-right, le-of-suc-le-suc, eq-or-lt-of-le, not-suc-le-zero}
 use native.Mathlib.Numerals.{add-one}
 use native.Mathlib.Omega.{arith}
 use lib.ListN.{length, getD, set}
@@ -13,20 +13,25 @@ use lib.Seq.{getD-set-same, getD-set-other}
 use lib.Dec.{eqb, ltb}
 use borrow.Author.Tests.{eq-eqb, ne-eqb, lt-ltb}
 use Rattle.river.specs.declared.card.Card.{Card}
+use Rattle.flows.specs.declared.flow.Upstream.{Upstream}
 use Rattle.flows.specs.Flow.{Feeders, none, more, feedersAmong, joinedIf, deepest, reachDepth, fed}
-use Rattle.flows.specs.held.FlowTable.{onlyIf, tableSum, tableMax}
+use Rattle.flows.specs.held.FlowTable.{onlyIf, tableSum, tableMax, tableAny, FeederFits, withFeeder, upstreamAmong}
 use Rattle.river.specs.Card.{blank}
 
 lower : {j n : ℕ} → j < n → j < suc n
 lower h = omega arith
 
 -- one more entry of a table: what holds of each entry before and of the new one holds of all
-pub entered : (l : List ℕ) (n v : ℕ) (P : ℕ → ℕ → Type 0) → n < length l → P n v → ((j : ℕ) → j < n → P j (getD l j 0)) → (j : ℕ) → j < suc n → P j (getD (set l n v) j 0)
-entered l n v P room here below j h =
+pub entered-at : {A : Type 0} (l : List A) (n : ℕ) (v other : A) (P : ℕ → A → Type 0) → n < length l → P n v → ((j : ℕ) → j < n → P j (getD l j other)) → (j : ℕ) → j < suc n → P j (getD (set l n v) j other)
+entered-at l n v other P room here below j h =
     ⊎-elim
-    (λ (k : j ≡ n). rw (k, getD-set-same l n v 0 room) here)
-    (λ (k : j < n). rw (getD-set-other l n j v 0 (λ (q : j ≡ n). omega arith)) (below j k))
+    (λ (k : j ≡ n). rw (k, getD-set-same l n v other room) here)
+    (λ (k : j < n). rw (getD-set-other l n j v other (λ (q : j ≡ n). omega arith)) (below j k))
     (eq-or-lt-of-le (le-of-suc-le-suc h))
+
+-- of a table of numbers
+pub entered : (l : List ℕ) (n v : ℕ) (P : ℕ → ℕ → Type 0) → n < length l → P n v → ((j : ℕ) → j < n → P j (getD l j 0)) → (j : ℕ) → j < suc n → P j (getD (set l n v) j 0)
+entered l n v P = entered-at l n v 0 P
 
 module _ (outlets values : List ℕ) (n i : ℕ) where
   -- the next reach is a feeder, or is none
@@ -46,6 +51,28 @@ module _ (outlets values : List ℕ) (n i : ℕ) where
   unfolding tableMax onlyIf
   max-other h = rw (add-one, ne-eqb (getD outlets n 0) i h) (omega arith)
 
+module _ (outlets : List ℕ) (values : List Bool) (n i : ℕ) where
+  pub any-feeder : getD outlets n 0 ≡ i → tableAny outlets values (n + 1) i ≡ (getD values n false || tableAny outlets values n i)
+  unfolding tableAny
+  any-feeder h = rw (add-one, eq-eqb (getD outlets n 0) i h)
+
+  pub any-other : (getD outlets n 0 ≡ i → ⊥) → tableAny outlets values (n + 1) i ≡ tableAny outlets values n i
+  unfolding tableAny
+  any-other h = rw (add-one, ne-eqb (getD outlets n 0) i h)
+
+-- a scan that has gone over the first n of so many reaches, and holds what is found there
+pub record Scanned {A : Type 0} (found : ℕ → A) (most n : ℕ) (held : A) : Type 0 where
+  pub within : n ≤ most
+  pub so-far : held ≡ found n
+
+-- after the last of them
+pub scanned-all : {A : Type 0} {found : ℕ → A} {most n : ℕ} {held : A} → Scanned found most n held → most ≤ n → held ≡ found most
+scanned-all {found = found} s l = s .so-far ∙ ap found (omega (arith, s .within))
+
+-- and after one more, which changed what is held, or did not
+pub scanned-next : {A : Type 0} {found : ℕ → A} {most n : ℕ} {held next : A} (change : A → A) → Scanned found most n held → n < most → next ≡ change held → change (found n) ≡ found (n + 1) → Scanned found most (n + 1) next
+scanned-next change s l e f = record { within = omega arith; so-far = e ∙ ap change (s .so-far) ∙ f }
+
 -- a sum over fewer reaches is no larger
 pub sum-grows : (outlets values : List ℕ) (i k n : ℕ) → k ≤ n → tableSum outlets values k i ≤ tableSum outlets values n i
 unfolding tableSum
@@ -53,6 +80,26 @@ sum-grows outlets values i zero zero h = le-refl 0
 sum-grows outlets values i (suc k) zero h = absurd (not-suc-le-zero h)
 sum-grows outlets values i k (suc n) h =
     ⊎-elim (λ (l : k ≤ n). le-trans (sum-grows outlets values i k n l) (le-add-left _ _)) (λ (e : k ≡ suc n). rw e (le-refl _)) (le-suc-iff .0 h)
+
+-- and so is the sum so far with one more feeder
+pub sum-so-far : (outlets values : List ℕ) {i k n : ℕ} → k < n → getD outlets k 0 ≡ i → tableSum outlets values k i + getD values k 0 ≤ tableSum outlets values n i
+sum-so-far outlets values {i} {k} {n} l e =
+    omega (arith, sum-feeder outlets values k i e, sum-grows outlets values i (k + 1) n (omega arith))
+
+-- a scan for what flows into a reach
+module _ (outlets flows masses depths : List ℕ) (i : ℕ) {most n : ℕ} {held : Upstream} (s : Scanned (λ (n : ℕ). upstreamAmong outlets flows masses depths n i) most n held) (l : n < most) where
+  pub feeder-fits : getD outlets n 0 ≡ i → tableSum outlets flows most i < 2 ^ 64 → tableSum outlets masses most i < 2 ^ 64 → FeederFits held (getD flows n 0) (getD masses n 0)
+  feeder-fits e p q =
+      rw (s .so-far) record { flow = lt-of-le-of-lt (sum-so-far outlets flows l e) p; mass = lt-of-le-of-lt (sum-so-far outlets masses l e) q }
+
+  pub feeder-gathered : getD outlets n 0 ≡ i → {next : Upstream} → next ≡ withFeeder held (getD flows n 0) (getD masses n 0) (getD depths n 0) → Scanned (λ (n : ℕ). upstreamAmong outlets flows masses depths n i) most (n + 1) next
+  feeder-gathered h e =
+      scanned-next (λ (u : Upstream). withFeeder u (getD flows n 0) (getD masses n 0) (getD depths n 0)) s l e
+      (rw (sum-feeder outlets flows n i h, sum-feeder outlets masses n i h, max-feeder outlets depths n i h))
+
+  pub other-passed : (getD outlets n 0 ≡ i → ⊥) → {next : Upstream} → next ≡ held → Scanned (λ (n : ℕ). upstreamAmong outlets flows masses depths n i) most (n + 1) next
+  other-passed h e =
+      scanned-next (λ (u : Upstream). u) s l e (rw (sum-other outlets flows n i h, sum-other outlets masses n i h, max-other outlets depths n i h))
 
 -- two values together of at most k times a weight sum together to at most k times the weights' sum
 pub sums-scaled : (outlets a b weights : List ℕ) (k n i : ℕ) → ((j : ℕ) → j < n → getD a j 0 + getD b j 0 ≤ k * getD weights j 0) → tableSum outlets a n i + tableSum outlets b n i ≤ k * tableSum outlets weights n i
@@ -116,6 +163,29 @@ max-of-feeders {cards} {n = suc n} t i =
     step : (b : Bool) (x : ℕ) (card : Card) (up rest : Feeders) → x ≡ deepest rest → max (onlyIf b (reachDepth up)) x ≡ deepest (joinedIf b card up rest)
     step true x card up rest e = ap (max (1 + deepest up)) e
     step false x card up rest e = omega arith
+
+-- S holds of feeders where g holds of any
+pub record Finds (S : Feeders → Bool) (g : Card → Feeders → Bool) : Type 0 where
+  pub nothing : S none ≡ false
+  pub plus : (card : Card) (up rest : Feeders) → S (more card up rest) ≡ (g card up || S rest)
+
+-- the tables of outlets, and of whether g holds of each reach, of the first n reaches
+pub record FlagsOf (cards : List Card) (g : Card → Feeders → Bool) (outlets : List ℕ) (values : List Bool) (n : ℕ) : Type 0 where
+  pub outlet : (j : ℕ) → j < n → getD outlets j 0 ≡ getD cards j blank .outlet
+  pub value : (j : ℕ) → j < n → getD values j false ≡ g (getD cards j blank) (feedersAmong cards j (suc j))
+
+-- such a table holds of any feeder where S holds of the feeders
+pub any-of-feeders : {S : Feeders → Bool} {g : Card → Feeders → Bool} {cards : List Card} {outlets : List ℕ} {values : List Bool} {n : ℕ} → Finds S g → FlagsOf cards g outlets values n → (i : ℕ) → tableAny outlets values n i ≡ S (feedersAmong cards n i)
+unfolding tableAny feedersAmong joinedIf
+any-of-feeders {n = zero} a t i = sym (a .nothing)
+any-of-feeders {S} {g} {cards} {n = suc n} a t i =
+    rw (t .outlet n (le-refl (suc n)), t .value n (le-refl (suc n)))
+    (step (eqb (getD cards n blank .outlet) i) _ (getD cards n blank) (feedersAmong cards n (suc n)) (feedersAmong cards n i)
+    (any-of-feeders a (record { outlet = λ j l. t .outlet j (lower l); value = λ j l. t .value j (lower l) }) i))
+  where
+    step : (b : Bool) (x : Bool) (card : Card) (up rest : Feeders) → x ≡ S rest → (b && g card up || x) ≡ S (joinedIf b card up rest)
+    step true x card up rest e = rw (a .plus card up rest, e)
+    step false x card up rest e = e
 
 -- the feeders among n reaches are at most n deep
 pub deepest-few : (cards : List Card) (n i : ℕ) → deepest (feedersAmong cards n i) ≤ n

@@ -1,9 +1,9 @@
--- Tables of feet: one more foot stays in bounds, and the sum of flow × stored oxygen over the feeders stands for that of flow × oxygen.
+-- Tables of feet: one more foot stays in bounds, one step of the loop that gathers what feeders bring, and the sum of flow × stored oxygen over the feeders stands for that of flow × oxygen.
 use mathlib.Core.Path.{_≡_, refl, sym, ap, ap₂, _∙_}
 use mathlib.Core.Bool.{Bool, true, false}
 use mathlib.Core.List.{List}
-use Prim.Native.Nat.{ℕ, zero, suc, _+_, _*_, _<_, _≤_}
-use native.Mathlib.Nat.{le-refl, not-suc-le-zero, mul-le-mul-left}
+use Prim.Native.Nat.{ℕ, zero, suc, _+_, _*_, _^_, _<_, _≤_}
+use native.Mathlib.Nat.{le-refl, lt-of-le-of-lt, not-suc-le-zero, mul-le-mul-left}
 use native.Mathlib.Omega.{arith}
 use lib.ListN.{getD, set, length-set}
 use lib.Seq.{getD-set-same, getD-set-other}
@@ -13,15 +13,15 @@ use Rattle.river.specs.declared.card.Card.{Card}
 use Rattle.flows.specs.declared.head.Brought.{Brought}
 use Rattle.flows.specs.declared.head.FootTable.{FootTable}
 use Rattle.flows.specs.Flow.{Feeders, none, more, feedersAmong, joinedIf, flowOf, reachFlow, flowAt, massAt}
-use Rattle.flows.proofs.flow.Table.{entered}
+use Rattle.flows.proofs.flow.Table.{entered, Scanned, scanned-next, sum-feeder, sum-other, any-feeder, any-other, sum-so-far}
 use Rattle.flows.proofs.head.Offset.{sub-add, times-sub}
 use Rattle.flows.specs.held.FlowTable.{onlyIf, tableSum}
 use Rattle.flows.specs.held.Stored.{storedZero, storedLimit, oxygenOf, oxygenSumOf}
-use Rattle.flows.specs.held.HeadTable.{noFeet, footOf, withFoot, FootWithin, FullFeet, Carried}
+use Rattle.flows.specs.held.HeadTable.{noFeet, footOf, withFoot, FootFits, broughtWith, broughtAmong, FootWithin, FullFeet, Carried}
 use Rattle.river.specs.Card.{blank}
 
 -- a foot whose demands together are at most a head's is in bounds
-pub foot-within : {cards : List Card} {i flow oxygen : ℕ} (head bod nitrogenous : ℕ) → flow ≡ flowAt cards (suc i) → bod + nitrogenous ≤ head → flowAt cards (suc i) * head ≤ 1000 * massAt cards (suc i) → oxygen ≤ storedLimit → FootWithin cards i (footOf flow bod nitrogenous oxygen)
+pub foot-within : {cards : List Card} {i flow oxygen : ℕ} {used : Bool} (head bod nitrogenous : ℕ) → flow ≡ flowAt cards (suc i) → bod + nitrogenous ≤ head → flowAt cards (suc i) * head ≤ 1000 * massAt cards (suc i) → oxygen ≤ storedLimit → FootWithin cards i (footOf flow bod nitrogenous oxygen used)
 foot-within {cards} {i} head bod nitrogenous e falls mass small =
     rw e
     record {
@@ -33,7 +33,7 @@ foot-within {cards} {i} head bod nitrogenous e falls mass small =
 pub carried-none : (cards : List Card) → Carried cards noFeet 0
 carried-none cards =
     record {
-      full = record { bod = refl; nitrogenous = refl; oxygen = refl };
+      full = record { bod = refl; nitrogenous = refl; oxygen = refl; used = refl };
       demands = λ j l. absurd (not-suc-le-zero l);
       oxygen = λ j l. absurd (not-suc-le-zero l);
     }
@@ -47,6 +47,7 @@ carried-next {cards} {feet} {i} {foot} h few within =
             bod = length-set (feet .bod) i (foot .bod) ∙ full .bod;
             nitrogenous = length-set (feet .nitrogenous) i (foot .nitrogenous) ∙ full .nitrogenous;
             oxygen = length-set (feet .oxygen) i (foot .oxygen) ∙ full .oxygen;
+            used = length-set (feet .used) i (foot .used) ∙ full .used;
           };
       demands =
           entered (feet .bod) i (foot .bod) (λ j x. x + getD (set (feet .nitrogenous) i (foot .nitrogenous)) j 0 ≤ 1000 * massAt cards (suc j)) (rw (full .bod) few)
@@ -58,6 +59,37 @@ carried-next {cards} {feet} {i} {foot} h few within =
   where
     full : FullFeet feet
     full = h .full
+
+-- a scan for what the feeders of a reach bring
+module _ (outlets of-bod of-nitrogenous of-oxygen : List ℕ) (of-used : List Bool) (i : ℕ) {most n : ℕ} {held : Brought} (s : Scanned (λ (n : ℕ). broughtAmong outlets of-bod of-nitrogenous of-oxygen of-used n i) most n held) (l : n < most) where
+  pub foot-fits :
+      getD outlets n 0 ≡ i →
+      tableSum outlets of-bod most i < 2 ^ 64 →
+      tableSum outlets of-nitrogenous most i < 2 ^ 64 →
+      tableSum outlets of-oxygen most i < 2 ^ 64 →
+      FootFits held (getD of-bod n 0) (getD of-nitrogenous n 0) (getD of-oxygen n 0)
+  foot-fits e p q r =
+      rw (s .so-far)
+      record {
+        bod = lt-of-le-of-lt (sum-so-far outlets of-bod l e) p;
+        nitrogenous = lt-of-le-of-lt (sum-so-far outlets of-nitrogenous l e) q;
+        oxygen = lt-of-le-of-lt (sum-so-far outlets of-oxygen l e) r;
+      }
+
+  pub foot-gathered :
+      getD outlets n 0 ≡ i →
+      {next : Brought} →
+      next ≡ broughtWith held (getD of-bod n 0) (getD of-nitrogenous n 0) (getD of-oxygen n 0) (getD of-used n false) →
+      Scanned (λ (n : ℕ). broughtAmong outlets of-bod of-nitrogenous of-oxygen of-used n i) most (n + 1) next
+  foot-gathered h e =
+      scanned-next (λ (b : Brought). broughtWith b (getD of-bod n 0) (getD of-nitrogenous n 0) (getD of-oxygen n 0) (getD of-used n false)) s l e
+      (rw (sum-feeder outlets of-bod n i h, sum-feeder outlets of-nitrogenous n i h, sum-feeder outlets of-oxygen n i h, any-feeder outlets of-used n i h))
+
+  pub foot-passed :
+      (getD outlets n 0 ≡ i → ⊥) → {next : Brought} → next ≡ held → Scanned (λ (n : ℕ). broughtAmong outlets of-bod of-nitrogenous of-oxygen of-used n i) most (n + 1) next
+  foot-passed h e =
+      scanned-next (λ (b : Brought). b) s l e
+      (rw (sum-other outlets of-bod n i h, sum-other outlets of-nitrogenous n i h, sum-other outlets of-oxygen n i h, any-other outlets of-used n i h))
 
 -- S adds up flow × what g gives for each feeder
 pub record AddsFlowTimes (S : Feeders → ℤ) (g : Card → Feeders → ℤ) : Type 0 where

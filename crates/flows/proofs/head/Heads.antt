@@ -21,12 +21,12 @@ use Rattle.flows.specs.declared.head.Head.{Head}
 use Rattle.river.specs.Card.{blank}
 use Rattle.river.specs.Described.{InRange}
 use Rattle.river.specs.Records.{DM}
-use Rattle.flows.specs.Flow.{Feeders, cardOf, above, feedersAmong, joinedIf, flowOf, massOf, deepest, fed, flowLimit, takeOf, mixedFlow, reachFlow, mixedMass, reachMass, ownMass, flowAt, massAt, ReachPasses, DamRule}
+use Rattle.flows.specs.Flow.{Feeders, cardOf, above, feedersAmong, joinedIf, flowOf, massOf, deepest, fed, flowLimit, mixedFlow, reachFlow, mixedMass, reachMass, ownMass, flowAt, massAt, ReachPasses, DamRule}
 use Rattle.flows.specs.Head.{headDemand}
 use Rattle.river.proofs.range.Ranges.{asked-at}
 use Rattle.river.proofs.source.Ranges.{source-inflow}
 use Rattle.flows.proofs.flow.Table.{sum-of-feeders, sum-scaled, sums-scaled, fed-deepest}
-use Rattle.flows.proofs.flow.Take.{flow-remains, flow-within, flow-and-take, mixed-bounded, mass-scaled, still-within}
+use Rattle.flows.proofs.flow.Take.{flow-remains, flow-within, mixed-bounded, mass-scaled, still-within}
 use Rattle.flows.proofs.head.Bounds.{head-demand-kept, conditions-in-range}
 use Rattle.flows.proofs.flow.Checks.{first-tabled, flows-add, masses-add, flow-table, mass-table}
 use Rattle.flows.specs.held.FlowTable.{feederSum, Tabled}
@@ -69,8 +69,8 @@ head-demands-within-mass {card} {up} bod nitrogenous s h =
     inflow d = ap (λ (x : ℕ). flowOf up + x) (sym (source-inflow d card))
 
 -- what a head asks for has what each demand asks for
-module _ {card : Card} {fed : Bool} {Qu : ℕ} {sums : Brought} (h : HeadInput card fed Qu sums) where
-  part-input : (d : Demand) {source : Source} {sum : ℕ} → sum + 1000 * sourceMass (sourceOf d card) ≤ sums .bod + sums .nitrogenous + 1000 * ownMass card → source ≡ sourceOf d card → DemandReady source fed Qu sum
+module _ {card : Card} {fed : Bool} {Qu : ℕ} {brought : Brought} (h : HeadInput card fed Qu brought) where
+  part-input : (d : Demand) {source : Source} {sum : ℕ} → sum + 1000 * sourceMass (sourceOf d card) ≤ brought .bod + brought .nitrogenous + 1000 * ownMass card → source ≡ sourceOf d card → DemandReady source fed Qu sum
   part-input d k e =
       rw e
       record {
@@ -78,21 +78,21 @@ module _ {card : Card} {fed : Bool} {Qu : ℕ} {sums : Brought} (h : HeadInput c
         within = omega (arith, k, h .demands, source-inflow d card);
       }
 
-  pub bod-input : {source : Source} → source ≡ sourceOf Bod card → DemandReady source fed Qu (sums .bod)
+  pub bod-input : {source : Source} → source ≡ sourceOf Bod card → DemandReady source fed Qu (brought .bod)
   bod-input = part-input Bod (omega arith)
 
-  pub nitrogenous-input : {source : Source} → source ≡ sourceOf Nitrogenous card → DemandReady source fed Qu (sums .nitrogenous)
+  pub nitrogenous-input : {source : Source} → source ≡ sourceOf Nitrogenous card → DemandReady source fed Qu (brought .nitrogenous)
   nitrogenous-input = part-input Nitrogenous (omega arith)
 
 -- whether reach i + 1 has feeders, its Qu, and what the feeders bring, by the tables
 abbrev pub fedBy : FlowTable → ℕ → Bool
 fedBy flows i = ltb 1 (getD (flows .depth) i 0)
 
-abbrev pub quBy : FlowTable → ℕ → Card → ℕ
-quBy flows i card = getD (flows .flow) i 0 + takeOf card - card .inflow
+abbrev pub quBy : FlowTable → ℕ → ℕ
+quBy flows i = getD (flows .upstream) i 0
 
-abbrev pub sumsBy : FlowTable → FootTable → ℕ → Brought
-sumsBy flows feet i = broughtTo (flows .outlet) (feet .bod) (feet .nitrogenous) (feet .oxygen) i
+abbrev pub broughtBy : FlowTable → FootTable → ℕ → Brought
+broughtBy flows feet i = broughtTo (flows .outlet) (feet .bod) (feet .nitrogenous) (feet .oxygen) (feet .used) i
 
 module _ {cards : List Card} {flows : FlowTable} {feet : FootTable} {i : ℕ} (h : HeadTabled cards flows feet i) where
   -- the tables of the reaches before
@@ -125,17 +125,17 @@ module _ {cards : List Card} {flows : FlowTable} {feet : FootTable} {i : ℕ} (h
         oxygen = omega (arith, sum-oxygen, here .bounded);
       }
 
-  -- the flow after the take and before it, and whether there are feeders, by the tables
+  -- the flow after the take, whether there are feeders, and Qu, by the tables
   pub flow-bounded : getD (flows .flow) i 0 ≤ flowLimit
   flow-bounded = rw (h .tabled .flow i (h .within)) (flow-within here)
-
-  flow-here : getD (flows .flow) i 0 + takeOf (cardOf cards (suc i)) ≡ mixedFlow (cardOf cards (suc i)) (above cards (suc i))
-  flow-here = rw (h .tabled .flow i (h .within)) (flow-and-take here)
 
   pub fed-here : fedBy flows i ≡ fed (above cards (suc i))
   fed-here =
       let d = deepest (above cards (suc i)) in
       ap (ltb 1) (h .tabled .depth i (h .within) ∙ one-add d) ∙ leb·suc-suc 1 d ∙ fed-deepest (above cards (suc i))
+
+  pub qu-here : quBy flows i ≡ flowOf (above cards (suc i))
+  qu-here = h .tabled .upstream i (h .within)
 
   ready : HeadReady (cardOf cards (suc i)) (fed (above cards (suc i))) (flowOf (above cards (suc i)))
   ready =
@@ -154,15 +154,8 @@ module _ {cards : List Card} {flows : FlowTable} {feet : FootTable} {i : ℕ} (h
 
   -- the same of the card that the program works with
   module _ {card : Card} (ec : card ≡ cardOf cards (suc i)) where
-    -- what `upstream_flow` asks for
-    pub flow-asked : (card .inflow ≤ getD (flows .flow) i 0 + takeOf card) × (getD (flows .flow) i 0 + takeOf card ≤ flowLimit)
-    flow-asked = rw (ec, flow-here) (omega arith, here .bounded)
-
-    pub qu-here : quBy flows i card ≡ flowOf (above cards (suc i))
-    qu-here = rw (ec, flow-here) (omega arith)
-
-    module _ {Qu : ℕ} {sums : Brought} (eq : Qu ≡ quBy flows i card) (es : sums ≡ sumsBy flows feet i) where
-      pub head-input : HeadInput card (fedBy flows i) Qu sums
+    module _ {Qu : ℕ} {brought : Brought} (eq : Qu ≡ quBy flows i) (es : brought ≡ broughtBy flows feet i) where
+      pub head-input : HeadInput card (fedBy flows i) Qu brought
       head-input =
           rw (es, eq, qu-here, fed-here, ec)
           record {
@@ -172,7 +165,7 @@ module _ {cards : List Card} {flows : FlowTable} {feet : FootTable} {i : ℕ} (h
           }
 
       -- Q × both demands at the head
-      pub head-within : {r : Head} → HeadOf card (fedBy flows i) Qu sums r → flowAt cards (suc i) * (r .bod + r .nitrogenous) ≤ 1000 * massAt cards (suc i)
+      pub head-within : {r : Head} → HeadOf card (fedBy flows i) Qu brought r → flowAt cards (suc i) * (r .bod + r .nitrogenous) ≤ 1000 * massAt cards (suc i)
       head-within {r} of =
           let k = rw (es, eq, qu-here, fed-here, ec) at of in
           rw (k .bod, k .nitrogenous) (head-demands-within-mass _ _ here sum-demands)

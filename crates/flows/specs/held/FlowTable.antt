@@ -1,7 +1,7 @@
 -- The tables that the program keeps of the reaches that passed, and what the flow check promises of them. Nothing here has to be believed
 -- of the paper: laws tie the tables to its definitions.
 use mathlib.Core.Path.{_≡_}
-use mathlib.Core.Bool.{Bool, true, false}
+use mathlib.Core.Bool.{Bool, true, false, _&&_, _||_}
 use mathlib.Core.List.{List}
 use Prim.Native.Nat.{ℕ, zero, suc, _+_, _<_, _≤_, _^_, max}
 use lib.ListN.{length, getD, replicate}
@@ -11,10 +11,11 @@ use Rattle.river.specs.declared.refusal.Outcome.{Outcome}
 use Rattle.flows.specs.declared.flow.FlowTable.{FlowTable}
 use Rattle.flows.specs.declared.flow.Checked.{Checked}
 use Rattle.flows.specs.declared.flow.ReachChecked.{ReachChecked}
+use Rattle.flows.specs.declared.flow.ReachFlows.{ReachFlows}
 use Rattle.flows.specs.declared.flow.Upstream.{Upstream}
 use Rattle.river.specs.Refusal.{Answer, outcomeOf, goOn}
 use Rattle.river.specs.Card.{Regular}
-use Rattle.flows.specs.Flow.{Checks, ReachPasses, cardOf, above, flowAt, massAt, depthAt, reachChecks, flowCheck}
+use Rattle.flows.specs.Flow.{Checks, ReachPasses, cardOf, above, flowOf, flowAt, massAt, depthAt, reachChecks, flowCheck}
 
 -- an outcome of the program decides a group of checks: it goes on, or is refused, as they do
 pub record Decides (r : Outcome) (checks : Checks) : Type 0 where
@@ -25,7 +26,7 @@ unfoldable pub onlyIf : Bool → ℕ → ℕ
 onlyIf true value = value
 onlyIf false value = 0
 
--- the sum and the largest of a table over the feeders of reach i among the first n reaches, by a table of outlets
+-- the sum and the largest of a table over the feeders of reach i among the first n reaches, by a table of outlets, and whether it holds of any
 unfoldable pub tableSum : (outlets values : List ℕ) (n i : ℕ) → ℕ
 tableSum outlets values zero i = 0
 tableSum outlets values (suc n) i = onlyIf (eqb (getD outlets n 0) i) (getD values n 0) + tableSum outlets values n i
@@ -33,6 +34,10 @@ tableSum outlets values (suc n) i = onlyIf (eqb (getD outlets n 0) i) (getD valu
 unfoldable pub tableMax : (outlets values : List ℕ) (n i : ℕ) → ℕ
 tableMax outlets values zero i = 0
 tableMax outlets values (suc n) i = max (onlyIf (eqb (getD outlets n 0) i) (getD values n 0)) (tableMax outlets values n i)
+
+unfoldable pub tableAny : (outlets : List ℕ) (values : List Bool) (n i : ℕ) → Bool
+tableAny outlets values zero i = false
+tableAny outlets values (suc n) i = eqb (getD outlets n 0) i && getD values n false || tableAny outlets values n i
 
 -- the sum of a table over the feeders of reach i + 1
 abbrev pub feederSum : (outlets values : List ℕ) (i : ℕ) → ℕ
@@ -44,10 +49,22 @@ pub record SumsFit (outlets flows masses : List ℕ) (i : ℕ) : Type 0 where
   pub flow : feederSum outlets flows i < 2 ^ 64
   pub mass : feederSum outlets masses i < 2 ^ 64
 
--- the sums over the feeders of reach i + 1, and the depth of the deepest
+-- what flows in with one more feeder, and what that needs
+abbrev pub withFeeder : Upstream → (flow mass depth : ℕ) → Upstream
+withFeeder up flow mass depth = record { flow = up .flow + flow; mass = up .mass + mass; deepest = max depth (up .deepest) }
+
+pub record FeederFits (up : Upstream) (Q M : ℕ) : Type 0 where
+  pub flow : up .flow + Q < 2 ^ 64
+  pub mass : up .mass + M < 2 ^ 64
+
+-- the sums over the feeders of reach i among the first n reaches, and the depth of the deepest
+abbrev pub upstreamAmong : (outlets flows masses depths : List ℕ) (n i : ℕ) → Upstream
+upstreamAmong outlets flows masses depths n i =
+    record { flow = tableSum outlets flows n i; mass = tableSum outlets masses n i; deepest = tableMax outlets depths n i }
+
+-- those over all feeders of reach i + 1
 abbrev pub upstreamOf : (outlets flows masses depths : List ℕ) (i : ℕ) → Upstream
-upstreamOf outlets flows masses depths i =
-    record { flow = feederSum outlets flows i; mass = feederSum outlets masses i; deepest = tableMax outlets depths i (suc i) }
+upstreamOf outlets flows masses depths i = upstreamAmong outlets flows masses depths i (suc i)
 
 -- the same by the tables of the flow check
 abbrev pub upstreamBy : FlowTable → (i : ℕ) → Upstream
@@ -55,14 +72,19 @@ upstreamBy t i = upstreamOf (t .outlet) (t .flow) (t .mass) (t .depth) i
 
 -- tables of no reach
 abbrev pub noFlows : FlowTable
-noFlows = record { outlet = replicate 128 0; flow = replicate 128 0; mass = replicate 128 0; depth = replicate 128 0 }
+noFlows = record { outlet = replicate 128 0; upstream = replicate 128 0; flow = replicate 128 0; mass = replicate 128 0; depth = replicate 128 0 }
 
--- tables of the first n reaches: outlet, flow and undecayed BOD after the take, and depth
+-- tables of the first n reaches: outlet, Qu, flow and undecayed BOD after the take, and depth
 pub record Tabled (cards : List Card) (n : ℕ) (t : FlowTable) : Type 0 where
   pub outlet : (j : ℕ) → j < n → getD (t .outlet) j 0 ≡ cardOf cards (suc j) .outlet
+  pub upstream : (j : ℕ) → j < n → getD (t .upstream) j 0 ≡ flowOf (above cards (suc j))
   pub flow : (j : ℕ) → j < n → getD (t .flow) j 0 ≡ flowAt cards (suc j)
   pub mass : (j : ℕ) → j < n → getD (t .mass) j 0 ≡ massAt cards (suc j)
   pub depth : (j : ℕ) → j < n → getD (t .depth) j 0 ≡ depthAt cards (suc j)
+
+-- what the tables say of reach i + 1
+abbrev pub flowsBy : FlowTable → (i : ℕ) → ReachFlows
+flowsBy t i = record { upstream = getD (t .upstream) i 0; flow = getD (t .flow) i 0; depth = getD (t .depth) i 0 }
 
 -- the first n reaches pass, and have their tables
 pub record PassedFirst (cards : List Card) (n : ℕ) (t : FlowTable) : Type 0 where

@@ -1,7 +1,7 @@
 -- The tables that the program keeps of the reaches' feet, and what the head of a reach needs and promises. Nothing here has to be believed
 -- of the paper: laws tie the tables to its definitions.
 use mathlib.Core.Path.{_≡_}
-use mathlib.Core.Bool.{Bool, true}
+use mathlib.Core.Bool.{Bool, true, false, _||_}
 use mathlib.Core.List.{List}
 use Prim.Native.Nat.{ℕ, suc, _+_, _*_, _<_, _≤_, _^_}
 use lib.ListN.{length, getD, set, replicate}
@@ -19,7 +19,7 @@ use Rattle.flows.specs.Saturation.{SaturationInRange}
 use Rattle.river.specs.Source.{sourceOf, sourceMass}
 use Rattle.flows.specs.Flow.{flowLimit, massLimit, Flows, ownMass, flowAt, massAt}
 use Rattle.flows.specs.Head.{headDemand, headOxygen}
-use Rattle.flows.specs.held.FlowTable.{feederSum, Tabled}
+use Rattle.flows.specs.held.FlowTable.{tableSum, tableAny, feederSum, Tabled}
 use Rattle.flows.specs.held.Stored.{storedLimit, oxygenOf, oxygenSumOf}
 
 -- a dam's share is at most 1,000, and its generating flow at most Qu
@@ -62,11 +62,12 @@ pub record OxygenReady (card : Card) (fed : Bool) (Qu sum : ℕ) : Type 0 where
 
 -- tables of no feet
 abbrev pub noFeet : FootTable
-noFeet = record { bod = replicate 128 0; nitrogenous = replicate 128 0; oxygen = replicate 128 0 }
+noFeet = record { bod = replicate 128 0; nitrogenous = replicate 128 0; oxygen = replicate 128 0; used = replicate 128 false }
 
--- what a foot brings: flow × each demand and flow × stored oxygen
-abbrev pub footOf : (flow bod nitrogenous oxygen : ℕ) → Brought
-footOf flow bod nitrogenous oxygen = record { bod = flow * bod; nitrogenous = flow * nitrogenous; oxygen = flow * oxygen }
+-- what a foot brings: flow × each demand and flow × stored oxygen, and whether oxygen is used up there or above
+abbrev pub footOf : (flow bod nitrogenous oxygen : ℕ) (used : Bool) → Brought
+footOf flow bod nitrogenous oxygen used =
+    record { bod = flow * bod; nitrogenous = flow * nitrogenous; oxygen = flow * oxygen; used = used }
 
 -- tables with the foot of reach i + 1 entered
 abbrev pub withFoot : FootTable → ℕ → Brought → FootTable
@@ -75,16 +76,37 @@ withFoot feet i foot =
       bod = set (feet .bod) i (foot .bod);
       nitrogenous = set (feet .nitrogenous) i (foot .nitrogenous);
       oxygen = set (feet .oxygen) i (foot .oxygen);
+      used = set (feet .used) i (foot .used);
     }
 
--- what the feeders of reach i + 1 bring, by tables of outlets and of what each foot brings
-abbrev pub broughtTo : (outlets of-bod of-nitrogenous of-oxygen : List ℕ) (i : ℕ) → Brought
-broughtTo outlets of-bod of-nitrogenous of-oxygen i =
+-- what is brought with one more foot, and what that needs
+abbrev pub broughtWith : Brought → (bod nitrogenous oxygen : ℕ) (used : Bool) → Brought
+broughtWith brought bod nitrogenous oxygen used =
     record {
-      bod = feederSum outlets of-bod i;
-      nitrogenous = feederSum outlets of-nitrogenous i;
-      oxygen = feederSum outlets of-oxygen i;
+      bod = brought .bod + bod;
+      nitrogenous = brought .nitrogenous + nitrogenous;
+      oxygen = brought .oxygen + oxygen;
+      used = used || brought .used;
     }
+
+pub record FootFits (brought : Brought) (QL QLn QC : ℕ) : Type 0 where
+  pub bod : brought .bod + QL < 2 ^ 64
+  pub nitrogenous : brought .nitrogenous + QLn < 2 ^ 64
+  pub oxygen : brought .oxygen + QC < 2 ^ 64
+
+-- what the feeders of reach i among the first n reaches bring, by tables of outlets and of what each foot brings
+abbrev pub broughtAmong : (outlets of-bod of-nitrogenous of-oxygen : List ℕ) (of-used : List Bool) (n i : ℕ) → Brought
+broughtAmong outlets of-bod of-nitrogenous of-oxygen of-used n i =
+    record {
+      bod = tableSum outlets of-bod n i;
+      nitrogenous = tableSum outlets of-nitrogenous n i;
+      oxygen = tableSum outlets of-oxygen n i;
+      used = tableAny outlets of-used n i;
+    }
+
+-- what all feeders of reach i + 1 bring
+abbrev pub broughtTo : (outlets of-bod of-nitrogenous of-oxygen : List ℕ) (of-used : List Bool) (i : ℕ) → Brought
+broughtTo outlets of-bod of-nitrogenous of-oxygen of-used i = broughtAmong outlets of-bod of-nitrogenous of-oxygen of-used i (suc i)
 
 -- what these sums need: they fit eight bytes
 pub record BroughtFits (outlets of-bod of-nitrogenous of-oxygen : List ℕ) (i : ℕ) : Type 0 where
@@ -94,16 +116,16 @@ pub record BroughtFits (outlets of-bod of-nitrogenous of-oxygen : List ℕ) (i :
   pub oxygen : feederSum outlets of-oxygen i < 2 ^ 64
 
 -- what the head of a reach needs, by its card, whether it has feeders, Qu, and what the feeders bring
-pub record HeadInput (card : Card) (fed : Bool) (Qu : ℕ) (sums : Brought) : Type 0 where
+pub record HeadInput (card : Card) (fed : Bool) (Qu : ℕ) (brought : Brought) : Type 0 where
   pub ready : HeadReady card fed Qu
-  pub demands : sums .bod + sums .nitrogenous + 1_000 * ownMass card ≤ demandLimit * (Qu + card .inflow)
-  pub oxygen : sums .oxygen ≤ storedLimit * Qu
+  pub demands : brought .bod + brought .nitrogenous + 1_000 * ownMass card ≤ demandLimit * (Qu + card .inflow)
+  pub oxygen : brought .oxygen ≤ storedLimit * Qu
 
 -- the head: each demand, and oxygen
-pub record HeadOf (card : Card) (fed : Bool) (Qu : ℕ) (sums : Brought) (r : Head) : Type 0 where
-  pub bod : r .bod ≡ headDemand (sourceOf Bod card) fed Qu (sums .bod)
-  pub nitrogenous : r .nitrogenous ≡ headDemand (sourceOf Nitrogenous card) fed Qu (sums .nitrogenous)
-  pub oxygen : oxygenOf (r .oxygen) ≡ headOxygen card fed Qu (oxygenSumOf Qu (sums .oxygen))
+pub record HeadOf (card : Card) (fed : Bool) (Qu : ℕ) (brought : Brought) (r : Head) : Type 0 where
+  pub bod : r .bod ≡ headDemand (sourceOf Bod card) fed Qu (brought .bod)
+  pub nitrogenous : r .nitrogenous ≡ headDemand (sourceOf Nitrogenous card) fed Qu (brought .nitrogenous)
+  pub oxygen : oxygenOf (r .oxygen) ≡ headOxygen card fed Qu (oxygenSumOf Qu (brought .oxygen))
 
 -- the bounds that the foot of reach i + 1 has: flow × both demands is at most 1,000 × M, and stored oxygen fits four bytes
 pub record FootWithin (cards : List Card) (i : ℕ) (foot : Brought) : Type 0 where
@@ -115,6 +137,7 @@ pub record FullFeet (feet : FootTable) : Type 0 where
   pub bod : length (feet .bod) ≡ 128
   pub nitrogenous : length (feet .nitrogenous) ≡ 128
   pub oxygen : length (feet .oxygen) ≡ 128
+  pub used : length (feet .used) ≡ 128
 
 -- tables of what the feet of the first n reaches bring, in these bounds
 pub record Carried (cards : List Card) (feet : FootTable) (n : ℕ) : Type 0 where

@@ -1,7 +1,7 @@
 -- The head, the line and the foot of a reach of an accepted river, from the tables of flows and feet and from what is handed on of them.
 -- Assumes nothing.
-use mathlib.Core.Path.{_≡_, refl, sym, ap, _∙_, subst}
-use mathlib.Core.Bool.{Bool, cond}
+use mathlib.Core.Path.{_≡_, refl, sym, ap, ap₂, _∙_, subst}
+use mathlib.Core.Bool.{Bool, false, cond}
 use mathlib.Core.List.{List, [], _∷_}
 use Prim.Native.Nat.{ℕ, suc, _+_, _-_, _*_, _≤_, _<_}
 use native.Mathlib.Nat.{le-refl, not-suc-le-zero}
@@ -17,6 +17,7 @@ use Rattle.decay.specs.Fraction.{_≼_, ofℕ, ofℤ, _+ᶠ_}
 use Rattle.decay.proofs.Algebra.{quote, certify, slack, number, _⊞_, multiple, ≈-trans, ofℤ-≈, ofℕ-reflect}
 use Rattle.river.specs.declared.card.Card.{Card}
 use Rattle.flows.specs.declared.flow.FlowTable.{FlowTable}
+use Rattle.flows.specs.declared.flow.ReachFlows.{ReachFlows}
 use Rattle.flows.specs.declared.head.Brought.{Brought}
 use Rattle.flows.specs.declared.head.FootTable.{FootTable}
 use Rattle.flows.specs.declared.head.Head.{Head}
@@ -24,38 +25,28 @@ use Rattle.river.specs.declared.source.Demand.{Demand}
 use Rattle.river.specs.declared.source.Demand.the-variants.{Bod, Nitrogenous}
 use Rattle.river.specs.Card.{blank}
 use Rattle.river.specs.Source.{sourceOf}
-use Rattle.flows.specs.Flow.{Feeders, flowLimit, takeOf, cardOf, above, feedersAmong, fed, flowOf, reachFlow, flowAt, massAt, depthAt}
-use Rattle.flows.specs.held.FlowTable.{feederSum}
+use Rattle.flows.specs.Flow.{Feeders, flowLimit, cardOf, above, feedersAmong, fed, flowOf, reachFlow, flowAt, massAt, depthAt}
+use Rattle.flows.specs.held.FlowTable.{tableAny, feederSum}
 use Rattle.flows.specs.Head.{headDemand, headOxygen}
 use Rattle.flows.specs.held.HeadTable.{noFeet, footOf, withFoot, HeadInput, HeadOf, FootWithin, HeadTabled}
 use Rattle.flows.specs.held.Stored.{storedZero, oxygenOf, storedOf}
 use Rattle.flows.proofs.head.Offset.{sub-pos, sub-neg, minus}
-use Rattle.flows.proofs.flow.Table.{entered, Adds, TableOf, sum-of-feeders}
+use Rattle.flows.proofs.flow.Table.{entered, entered-at, Adds, TableOf, sum-of-feeders, any-of-feeders}
 use Rattle.flows.proofs.head.Feet.{AddsFlowTimes, StoredTable, oxygen-of-feeders, foot-within, carried-none, carried-next}
-use Rattle.flows.proofs.head.Heads.{fedBy, quBy, sumsBy, flow-bounded, fed-here, flow-asked, qu-here, head-input, head-within}
+use Rattle.flows.proofs.head.Heads.{fedBy, quBy, broughtBy, flow-bounded, fed-here, qu-here, head-input, head-within}
 use Rattle.report.specs.held.Bed.{lossLimit}
-use Rattle.report.specs.Program.{demandSum, oxygenSum, demandAtHead, oxygenAtHead, demandAt, oxygenAt, figuresBelow, figuresOf, figuresAt, foot}
+use Rattle.report.specs.Program.{demandSum, oxygenSum, demandAtHead, oxygenAtHead, demandAt, oxygenAt, usedAbove, figuresBelow, figuresOf, figuresAt, foot}
 use Rattle.report.specs.Ties.{footFigure}
 use Rattle.report.specs.Record.{hasNitrification, encodeRecord, Figures}
 use Rattle.report.specs.held.LineFigures.{figuresIn}
 use Rattle.report.specs.Status.{isUsed, reported}
 use Rattle.report.specs.declared.record.Line.{Line}
-use Rattle.report.specs.Mean.{meanOxygen}
-use Rattle.report.specs.held.MeanLines.{PassageBelow, ReachAveraged}
-use Rattle.report.specs.declared.lines.HandedOn.{HandedOn}
-use Rattle.report.specs.declared.mean.Passage.{Passage}
-use Rattle.report.specs.declared.mean.Passed.{Passed}
-use Rattle.report.specs.held.Lines.{LineReady, HeadFits, footBy, Ready, FeetOf, LineOf, LineAt, UsedAt, HeadOfReach, ReachReported}
+use Rattle.report.specs.held.Lines.{LineReady, HeadFits, footBy, Ready, FeetOf, LineOf, LineAt, HeadOfReach, FootOf, ReachReported}
 use Rattle.report.proofs.Facts.Floor.{ofℤ-sub}
+use Rattle.report.proofs.lines.Used.{used-finds}
 use Rattle.report.proofs.Bounds.{mostBelow}
 use Rattle.report.proofs.Forest.{rates-pass, bed-passes, reach-accepted}
 use Rattle.report.proofs.River.{IsRiver, head-in-range, instant-in-range, falls}
-
--- what reach i + 1 hands on: its foot brings what its figures say, in bounds, and its mean
-pub record PassageOf (cards : List Card) (i : ℕ) (p : Passage) : Type 0 where
-  pub brings : footOf (flowAt cards (suc i)) (p .«foot_bod») (p .«foot_nitrogenous») (p .«foot_oxygen») ≡ footBy (flowAt cards (suc i)) (figuresAt cards (suc i))
-  pub within : FootWithin cards i (footBy (flowAt cards (suc i)) (figuresAt cards (suc i)))
-  pub mean : oxygenOf (p .mean) ≡ meanOxygen (cardOf cards (suc i)) (above cards (suc i))
 
 -- stored oxygen is back where it was
 pub stored-back : (z : ℤ) → negsuc 1_640_000_383 ≤ℤ z → oxygenOf (storedOf z) ≡ z
@@ -81,7 +72,7 @@ stored-low demands n h =
     (certify (ofℕ demands ∷ ofℕ n ∷ ofℤ (subℕ n storedZero) ∷ []) (slack h ⊞ number 502_483_264 ⊞ multiple (ofℕ 1) (≈-trans (ofℤ-≈ (sym (minus n storedZero))) (ofℤ-sub (pos n) (pos storedZero)))) (search quote depth 40 fits 9999) tt)
 
 -- the river of flows that are ready
-is-river : {cards : List Card} {flows : FlowTable} → Ready cards flows → IsRiver cards
+pub is-river : {cards : List Card} {flows : FlowTable} → Ready cards flows → IsRiver cards
 is-river ready = record { lawful = ready .lawful; flows = ready .sound }
 
 -- the sums of the feeders
@@ -130,8 +121,11 @@ module _ {cards : List Card} {flows : FlowTable} {feet : FootTable} {i : ℕ} (r
         oxygen = λ j k. stored-back _ (instant-in-range (is-river ready) j (omega arith) foot (le-refl foot) .oxygen-low);
       }
 
+  pub used-table : tableAny (flows .outlet) (feet .used) i (suc i) ≡ usedAbove (above cards (suc i))
+  used-table = any-of-feeders used-finds (record { outlet = λ j k. ready .tabled .outlet j (omega arith); value = f .used }) (suc i)
+
   -- the head that these make is that of the reach
-  module _ {h : Head} (of : HeadOf (cardOf cards (suc i)) (fed (above cards (suc i))) (flowOf (above cards (suc i))) (sumsBy flows feet i) h) where
+  module _ {h : Head} (of : HeadOf (cardOf cards (suc i)) (fed (above cards (suc i))) (flowOf (above cards (suc i))) (broughtBy flows feet i) h) where
     head-bod : h .bod ≡ demandAtHead Bod (cardOf cards (suc i)) (above cards (suc i))
     unfolding demandAtHead
     head-bod = of .bod ∙ ap (headDemand (sourceOf Bod (cardOf cards (suc i))) (fed (above cards (suc i))) (flowOf (above cards (suc i)))) (demand-table Bod (feet .bod) (f .bod))
@@ -157,100 +151,58 @@ module _ {cards : List Card} {flows : FlowTable} {feet : FootTable} {i : ℕ} (r
     head-of-reach mass = record { bod = head-bod; nitrogenous = head-nitrogenous; oxygen = head-oxygen; fits = head-fits; mass = mass }
 
 -- what is handed on of a reach
-module _ {card : Card} {flow depth : ℕ} {sums : Brought} (p : LineAt card flow depth sums) where
+module _ {card : Card} {reach : ReachFlows} {brought : Brought} (p : LineAt card reach brought) where
   tabled : HeadTabled (p .cards) (p .flows) (p .feet) (p .i)
   tabled = head-tabled (p .ready) (p .feet-are) (p .within)
 
-  flow-here : flow ≡ flowAt (p .cards) (suc (p .i))
-  flow-here = p .flow-is ∙ p .ready .tabled .flow (p .i) (p .within)
+  pub flow-here : reach .flow ≡ flowAt (p .cards) (suc (p .i))
+  flow-here = rw (p .flows-are) (p .ready .tabled .flow (p .i) (p .within))
 
-  depth-here : depth ≡ depthAt (p .cards) (suc (p .i))
-  depth-here = p .depth-is ∙ p .ready .tabled .depth (p .i) (p .within)
+  depth-here : reach .depth ≡ depthAt (p .cards) (suc (p .i))
+  depth-here = rw (p .flows-are) (p .ready .tabled .depth (p .i) (p .within))
 
-  pub flow-small : flow ≤ flowLimit
-  flow-small = rw (p .flow-is) (flow-bounded tabled)
+  pub used-here : brought .used ≡ usedAbove (above (p .cards) (suc (p .i)))
+  used-here = rw (p .brought-is) (used-table (p .ready) (p .feet-are) (p .within))
 
-  -- what its upstream flow and its head ask
-  pub upstream-asked : (card .inflow ≤ flow + takeOf card) × (flow + takeOf card ≤ flowLimit)
-  upstream-asked = rw (p .flow-is) (flow-asked tabled (p .own))
+  pub flow-small : reach .flow ≤ flowLimit
+  flow-small = rw (p .flows-are) (flow-bounded tabled)
 
-  module _ {Qu : ℕ} (e : Qu ≡ flow + takeOf card - card .inflow) where
-    qu-is : Qu ≡ quBy (p .flows) (p .i) card
-    qu-is = e ∙ ap (λ (n : ℕ). n + takeOf card - card .inflow) (p .flow-is)
+  -- what its head asks
+  pub head-asked : HeadInput card (ltb 1 (reach .depth)) (reach .upstream) brought
+  head-asked = rw (p .flows-are) (head-input tabled (p .own) refl (p .brought-is))
 
-    pub head-asked : HeadInput card (ltb 1 depth) Qu sums
-    head-asked = rw (p .depth-is) (head-input tabled (p .own) qu-is (p .sums-are))
-
-    -- that head
-    pub head-here : {h : Head} → HeadOf card (ltb 1 depth) Qu sums h → HeadOfReach (p .cards) (p .i) h
-    head-here {h} of =
-        let at-tables : HeadOf card (fedBy (p .flows) (p .i)) Qu sums h = rw (p .depth-is) at of in
-        head-of-reach (p .ready) (p .feet-are) (p .within) (rw (p .sums-are, qu-is, qu-here tabled (p .own), fed-here tabled, p .own) at at-tables)
-        (head-within tabled (p .own) qu-is (p .sums-are) at-tables)
+  -- that head
+  pub head-here : {h : Head} → HeadOf card (ltb 1 (reach .depth)) (reach .upstream) brought h → HeadOfReach (p .cards) (p .i) h
+  head-here {h} of =
+      let at-tables : HeadOf card (fedBy (p .flows) (p .i)) (quBy (p .flows) (p .i)) brought h = rw (p .flows-are) at of in
+      head-of-reach (p .ready) (p .feet-are) (p .within) (rw (p .brought-is, qu-here tabled, fed-here tabled, p .own) at at-tables)
+      (head-within tabled (p .own) refl (p .brought-is) at-tables)
 
   module _ {h : Head} (here : HeadOfReach (p .cards) (p .i) h) where
     -- the figures below it are those of the reach
-    figures-here : {used : Bool} → UsedAt p used → figuresBelow used card depth flow (h .bod) (h .nitrogenous) (oxygenOf (h .oxygen)) ≡ figuresAt (p .cards) (suc (p .i))
+    pub figures-here : figuresBelow (brought .used) card (reach .depth) (reach .flow) (h .bod) (h .nitrogenous) (oxygenOf (h .oxygen)) ≡ figuresAt (p .cards) (suc (p .i))
     unfolding figuresOf
-    figures-here above-is = rw (above-is, p .own, depth-here, flow-here, here .bod, here .nitrogenous, here .oxygen)
+    figures-here = rw (used-here, p .own, depth-here, flow-here, here .bod, here .nitrogenous, here .oxygen)
 
     -- and so the line below it is that of the reach
-    pub line-of-reach : {used : Bool} → UsedAt p used → (line : Line) → figuresIn line ≡ figuresBelow used card depth flow (h .bod) (h .nitrogenous) (oxygenOf (h .oxygen)) → LineOf (p .cards) (p .i) line
-    line-of-reach above-is line e =
+    pub line-of-reach : (line : Line) → figuresIn line ≡ figuresBelow (brought .used) card (reach .depth) (reach .flow) (h .bod) (h .nitrogenous) (oxygenOf (h .oxygen)) → LineOf (p .cards) (p .i) line
+    line-of-reach line e =
         record {
-          figures = e ∙ figures-here above-is;
+          figures = e ∙ figures-here;
           mass = rw (ap (λ (f : Figures). f .head-bod) e, ap (λ (f : Figures). f .head-nitrogenous) e) (here .mass);
         }
 
-    -- and what is handed on below it is what the reach hands on
-    pub passage-of-reach : {passage : Passage} → PassageBelow card flow (h .bod) (h .nitrogenous) (oxygenOf (h .oxygen)) passage → passage .«foot_oxygen» < 4_294_967_296 → PassageOf (p .cards) (p .i) passage
-    unfolding figuresOf meanOxygen
-    passage-of-reach {passage} below fits =
-        let card′ = cardOf (p .cards) (suc (p .i)) in
-        let up = above (p .cards) (suc (p .i)) in
-        let Q = flowAt (p .cards) (suc (p .i)) in
-        let f = figuresAt (p .cards) (suc (p .i)) in
-        let b : PassageBelow card′ Q (demandAtHead Bod card′ up) (demandAtHead Nitrogenous card′ up) (oxygenAtHead card′ up) passage = rw (p .own, flow-here, here .bod, here .nitrogenous, here .oxygen) at below in
-        let oxygen : passage .«foot_oxygen» ≡ storedOf (f .foot-oxygen) = sym (stored-of (passage .«foot_oxygen»)) ∙ ap storedOf (b .foot-oxygen) in
-        let brings : footOf Q (passage .«foot_bod») (passage .«foot_nitrogenous») (passage .«foot_oxygen») ≡ footBy Q f = rw (b .foot-bod, b .foot-nitrogenous, oxygen) in
-        let t = falls (is-river (p .ready)) (p .i) (p .within) in
-        let bod : passage .«foot_bod» ≤ h .bod = rw (b .foot-bod, here .bod) (t Bod) in
-        let nitrogenous : passage .«foot_nitrogenous» ≤ h .nitrogenous = rw (b .foot-nitrogenous, here .nitrogenous) (t Nitrogenous) in
-        record {
-          brings = brings;
-          within = rw (← brings) (foot-within (h .bod + h .nitrogenous) (passage .«foot_bod») (passage .«foot_nitrogenous») refl (omega (arith, bod, nitrogenous)) (here .mass) (omega arith));
-          mean = b .mean;
-        }
-
-    -- what is handed on, with the mean as it is reported and the status
-    pub reach-averaged :
-        {passage : Passage} {used : Bool} {passed : Passed} →
-        PassageOf (p .cards) (p .i) passage →
-        passed .foot ≡ footOf flow (passage .«foot_bod») (passage .«foot_nitrogenous») (passage .«foot_oxygen») →
-        oxygenOf (passed .mean) ≡ cond used (pos 0) (oxygenOf (passage .mean)) →
-        UsedAt p used →
-        passed .used ≡ isUsed (figuresBelow used card depth flow (h .bod) (h .nitrogenous) (oxygenOf (h .oxygen)) .status) →
-        ReachAveraged (p .cards) (p .i) passed
-    reach-averaged {passage} of foot mean above-is status =
-        let told = foot ∙ ap (λ (n : ℕ). footOf n (passage .«foot_bod») (passage .«foot_nitrogenous») (passage .«foot_oxygen»)) flow-here ∙ of .brings in
-        record {
-          brings = told;
-          within = rw told (of .within);
-          mean = rw (above-is, of .mean) at mean;
-          used = status ∙ ap (λ (f : Figures). isUsed (f .status)) (figures-here above-is);
-        }
-
-  pub line-ready : LineReady card flow
+  pub line-ready : LineReady card (reach .flow)
   line-ready =
       let own = reach-accepted (p .cards) (p .ready .lawful) (p .ready .sound) (p .i) (p .within) in
       rw (p .own, flow-here) record { rates = rates-pass own; saturation = own .saturation; bed = bed-passes own }
 
   -- what a line says of its reach
   module _ {line : Line} (of : LineOf (p .cards) (p .i) line) where
-    brings : footOf flow (line .«foot_bod») (line .«foot_nitrogenous») (line .«foot_oxygen») ≡ footBy (flowAt (p .cards) (suc (p .i))) (figuresAt (p .cards) (suc (p .i)))
+    brings : footOf (reach .flow) (line .«foot_bod») (line .«foot_nitrogenous») (line .«foot_oxygen») (isUsed (line .status)) ≡ footBy (flowAt (p .cards) (suc (p .i))) (figuresAt (p .cards) (suc (p .i)))
     brings =
-        ap (λ (n : ℕ). footOf n (line .«foot_bod») (line .«foot_nitrogenous») (line .«foot_oxygen»)) flow-here
-        ∙ ap (λ (n : ℕ). footOf (flowAt (p .cards) (suc (p .i))) (line .«foot_bod») (line .«foot_nitrogenous») n) (sym (stored-of (line .«foot_oxygen»)))
+        ap (λ (n : ℕ). footOf n (line .«foot_bod») (line .«foot_nitrogenous») (line .«foot_oxygen») (isUsed (line .status))) flow-here
+        ∙ ap (λ (n : ℕ). footOf (flowAt (p .cards) (suc (p .i))) (line .«foot_bod») (line .«foot_nitrogenous») n (isUsed (line .status))) (sym (stored-of (line .«foot_oxygen»)))
         ∙ ap (footBy (flowAt (p .cards) (suc (p .i)))) (of .figures)
 
     foot-falls : line .«foot_bod» + line .«foot_nitrogenous» ≤ line .«head_bod» + line .«head_nitrogenous»
@@ -260,31 +212,35 @@ module _ {card : Card} {flow depth : ℕ} {sums : Brought} (p : LineAt card flow
         let n : line .«foot_nitrogenous» ≤ line .«head_nitrogenous» = rw (ap (λ (f : Figures). f .foot-nitrogenous) (of .figures), ap (λ (f : Figures). f .head-nitrogenous) (of .figures)) (t Nitrogenous) in
         omega (arith, b, n)
 
-    -- its foot, its status and its record
+    -- its foot and its record
     pub reach-reported :
-        (at : ℕ) (before after : List ℕ) {told : HandedOn} →
-        told .foot ≡ footOf flow (line .«foot_bod») (line .«foot_nitrogenous») (line .«foot_oxygen») →
+        (at : ℕ) (before after : List ℕ) {foot : Brought} {used : Bool} →
+        used ≡ isUsed (line .status) →
+        foot ≡ footOf (reach .flow) (line .«foot_bod») (line .«foot_nitrogenous») (line .«foot_oxygen») used →
         line .«foot_oxygen» < 4_294_967_296 →
-        told .used ≡ isUsed (line .status) →
         after ≡ sets before at (encodeRecord (hasNitrification (p .cards)) (reported (figuresIn line))) →
-        ReachReported (p .cards) (p .i) at before after told
-    reach-reported at before after e fits status r =
+        ReachReported (p .cards) (p .i) at before after foot
+    reach-reported at before after status e fits r =
         record {
-          brings = e ∙ brings;
-          within = rw e (foot-within (line .«head_bod» + line .«head_nitrogenous») (line .«foot_bod») (line .«foot_nitrogenous») flow-here foot-falls (of .mass) (omega arith));
-          used = status ∙ ap (λ (f : Figures). isUsed (f .status)) (of .figures);
+          foot =
+              record {
+                brings = e ∙ ap (footOf (reach .flow) (line .«foot_bod») (line .«foot_nitrogenous») (line .«foot_oxygen»)) status ∙ brings;
+                within = rw e (foot-within (line .«head_bod» + line .«head_nitrogenous») (line .«foot_bod») (line .«foot_nitrogenous») flow-here foot-falls (of .mass) (omega arith));
+              };
           report = r ∙ ap (λ (f : Figures). sets before at (encodeRecord (hasNitrification (p .cards)) (reported f))) (of .figures);
         }
 
 -- the feet with that of one more reach
-pub feet-next : {cards : List Card} {feet : FootTable} {i : ℕ} {foot : Brought} → i < 128 → FeetOf cards feet i → foot ≡ footBy (flowAt cards (suc i)) (figuresAt cards (suc i)) → FootWithin cards i foot → FeetOf cards (withFoot feet i foot) (i + 1)
-feet-next {cards} {feet} {i} {foot} few f e within =
+pub feet-next : {cards : List Card} {feet : FootTable} {i : ℕ} {foot : Brought} → i < 128 → FeetOf cards feet i → FootOf cards i foot → FeetOf cards (withFoot feet i foot) (i + 1)
+feet-next {cards} {feet} {i} {foot} few f of =
+    let e = of .brings in
     rw add-one
     record {
       bod = entered (feet .bod) i (foot .bod) (λ j x. x ≡ footBy (flowAt cards (suc j)) (figuresAt cards (suc j)) .bod) (rw (f .carried .full .bod) few) (ap (λ (b : Brought). b .bod) e) (f .bod);
       nitrogenous = entered (feet .nitrogenous) i (foot .nitrogenous) (λ j x. x ≡ footBy (flowAt cards (suc j)) (figuresAt cards (suc j)) .nitrogenous) (rw (f .carried .full .nitrogenous) few) (ap (λ (b : Brought). b .nitrogenous) e) (f .nitrogenous);
       oxygen = entered (feet .oxygen) i (foot .oxygen) (λ j x. x ≡ footBy (flowAt cards (suc j)) (figuresAt cards (suc j)) .oxygen) (rw (f .carried .full .oxygen) few) (ap (λ (b : Brought). b .oxygen) e) (f .oxygen);
-      carried = carried-next (f .carried) few within;
+      used = entered-at (feet .used) i (foot .used) false (λ j x. x ≡ footBy (flowAt cards (suc j)) (figuresAt cards (suc j)) .used) (rw (f .carried .full .used) few) (ap (λ (b : Brought). b .used) e) (f .used);
+      carried = carried-next (f .carried) few (of .within);
     }
 
 -- no foot is entered yet
@@ -294,5 +250,6 @@ no-feet-yet cards =
       bod = λ j l. absurd (not-suc-le-zero l);
       nitrogenous = λ j l. absurd (not-suc-le-zero l);
       oxygen = λ j l. absurd (not-suc-le-zero l);
+      used = λ j l. absurd (not-suc-le-zero l);
       carried = carried-none cards;
     }

@@ -1,8 +1,7 @@
 -- What the program holds between the reaches of an accepted river: what the feet of the reaches reported so far bring. A function that reports a
--- reach is handed its card, its flow and depth, what its feeders bring and whether oxygen is used up above, and no table, which would be copied for
--- each reach; what it promises holds for every river and tables that these may be of.
+-- reach is handed its card, its flows and what its feeders bring, and no table, which would be copied for each reach; what it promises holds for every river and tables that these may be of.
 use mathlib.Core.Path.{_≡_}
-use mathlib.Core.Bool.{Bool}
+use mathlib.Core.Bool.{Bool, false}
 use mathlib.Core.List.{List}
 use Prim.Native.Nat.{ℕ, suc, _+_, _*_, _≤_, _<_}
 use lib.ListN.{length, getD}
@@ -10,6 +9,7 @@ use lib.Seq.{sets}
 use Rattle.decay.specs.held.Step.{RatesPass}
 use Rattle.river.specs.declared.card.Card.{Card}
 use Rattle.flows.specs.declared.flow.FlowTable.{FlowTable}
+use Rattle.flows.specs.declared.flow.ReachFlows.{ReachFlows}
 use Rattle.flows.specs.declared.head.Brought.{Brought}
 use Rattle.flows.specs.declared.head.FootTable.{FootTable}
 use Rattle.flows.specs.declared.head.Head.{Head}
@@ -19,17 +19,16 @@ use Rattle.river.specs.Source.{rateOf}
 use Rattle.flows.specs.Saturation.{SaturationInRange}
 use Rattle.river.specs.declared.source.Demand.the-variants.{Bod, Nitrogenous}
 use Rattle.flows.specs.Flow.{Flows, cardOf, above, flowAt, massAt}
-use Rattle.flows.specs.held.FlowTable.{Tabled}
+use Rattle.flows.specs.held.FlowTable.{flowsBy, Tabled}
 use Rattle.flows.specs.held.HeadTable.{demandLimit, footOf, broughtTo, FootWithin, Carried}
 use Rattle.flows.specs.held.Stored.{oxygenOf, storedOf}
 use Rattle.report.specs.held.Bed.{BedPasses, lossLimit}
-use Rattle.report.specs.Program.{demandAtHead, oxygenAtHead, usedAbove, figuresAt}
+use Rattle.report.specs.Program.{demandAtHead, oxygenAtHead, figuresAt}
 use Rattle.report.specs.Status.{isUsed}
 use Rattle.report.specs.Record.{hasNitrification, Figures, recordSize}
 use Rattle.report.specs.held.LineFigures.{figuresIn}
 use Rattle.report.specs.Report.{recordOf}
 use Rattle.report.specs.declared.record.Line.{Line}
-use Rattle.report.specs.declared.lines.HandedOn.{HandedOn}
 
 -- what the figures along a reach ask of its card and flow
 pub record LineReady (card : Card) (flow : ℕ) : Type 0 where
@@ -44,7 +43,7 @@ pub record HeadFits (head : Head) : Type 0 where
 
 -- what the foot of a reach with this flow and these figures brings
 abbrev pub footBy : (flow : ℕ) → Figures → Brought
-footBy flow f = footOf flow (f .foot-bod) (f .foot-nitrogenous) (storedOf (f .foot-oxygen))
+footBy flow f = footOf flow (f .foot-bod) (f .foot-nitrogenous) (storedOf (f .foot-oxygen)) (isUsed (f .status))
 
 -- tables of what the feet of the first n reaches bring
 pub record FeetOf (cards : List Card) (feet : FootTable) (n : ℕ) : Type 0 where
@@ -52,6 +51,7 @@ pub record FeetOf (cards : List Card) (feet : FootTable) (n : ℕ) : Type 0 wher
   pub nitrogenous :
       (j : ℕ) → j < n → getD (feet .nitrogenous) j 0 ≡ footBy (flowAt cards (suc j)) (figuresAt cards (suc j)) .nitrogenous
   pub oxygen : (j : ℕ) → j < n → getD (feet .oxygen) j 0 ≡ footBy (flowAt cards (suc j)) (figuresAt cards (suc j)) .oxygen
+  pub used : (j : ℕ) → j < n → getD (feet .used) j false ≡ footBy (flowAt cards (suc j)) (figuresAt cards (suc j)) .used
   pub carried : Carried cards feet n
 
 -- the flows of an accepted river
@@ -65,8 +65,8 @@ pub record LineOf (cards : List Card) (i : ℕ) (line : Line) : Type 0 where
   pub figures : figuresIn line ≡ figuresAt cards (suc i)
   pub mass : flowAt cards (suc i) * (line .«head_bod» + line .«head_nitrogenous») ≤ 1000 * massAt cards (suc i)
 
--- what a line needs: there is an accepted river with flows and feet, one of whose reaches has this card, flow and depth and is brought this
-pub record LineAt (card : Card) (flow depth : ℕ) (sums : Brought) : Type 0 where
+-- what a line needs: there is an accepted river with flows and feet, one of whose reaches has this card and these flows and is brought this
+pub record LineAt (card : Card) (reach : ReachFlows) (brought : Brought) : Type 0 where
   pub cards : List Card
   pub flows : FlowTable
   pub feet : FootTable
@@ -75,9 +75,8 @@ pub record LineAt (card : Card) (flow depth : ℕ) (sums : Brought) : Type 0 whe
   pub feet-are : FeetOf cards feet i
   pub within : i < length cards
   pub own : card ≡ cardOf cards (suc i)
-  pub flow-is : flow ≡ getD (flows .flow) i 0
-  pub depth-is : depth ≡ getD (flows .depth) i 0
-  pub sums-are : sums ≡ broughtTo (flows .outlet) (feet .bod) (feet .nitrogenous) (feet .oxygen) i
+  pub flows-are : reach ≡ flowsBy flows i
+  pub brought-is : brought ≡ broughtTo (flows .outlet) (feet .bod) (feet .nitrogenous) (feet .oxygen) (feet .used) i
 
 -- the head of reach i + 1: each demand and oxygen, in the ranges that a line asks, and its demands are at most the undecayed BOD
 pub record HeadOfReach (cards : List Card) (i : ℕ) (head : Head) : Type 0 where
@@ -88,32 +87,30 @@ pub record HeadOfReach (cards : List Card) (i : ℕ) (head : Head) : Type 0 wher
   pub mass : flowAt cards (suc i) * (head .bod + head .nitrogenous) ≤ 1000 * massAt cards (suc i)
 
 -- for every such river the head is that of this reach
-abbrev pub HeadBy : Card → (flow depth : ℕ) → Brought → Head → Type 0
-HeadBy card flow depth sums head = (here : LineAt card flow depth sums) → HeadOfReach (here .cards) (here .i) head
-
--- `used` tells whether oxygen is used up above this reach
-abbrev pub UsedAt : {card : Card} {flow depth : ℕ} {sums : Brought} → LineAt card flow depth sums → Bool → Type 0
-UsedAt here used = used ≡ usedAbove (above (here .cards) (suc (here .i)))
+abbrev pub HeadBy : Card → ReachFlows → Brought → Head → Type 0
+HeadBy card reach brought head = (here : LineAt card reach brought) → HeadOfReach (here .cards) (here .i) head
 
 -- for every such river the line is that of this reach
-abbrev pub LineBy : Card → (flow depth : ℕ) → Brought → (used : Bool) → Line → Type 0
-LineBy card flow depth sums used line = (here : LineAt card flow depth sums) → UsedAt here used → LineOf (here .cards) (here .i) line
+abbrev pub LineBy : Card → ReachFlows → Brought → Line → Type 0
+LineBy card reach brought line = (here : LineAt card reach brought) → LineOf (here .cards) (here .i) line
 
--- what its record needs too: whether oxygen is used up above, whether the river has nitrification, and room at a place of a report of some length
-pub record PlacedAt (card : Card) (flow depth : ℕ) (sums : Brought) (used nitrified : Bool) (at long : ℕ) : Type 0 where
-  pub line : LineAt card flow depth sums
-  pub used-above : UsedAt line used
+-- what its record needs too: whether the river has nitrification, and room at a place of a report of some length
+pub record PlacedAt (card : Card) (reach : ReachFlows) (brought : Brought) (nitrified : Bool) (at long : ℕ) : Type 0 where
+  pub line : LineAt card reach brought
   pub nitrification : nitrified ≡ hasNitrification (line .cards)
   pub room : at + recordSize (line .cards) ≤ long
 
--- what the foot of reach i + 1 brings, whether its status is 1 or 2, and the report with its record at a place
-pub record ReachReported (cards : List Card) (i at : ℕ) (before after : List ℕ) (r : HandedOn) : Type 0 where
-  pub brings : r .foot ≡ footBy (flowAt cards (suc i)) (figuresAt cards (suc i))
-  pub within : FootWithin cards i (r .foot)
-  pub used : r .used ≡ isUsed (figuresAt cards (suc i) .status)
+-- what reach i + 1 hands on: what its foot brings, in bounds
+pub record FootOf (cards : List Card) (i : ℕ) (foot : Brought) : Type 0 where
+  pub brings : foot ≡ footBy (flowAt cards (suc i)) (figuresAt cards (suc i))
+  pub within : FootWithin cards i foot
+
+-- that, and the report with its record at a place
+pub record ReachReported (cards : List Card) (i at : ℕ) (before after : List ℕ) (r : Brought) : Type 0 where
+  pub foot : FootOf cards i r
   pub report : after ≡ sets before at (recordOf cards i)
 
 -- for every such river the call tells this and leaves the report so
-abbrev pub ReportedBy : Card → (flow depth : ℕ) → Brought → (used nitrified : Bool) (at : ℕ) (before after : List ℕ) → HandedOn → Type 0
-ReportedBy card flow depth sums used nitrified at before after r =
-    (here : PlacedAt card flow depth sums used nitrified at (length before)) → ReachReported (here .line .cards) (here .line .i) at before after r
+abbrev pub ReportedBy : Card → ReachFlows → Brought → (nitrified : Bool) (at : ℕ) (before after : List ℕ) → Brought → Type 0
+ReportedBy card reach brought nitrified at before after r =
+    (here : PlacedAt card reach brought nitrified at (length before)) → ReachReported (here .line .cards) (here .line .i) at before after r

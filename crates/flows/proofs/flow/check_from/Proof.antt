@@ -11,8 +11,8 @@ use Rattle.flows.specs.declared.flow.Upstream.{Upstream}
 use Rattle.river.specs.Card.{cardList, blank}
 use Rattle.flows.specs.Flow.{cardOf}
 use Rattle.flows.specs.held.FlowTable.{Underway, CheckAt, upstreamBy}
-use Rattle.flows.proofs.flow.Count.{card-of-river}
-use Rattle.flows.proofs.flow.Checks.{Full, full-next, sums-fit}
+use Rattle.flows.proofs.flow.Count.{reaches-counted, card-of-river}
+use Rattle.flows.proofs.flow.Checks.{Full, full-next, sums-fit, upstream-here}
 use Rattle.flows.proofs.flow.FlowCheck.{at-refusal, at-next, at-end}
 use Rattle.flows.proofs.flow.check_from.Statement.{statement}
 use Rattle.flows.proofs.flow.check_from.Tie as tie
@@ -34,9 +34,16 @@ loop-holds c =
     let s = c .before in
     let g = s .good .1 .0 .1 .1 in
     record {
-      counted = c .reach-count .ensures;
+      counted = reaches-counted (s .args .t1) (simp length-map at (s .good .0 .1 .1 .0 .1 .0 .1)) (c .reach-count .ensures);
       underway = s .pre;
-      full = record { outlet = simp length-map at (g .0 .1 .0 .1); flow = simp length-map at (g .1 .0 .1 .0 .1); mass = simp length-map at (g .1 .1 .0 .1 .0 .1); depth = simp length-map at (g .1 .1 .1 .0 .1 .0 .1) };
+      full =
+          record {
+            outlet = simp length-map at (g .0 .1 .0 .1);
+            upstream = simp length-map at (g .1 .0 .1 .0 .1);
+            flow = simp length-map at (g .1 .1 .0 .1 .0 .1);
+            mass = simp length-map at (g .1 .1 .1 .0 .1 .0 .1);
+            depth = simp length-map at (g .1 .1 .1 .1 .0 .1 .0 .1);
+          };
     }
 
 -- the next reach is one of the river, and what it is handed
@@ -85,8 +92,8 @@ loop-again c =
       counted = p .counted;
       underway =
           at-next (p .underway) (within p l) (next .check-next .ensures (check-at p l (up .upstream-of .ensures))) (c .enum-told .given .1) (p .full)
-          (own-outlet p l);
-      full = full-next _ _ _ _ _ (p .full);
+          (own-outlet p l) (upstream-here (p .underway, within p l) (up .upstream-of .ensures));
+      full = full-next _ _ _ _ _ _ (p .full);
     }
 
 returns-2 : tie.Need-returns-2 Inv-loop μ-loop
@@ -111,6 +118,8 @@ check-from-spec =
     (λ mul-flows. omega (arith, element-write-flows mul-flows))
     element-write-flows
     (λ mul-flows-2. omega (arith, element-write-flows mul-flows-2))
+    element-write-flows
+    (λ mul-flows-3. omega (arith, element-write-flows mul-flows-3))
     element-write-flows
     element-write-flows
     (λ add-i. omega arith)

@@ -1,28 +1,66 @@
--- `flows::head::brought_to` meets its contract: three sums at the reach after the first i.
-use borrow.Author.Needs.{needs}
+-- `flows::head::brought_to` meets its contract: what is gathered so far is what the feeders among the first j reaches bring.
+use mathlib.Core.Path.{refl, _∙_}
+use mathlib.Core.Logic.{⊎-elim}
+use Prim.Native.Nat.{ℕ, _+_, _-_}
 use native.Mathlib.Numerals.{add-one}
+use native.Mathlib.Omega.{arith}
+use borrow.Author.Needs.{needs}
+use Rattle.flows.specs.held.FlowTable.{tableSum, tableAny}
+use Rattle.flows.specs.held.HeadTable.{broughtAmong}
+use Rattle.flows.proofs.flow.Table.{Scanned, scanned-all}
+use Rattle.flows.proofs.head.Feet.{foot-fits, foot-gathered, foot-passed}
 use Rattle.flows.proofs.head.brought_to.Statement.{statement}
 use Rattle.flows.proofs.head.brought_to.Tie as tie
 
-feeder-sum-requires : tie.Need-feeder-sum-requires
-feeder-sum-requires c κs = (search needs, rw add-one (c .pre .bod))
+abbrev Inv-loop : tie.InvT-loop
+Inv-loop outlet bod nitrogenous oxygen used i reach sums₀ j₀ brought j = Scanned (λ (n : ℕ). broughtAmong outlet bod nitrogenous oxygen used n reach) i j brought
 
-feeder-sum-requires-2 : tie.Need-feeder-sum-requires-2
-feeder-sum-requires-2 c κs = (search needs, rw add-one (c .before .pre .nitrogenous))
+abbrev μ-loop : tie.MeasureT-loop
+μ-loop outlet bod nitrogenous oxygen used i reach sums₀ j₀ brought j = i - j
 
-feeder-sum-requires-3 : tie.Need-feeder-sum-requires-3
-feeder-sum-requires-3 c κs = (search needs, rw add-one (c .before .before .pre .oxygen))
+loop-holds : tie.Need-loop-holds Inv-loop μ-loop
+unfolding tableSum tableAny
+loop-holds c = record { within = omega arith; so-far = refl }
 
-returns : tie.Need-returns
-returns c = rw (c .feeder-sum3 .ensures, c .before .feeder-sum2 .ensures, c .before .before .feeder-sum .ensures, add-one)
+with-foot-requires : tie.Need-with-foot-requires Inv-loop μ-loop
+with-foot-requires c κs =
+    let test = c .before .before .before .before in
+    let loop = test .before .before .before in
+    let start = loop .before in
+    let a = start .args in
+    foot-fits (a .outlet .now) (a .bod .now) (a .nitrogenous .now) (a .oxygen .now) (a .used .now) (a .i + 1) (loop .loop .inv) (omega arith) (test .if1 .taken) (rw add-one (start .pre .bod)) (rw add-one (start .pre .nitrogenous)) (rw add-one (start .pre .oxygen))
+
+loop-again : tie.Need-loop-again Inv-loop μ-loop
+loop-again c =
+    let loop = c .before .before .before in
+    let a = loop .before .args in
+    ⊎-elim
+    (λ w. foot-gathered (a .outlet .now) (a .bod .now) (a .nitrogenous .now) (a .oxygen .now) (a .used .now) (a .i + 1) (loop .loop .inv) (omega arith) (w .0 .taken) (w .6 ∙ w .5 .ensures))
+    (λ w. foot-passed (a .outlet .now) (a .bod .now) (a .nitrogenous .now) (a .oxygen .now) (a .used .now) (a .i + 1) (loop .loop .inv) (omega arith) (w .0 .left) (w .1))
+    (c .if1 .came)
+
+returns : tie.Need-returns Inv-loop μ-loop
+returns c = scanned-all (c .before .loop .inv) (omega arith) ∙ rw add-one
 
 pub brought-to-spec : {M : Type 1} → statement M
 brought-to-spec =
     tie.close
     (tie.spec
+    Inv-loop
+    μ-loop
     (λ add-reach. search needs)
     (λ cast-reach. search needs)
-    feeder-sum-requires
-    feeder-sum-requires-2
-    feeder-sum-requires-3
+    loop-holds
+    (λ element-copy-out-if1. omega arith)
+    (λ mul-with-foot. omega arith)
+    (λ element-copy-out-with-foot. omega arith)
+    (λ mul-with-foot-2. omega arith)
+    (λ element-copy-out-with-foot-2. omega arith)
+    (λ mul-with-foot-3. omega arith)
+    (λ element-copy-out-with-foot-3. omega arith)
+    (λ element-copy-out-with-foot-4. omega arith)
+    with-foot-requires
+    (λ add-j. omega arith)
+    (λ loop-less. omega arith)
+    loop-again
     returns)

@@ -1,12 +1,12 @@
 -- `head_vectors::shown::reach` meets its contract: a foot with at most the head's demands stays in bounds.
 use borrow.Author.Needs.{needs}
-use mathlib.Core.Path.{_≡_}
+use mathlib.Core.Path.{_≡_, refl}
 use Prim.Native.Nat.{_+_}
 use native.Mathlib.Omega.{arith}
 use lib.ListN.{getD}
 use Rattle.river.specs.Card.{cardList, blank}
 use Rattle.flows.proofs.flow.Count.{card-of-river}
-use Rattle.flows.proofs.head.Heads.{sums-fit, flow-asked, head-input, head-within, flow-bounded}
+use Rattle.flows.proofs.head.Heads.{sums-fit, head-input, head-within, flow-bounded}
 use Rattle.flows.proofs.head.Feet.{foot-within}
 use Rattle.head_vectors.proofs.shown.reach.Statement.{statement}
 use Rattle.head_vectors.proofs.shown.reach.Tie as tie
@@ -16,30 +16,25 @@ own : (s : tie.Start) → getD (s .args .t1 .at) (s .args .i) blank ≡ getD (ca
 own s = card-of-river (s .args .t1) (s .args .i) (s .pre .within)
 
 brought-to-requires : tie.Need-brought-to-requires
-brought-to-requires c κs = sums-fit (c .before .before .before .before .before .before .before .before .before .pre)
-
-upstream-flow-requires : tie.Need-upstream-flow-requires
-upstream-flow-requires c κs =
-    let s = c .before .before .before .before .before .before .before .before .before .before in
-    flow-asked (s .pre) (own s)
+brought-to-requires c κs = sums-fit (c .before .before .before .before .before .before .before .before .before .before .pre)
 
 head-of-requires : tie.Need-head-of-requires
 head-of-requires c κs =
-    let s = c .before .before .before .before .before .before .before .before .before .before .before in
-    head-input (s .pre) (own s) (c .upstream-flow .ensures) (c .before .brought-to .ensures)
+    let s = c .before .before .before .before .before .before .before .before .before .before .before .before in
+    head-input (s .pre) (own s) refl (c .before .brought-to .ensures)
 
 foot-of-requires : tie.Need-foot-of-requires
-foot-of-requires c κs = flow-bounded (c .before .before .before .before .before .before .before .before .before .before .before .before .before .before .before .before .pre)
+foot-of-requires c κs = flow-bounded (c .before .before .before .before .before .before .before .before .before .before .before .before .before .before .before .before .before .pre)
 
 returns : tie.Need-returns
 returns c =
     let head = c .before .before .before .before .before in
-    let s = head .before .before .before .before .before .before .before .before .before .before .before .before in
+    let s = head .before .before .before .before .before .before .before .before .before .before .before .before .before in
     let r = head .head-of .result in
     rw (c .foot-of .ensures)
     (foot-within (r .bod + r .nitrogenous) (c .before .before .less .result) (c .before .less2 .result) (s .pre .tabled .flow (s .args .i) (s .pre .within))
     (omega (arith, c .before .before .less .ensures, c .before .less2 .ensures))
-    (head-within (s .pre) (own s) (head .before .upstream-flow .ensures) (head .before .before .brought-to .ensures) (head .head-of .ensures))
+    (head-within (s .pre) (own s) refl (head .before .before .brought-to .ensures) (head .head-of .ensures))
     (omega arith))
 
 pub reach-spec : {M : Type 1} → statement M
@@ -52,7 +47,8 @@ reach-spec =
     (λ element-copy-out-flow. search needs)
     (λ element-copy-out-depth. search needs)
     brought-to-requires
-    upstream-flow-requires
+    (λ mul-upstream. search needs)
+    (λ element-copy-out-upstream. search needs)
     head-of-requires
     (λ add-line. search needs)
     (λ mul-line. search needs)

@@ -2,11 +2,12 @@
 use mathlib.Core.Path.{_≡_}
 use Prim.Native.Nat.{_≤_, _-_, zero-le}
 use native.Mathlib.Numerals.{add-one}
-use lib.ListN.{length}
+use lib.ListN.{length, length-map}
 use native.Mathlib.Omega.{arith}
 use borrow.Author.Needs.{needs}
 use Rattle.river.specs.Card.{cardList}
 use Rattle.flows.specs.held.HeadTable.{Carried}
+use Rattle.flows.proofs.flow.Count.{reaches-counted}
 use Rattle.flows.proofs.head.Feet.{carried-none, carried-next}
 use Rattle.head_vectors.proofs.shown.reaches.Statement.{statement}
 use Rattle.head_vectors.proofs.shown.reaches.Tie as tie
@@ -19,7 +20,7 @@ abbrev μ-loop : tie.MeasureT-loop
 μ-loop cards flows first step count feet₀ i₀ feet i = count - i
 
 loop-holds : tie.Need-loop-holds Inv-loop μ-loop
-loop-holds c = (c .before .reach-count .ensures, zero-le, rw (c .no-feet .ensures) (carried-none _))
+loop-holds c = (reaches-counted (c .before .before .args .cards) (simp length-map at (c .before .before .good .0 .1 .1 .0 .1 .0 .1)) (c .before .reach-count .ensures), zero-le, rw (c .no-feet .ensures) (carried-none _))
 
 foot-oxygen-requires : tie.Need-foot-oxygen-requires Inv-loop μ-loop
 foot-oxygen-requires c κs = omega (arith, c .before .loop .inv .0, c .before .before .before .before .pre .0 .few)
@@ -69,6 +70,7 @@ reaches-spec =
     element-write-feet-2
     (λ mul-feet-3. omega (arith, element-write-feet mul-feet-3))
     element-write-feet-3
+    element-write-feet
     (λ add-i. omega arith)
     (λ loop-less. omega arith)
     loop-again

@@ -1,16 +1,13 @@
 -- `report::lines::head_at` meets its contract: the head is that of the reach. Assumes nothing.
-use Rattle.report.proofs.lines.Feet.{upstream-asked, head-asked, head-here}
+use Rattle.report.proofs.lines.Feet.{head-asked, head-here}
 use Rattle.report.proofs.lines.head_at.Statement.{statement}
 use Rattle.report.proofs.lines.head_at.Tie as tie
 
-upstream-flow-requires : tie.Need-upstream-flow-requires
-upstream-flow-requires c κs = upstream-asked (c .pre)
-
 head-of-requires : tie.Need-head-of-requires
-head-of-requires c κs = head-asked (c .before .pre) (c .upstream-flow .ensures)
+head-of-requires c κs = head-asked (c .before .pre)
 
 returns : tie.Need-returns
-returns c = λ p. head-here p (c .before .upstream-flow .ensures) (c .head-of .ensures)
+returns c = λ p. head-here p (c .head-of .ensures)
 
 pub head-at-spec : {M : Type 1} → statement M
-head-at-spec = tie.close (tie.spec upstream-flow-requires head-of-requires returns)
+head-at-spec = tie.close (tie.spec head-of-requires returns)

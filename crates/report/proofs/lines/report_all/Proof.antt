@@ -1,44 +1,44 @@
 -- `report::lines::report_all` meets its contract. The loop's invariant: the records of the first i reaches stand in the report,
--- the rest of it is as it was, and the tables have the feet of these reaches and where oxygen is used up. The measure is how many reaches are left.
--- Assumes nothing.
+-- the rest of it is as it was, and the tables have the feet of these reaches. The measure is how many reaches are left. Assumes nothing.
 use mathlib.Core.Path.{_≡_, ap, _∙_}
-use mathlib.Core.Bool.{Bool, false, _||_}
+use mathlib.Core.Bool.{Bool}
 use mathlib.Core.List.{List}
 use Prim.Native.Nat.{ℕ, suc, _+_, _*_, _-_, _≤_, _<_}
+use native.Mathlib.Nat.{mul-le-mul, le-of-lt}
 use native.Mathlib.Numerals.{add-one}
 use native.Mathlib.Omega.{arith}
-use lib.ListN.{length, getD, set}
+use lib.ListN.{length, length-map, getD}
 use borrow.Author.Needs.{needs}
 use Rattle.river.specs.declared.card.Cards.{Cards}
 use Rattle.flows.specs.declared.flow.FlowTable.{FlowTable}
 use Rattle.flows.specs.declared.head.Brought.{Brought}
 use Rattle.flows.specs.declared.head.FootTable.{FootTable}
 use Rattle.river.specs.Card.{cardList, blank}
+use Rattle.flows.specs.held.FlowTable.{flowsBy}
 use Rattle.flows.specs.held.HeadTable.{withFoot}
-use Rattle.flows.proofs.head.Heads.{sumsBy}
+use Rattle.flows.proofs.head.Heads.{broughtBy}
 use Rattle.report.specs.Program.{reportedAt}
 use Rattle.report.specs.Record.{hasNitrification, recordBytes, recordSize}
 use Rattle.report.specs.Report.{recordOf, reportSize}
-use Rattle.report.specs.declared.lines.HandedOn.{HandedOn}
 use Rattle.report.specs.held.Lines.{PlacedAt, ReachReported}
-use Rattle.report.proofs.record.Encoding.{record-length}
+use Rattle.report.proofs.record.Encoding.{record-bounds, record-length}
 use Rattle.report.proofs.record.Rows.{Filled, fill-start, fill-more, row-fits}
-use Rattle.report.proofs.lines.Reaches.{Reaches, none-yet, all-reaches, here, few, outlet-here, sums-asked, used-told, line-here, one-further}
+use Rattle.report.proofs.lines.Reaches.{Reaches, none-yet, all-reaches, here, few, brought-asked, handed, handed-on}
 use Rattle.report.proofs.lines.report_all.Statement.{statement}
 use Rattle.report.proofs.lines.report_all.Tie as tie
 
-record Progress (cs : Cards) (flows : FlowTable) (report₀ : List ℕ) (count : ℕ) (nitrified : Bool) (size : ℕ) (report : List ℕ) (feet : FootTable) (used : List Bool) (i : ℕ) : Type 0 where
-  reaches : Reaches cs flows count feet used i
+record Progress (cs : Cards) (flows : FlowTable) (report₀ : List ℕ) (count : ℕ) (nitrified : Bool) (size : ℕ) (report : List ℕ) (feet : FootTable) (i : ℕ) : Type 0 where
+  reaches : Reaches cs flows count feet i
   nitrification : nitrified ≡ hasNitrification (cardList cs)
   sized : size ≡ recordSize (cardList cs)
   room : reportSize (cardList cs) ≤ length report₀
   filled : Filled (recordOf (cardList cs)) (recordSize (cardList cs)) report₀ i report
 
 abbrev Inv-loop : tie.InvT-loop
-Inv-loop nitrified report₀ cards flows count size feet₀ used₀ i₀ report feet used i = Progress cards flows report₀ count nitrified size report feet used i
+Inv-loop nitrified report₀ cards flows count size feet₀ i₀ report feet i = Progress cards flows report₀ count nitrified size report feet i
 
 abbrev μ-loop : tie.MeasureT-loop
-μ-loop nitrified report₀ cards flows count size feet₀ used₀ i₀ report feet used i = count - i
+μ-loop nitrified report₀ cards flows count size feet₀ i₀ report feet i = count - i
 
 reach-count-requires : tie.Need-reach-count-requires Inv-loop μ-loop
 reach-count-requires c κs = tt
@@ -51,9 +51,10 @@ no-feet-requires c κs = tt
 
 loop-holds : tie.Need-loop-holds Inv-loop μ-loop
 loop-holds c =
-    let pre = c .before .before .before .before .pre in
+    let start = c .before .before .before .before in
+    let pre = start .pre in
     record {
-      reaches = none-yet (pre .0) (c .before .before .reach-count .ensures) (c .no-feet .ensures);
+      reaches = none-yet (simp length-map at (start .good .0 .1 .1 .0 .1 .0 .1)) (pre .0) (c .before .before .reach-count .ensures) (c .no-feet .ensures);
       nitrification = pre .2;
       sized = c .before .record-bytes .ensures ∙ ap recordBytes (pre .2);
       room = pre .1;
@@ -61,23 +62,20 @@ loop-holds c =
     }
 
 -- the record of the next reach has room, what it is handed, and the tables and the report with it
-module _ {cs : Cards} {flows : FlowTable} {report₀ : List ℕ} {count : ℕ} {nitrified : Bool} {size : ℕ} {report : List ℕ} {feet : FootTable} {used : List Bool} {i : ℕ} (p : Progress cs flows report₀ count nitrified size report feet used i) (l : i < count) where
+module _ {cs : Cards} {flows : FlowTable} {report₀ : List ℕ} {count : ℕ} {nitrified : Bool} {size : ℕ} {report : List ℕ} {feet : FootTable} {i : ℕ} (p : Progress cs flows report₀ count nitrified size report feet i) (l : i < count) where
   room-for : size * i + recordSize (cardList cs) ≤ length report
   room-for = rw (p .sized, p .filled .same) (row-fits (recordSize (cardList cs)) (here (p .reaches) l) (p .room))
 
-  abbrev record-at : {sums : Brought} → sums ≡ sumsBy flows feet i → PlacedAt (getD (cs .at) i blank) (getD (flows .flow) i 0) (getD (flows .depth) i 0) sums (getD used (i + 1) false) nitrified (size * i) (length report)
-  record-at e =
-      record {
-        line = line-here (p .reaches) l e;
-        used-above = used-told (p .reaches) l;
-        nitrification = p .nitrification;
-        room = room-for;
-      }
+  place-small : size * i ≤ 40 * 128
+  place-small = rw (p .sized) (mul-le-mul (record-bounds (hasNitrification (cardList cs)) .1) (le-of-lt (few (p .reaches) l)))
 
-  one-more : {after : List ℕ} {told : HandedOn} {entry : Bool} → ReachReported (cardList cs) i (size * i) report after told → entry ≡ (told .used || getD used (getD (flows .outlet) i 0) false) → Progress cs flows report₀ count nitrified size after (withFoot feet i (told .foot)) (set used (getD (flows .outlet) i 0) entry) (i + 1)
-  one-more done e =
+  abbrev record-at : {brought : Brought} → brought ≡ broughtBy flows feet i → PlacedAt (getD (cs .at) i blank) (flowsBy flows i) brought nitrified (size * i) (length report)
+  record-at e = record { line = handed (p .reaches) l e; nitrification = p .nitrification; room = room-for }
+
+  one-more : {after : List ℕ} {foot : Brought} → ReachReported (cardList cs) i (size * i) report after foot → Progress cs flows report₀ count nitrified size after (withFoot feet i foot) (i + 1)
+  one-more done =
       record {
-        reaches = one-further (p .reaches) l (done .brings) (done .within) (done .used) e;
+        reaches = handed-on (p .reaches) l (done .foot);
         nitrification = p .nitrification;
         sized = p .sized;
         room = p .room;
@@ -88,28 +86,32 @@ module _ {cs : Cards} {flows : FlowTable} {report₀ : List ℕ} {count : ℕ} {
 
 brought-to-requires : tie.Need-brought-to-requires Inv-loop μ-loop
 brought-to-requires c κs =
-    sums-asked (c .before .before .before .before .before .before .before .before .before .before .loop .inv .reaches) (c .before .before .before .before .before .before .before .before .before .loop-test .taken)
-
-array-read-used-above : tie.Need-array-read-used-above Inv-loop μ-loop
-array-read-used-above c = omega (arith, few (c .before .before .before .before .before .before .before .before .before .before .before .loop .inv .reaches) (c .before .before .before .before .before .before .before .before .before .before .loop-test .taken))
+    let test = c .before .before .before .before .before .before .before .before .before .before .before in
+    brought-asked (test .before .loop .inv .reaches) (test .loop-test .taken)
 
 mul-report-reach : tie.Need-mul-report-reach Inv-loop μ-loop
-mul-report-reach c = omega (arith, room-for (c .before .before .before .before .before .before .before .before .before .before .before .before .loop .inv) (c .before .before .before .before .before .before .before .before .before .before .before .loop-test .taken))
+mul-report-reach c =
+    let test = c .before .before .before .before .before .before .before .before .before .before .before .before .before in
+    omega (arith, place-small (test .before .loop .inv) (test .loop-test .taken))
 
 report-reach-requires : tie.Need-report-reach-requires Inv-loop μ-loop
-report-reach-requires c κs = record-at (c .before .before .before .before .before .before .before .before .before .before .before .before .loop .inv) (c .before .before .before .before .before .before .before .before .before .before .before .loop-test .taken) (c .before .brought-to .ensures)
+report-reach-requires c κs =
+    let test = c .before .before .before .before .before .before .before .before .before .before .before .before .before in
+    record-at (test .before .loop .inv) (test .loop-test .taken) (c .before .brought-to .ensures)
 
 element-write-feet : tie.Need-element-write-feet Inv-loop μ-loop
-element-write-feet c = few (c .before .before .before .before .before .before .before .before .before .before .before .before .before .before .before .before .loop .inv .reaches) (c .before .before .before .before .before .before .before .before .before .before .before .before .before .before .before .loop-test .taken)
-
-array-read-either : tie.Need-array-read-either Inv-loop μ-loop
-array-read-either c = outlet-here (c .before .before .before .before .before .before .before .before .before .before .before .before .before .before .before .before .before .loop .inv .reaches) (c .before .before .before .before .before .before .before .before .before .before .before .before .before .before .before .before .loop-test .taken)
+element-write-feet c =
+    let test = c .before .before .before .before .before .before .before .before .before .before .before .before .before .before .before .before in
+    few (test .before .loop .inv .reaches) (test .loop-test .taken)
 
 loop-again : tie.Need-loop-again Inv-loop μ-loop
 loop-again c =
-    let v = c .before .before .before .before .before .before .before .before .before .before .before .before .before .before .before .before .before .before .loop .inv in
-    let l = c .before .before .before .before .before .before .before .before .before .before .before .before .before .before .before .before .before .loop-test .taken in
-    one-more v l (c .before .before .before .before .before .report-reach .ensures (record-at v l (c .before .before .before .before .before .before .before .brought-to .ensures))) (c .either .ensures)
+    let reported = c .before .before in
+    let brought = reported .before .before in
+    let test = brought .before .before .before .before .before .before .before .before .before .before .before .before in
+    let p = test .before .loop .inv in
+    let l = test .loop-test .taken in
+    one-more p l (reported .report-reach .ensures (record-at p l (brought .brought-to .ensures)))
 
 same-length : tie.Need-same-length Inv-loop μ-loop
 same-length c = c .before .loop .inv .filled .same
@@ -131,12 +133,12 @@ report-all-spec =
     loop-holds
     (λ mul-card. search needs)
     (λ element-copy-out-card. search needs)
+    (λ mul-upstream. search needs)
+    (λ element-copy-out-upstream. search needs)
     (λ mul-flow. search needs)
     (λ element-copy-out-flow. search needs)
     (λ element-copy-out-depth. search needs)
     brought-to-requires
-    (λ add-used-above. omega (arith, array-read-used-above add-used-above))
-    array-read-used-above
     mul-report-reach
     report-reach-requires
     (λ mul-feet. omega (arith, element-write-feet mul-feet))
@@ -146,10 +148,6 @@ report-all-spec =
     (λ mul-feet-3. omega (arith, element-write-feet mul-feet-3))
     element-write-feet
     element-write-feet
-    (λ cast-outlet. omega (arith, array-read-either cast-outlet))
-    array-read-either
-    (λ either-requires. search needs)
-    (λ array-write-used. array-read-either (array-write-used .before))
     (λ add-i. omega arith)
     (λ loop-less. omega arith)
     loop-again

@@ -12,14 +12,16 @@ put-record-requires c κs =
     rw (p .nitrification) (p .room)
 
 foot-of-requires : tie.Need-foot-of-requires
-foot-of-requires c κs = flow-small (c .before .before .before .before .before .before .before .pre .line)
+foot-of-requires c κs = flow-small (c .before .before .before .before .before .before .before .before .pre .line)
 
 returns : tie.Need-returns
 returns c =
-    let made = c .before .before .before .before .before .before .before .line-at in
+    let put = c .before .before .before .before in
+    let shown = put .before in
+    let made = shown .before .before .line-at in
     λ here.
-    reach-reported (here .line) (made .ensures (here .line) (here .used-above)) _ _ _ (c .before .foot-of .ensures) (omega (arith, made .ok)) (c .is-used .ensures)
-    (rw (here .nitrification, c .before .before .before .before .before .reported .ensures) at (c .before .before .before .before .put-record .ensures .buffer))
+    reach-reported (here .line) (made .ensures (here .line)) _ _ _ (c .before .is-used .ensures) (c .foot-of .ensures) (omega (arith, made .ok))
+    (rw (here .nitrification, shown .reported .ensures) at (put .put-record .ensures .buffer))
 
 pub report-reach-spec : {M : Type 1} → statement M
 report-reach-spec =
@@ -28,7 +30,7 @@ report-reach-spec =
     (λ line-at-requires. search needs)
     (λ reported-requires. search needs)
     put-record-requires
-    foot-of-requires
     (λ is-used-requires. search needs)
+    foot-of-requires
     (λ same-length. search needs)
     returns)

@@ -1,10 +1,13 @@
 -- `report::mean::mean` meets its contract, by the outcome of reading and flow check, the length of the buffer and the volume that counts. Assumes
 -- nothing.
-use mathlib.Core.Path.{ap, ap₂, _∙_}
+use mathlib.Core.Path.{_≡_, ap, ap₂, _∙_}
 use Prim.Native.Nat.{ℕ, _<_}
+use lib.ListN.{length, length-map}
 use native.Mathlib.Omega.{arith}
 use borrow.Author.Needs.{needs}
 use Rattle.river.specs.declared.refusal.Outcome.{Outcome}
+use Rattle.river.specs.Card.{cardList}
+use Rattle.flows.proofs.flow.Count.{reaches-counted}
 use Rattle.report.specs.Mean.{Weighted}
 use Rattle.report.proofs.Calls.{answers-refusal, answers-value}
 use Rattle.report.proofs.Entry.{file-ready}
@@ -12,16 +15,19 @@ use Rattle.report.proofs.Means.{means-refused, means-short, means-empty
 use Rattle.report.proofs.mean.mean.Statement.{statement}
 use Rattle.report.proofs.mean.mean.Tie as tie
 
+count : (c : tie.After-reach-count) → c .reach-count .result ≡ length (cardList (c .before .before .before .accept .result .cards))
+count c = reaches-counted (c .before .before .before .accept .result .cards) (simp length-map at (c .before .before .before .accept .ok .1 .1 .1 .0 .1 .1 .0 .1 .0 .1)) (c .reach-count .ensures)
+
 mul-if1 : tie.Need-mul-if1
 mul-if1 c =
     let told = c .before in
-    omega (arith, c .reach-count .ensures, told .before .before .accept .ensures .lawful (told .enum-told .given .1) .few)
+    omega (arith, count c, told .before .before .accept .ensures .lawful (told .enum-told .given .1) .few)
 
 returns : tie.Need-returns
 returns c =
     let t = c .before .before in
     let told = t .before .before in
-    answers-refusal (means-short (told .before .before .accept .ensures) _ (told .enum-told .given .1) (omega (arith, t .if1 .taken, t .before .reach-count .ensures))) (c .refused2 .ensures ∙ ap Outcome.Refused (c .before .refuse .ensures))
+    answers-refusal (means-short (told .before .before .accept .ensures) _ (told .enum-told .given .1) (omega (arith, t .if1 .taken, count (t .before)))) (c .refused2 .ensures ∙ ap Outcome.Refused (c .before .refuse .ensures))
 
 average-all-requires : tie.Need-average-all-requires
 average-all-requires c κs =
@@ -33,13 +39,13 @@ returns-2 c =
     let e = c .before .before .before .before .before .before in
     let told = e .before .before in
     answers-refusal
-    (means-empty (told .before .before .accept .ensures) _ (told .enum-told .given .1) (omega (arith, e .if1 .left, e .before .reach-count .ensures)) (omega (arith, c .before .before .if2 .taken, c .before .before .before .before .before .average-all .ensures .weighed .volume))) (c .refused3 .ensures ∙ ap Outcome.Refused (c .before .refuse2 .ensures))
+    (means-empty (told .before .before .accept .ensures) _ (told .enum-told .given .1) (omega (arith, e .if1 .left, count (e .before))) (omega (arith, c .before .before .if2 .taken, c .before .before .before .before .before .average-all .ensures .weighed .volume))) (c .refused3 .ensures ∙ ap Outcome.Refused (c .before .refuse2 .ensures))
 
 put-table-requires : tie.Need-put-table-requires
 put-table-requires c κs =
     let e = c .before .before .before .before .before .before .before in
     let told = e .before .before in
-    (omega (arith, e .before .reach-count .ensures, told .before .before .accept .ensures .lawful (told .enum-told .given .1) .few), omega (arith, e .if1 .left))
+    (omega (arith, count (e .before), told .before .before .accept .ensures .lawful (told .enum-told .given .1) .few), omega (arith, e .if1 .left))
 
 divide-requires : tie.Need-divide-requires
 divide-requires c κs =
@@ -53,7 +59,7 @@ returns-4 : tie.Need-returns-4
 returns-4 c =
     let e = c .before .before .before .before .before .before .before .before .before .before .before in
     let told = e .before .before in
-    let count = e .before .reach-count .ensures in
+    let count = count (e .before) in
     let all = c .before .before .before .before .before .before .before .before .before .before .average-all in
     let some : 0 < all .result .weights .volume = omega (arith, c .before .before .before .before .before .before .before .if2 .left) in
     answers-value

@@ -3,11 +3,11 @@
 use mathlib.Core.Path.{_≡_, refl, sym, ap, _∙_}
 use Prim.Native.Nat.{ℕ, _-_, _≤_, _<_}
 use native.Mathlib.Omega.{arith}
-use lib.ListN.{length, getD, drop}
+use lib.ListN.{length, length-map, getD, drop}
 use borrow.Author.Needs.{needs}
 use Rattle.river.specs.declared.card.Cards.{Cards}
 use Rattle.river.specs.Card.{cardList, blank}
-use Rattle.flows.proofs.flow.Count.{card-of-river}
+use Rattle.flows.proofs.flow.Count.{reaches-counted, card-of-river}
 use Rattle.report.specs.Record.{isNitrified, hasNitrification}
 use Rattle.report.proofs.record.Nitrified.{found, goes-on, nowhere}
 use Rattle.report.proofs.record.has_nitrification.Statement.{statement}
@@ -28,7 +28,9 @@ own : (cs : Cards) {i count : ℕ} → Searched cs count i → i < count → isN
 own cs {i} s l = ap isNitrified (sym (card-of-river cs i (omega (arith, s .counted))))
 
 loop-holds : tie.Need-loop-holds Inv-loop μ-loop
-loop-holds c = record { counted = (c .reach-count .ensures, omega (arith, c .reach-count .ensures)); rest = refl }
+loop-holds c =
+    let counted = reaches-counted (c .before .args .t1) (simp length-map at (c .before .good .0 .1 .1 .0 .1 .0 .1)) (c .reach-count .ensures) in
+    record { counted = (counted, omega (arith, counted)); rest = refl }
 
 returns : tie.Need-returns Inv-loop μ-loop
 returns c =

@@ -2,11 +2,13 @@
 use mathlib.Core.Path.{_≡_, ap, ap₂, _∙_}
 use mathlib.Core.Bool.{Bool}
 use Prim.Native.Nat.{ℕ, _*_}
+use lib.ListN.{length, length-map}
 use native.Mathlib.Nat.{mul-le-mul}
 use native.Mathlib.Omega.{arith}
 use borrow.Author.Needs.{needs}
 use Rattle.river.specs.Card.{cardList}
 use Rattle.river.specs.declared.refusal.Outcome.{Outcome}
+use Rattle.flows.proofs.flow.Count.{reaches-counted}
 use Rattle.report.specs.Record.{hasNitrification, recordBytes}
 use Rattle.report.specs.Report.{reportSize}
 use Rattle.report.proofs.Calls.{answers-refusal, answers-value}
@@ -15,6 +17,9 @@ use Rattle.report.proofs.record.Encoding.{record-bounds}
 use Rattle.report.proofs.reporting.report.Statement.{statement}
 use Rattle.report.proofs.reporting.report.Tie as tie
 
+counted : (c : tie.After-reach-count) → c .reach-count .result ≡ length (cardList (c .before .before .before .accept .result .cards))
+counted c = reaches-counted (c .before .before .before .accept .result .cards) (simp length-map at (c .before .before .before .accept .ok .1 .1 .1 .0 .1 .1 .0 .1 .0 .1)) (c .reach-count .ensures)
+
 has-nitrification-requires : tie.Need-has-nitrification-requires
 has-nitrification-requires c κs = c .before .before .before .accept .ensures .lawful (c .before .enum-told .given .1) .few
 
@@ -22,7 +27,7 @@ has-nitrification-requires c κs = c .before .before .before .accept .ensures .l
 size-is :
     (c : tie.After-record-bytes) →
     c .record-bytes .result * c .before .before .reach-count .result ≡ reportSize (cardList (c .before .before .before .before .before .accept .result .cards))
-size-is c = ap₂ _*_ (c .record-bytes .ensures ∙ ap recordBytes (c .before .has-nitrification .ensures)) (c .before .before .reach-count .ensures)
+size-is c = ap₂ _*_ (c .record-bytes .ensures ∙ ap recordBytes (c .before .has-nitrification .ensures)) (counted (c .before .before))
 
 mul-size : tie.Need-mul-size
 mul-size c =
@@ -62,7 +67,7 @@ returns-3 c =
     answers-value
     (file-held (told .before .before .accept .ensures) _ (told .enum-told .given .1) (omega (arith, e .if1 .left, size-is (e .before))))
     (told .enum-told .given .1)
-    (ap₂ (λ (n : ℕ) (b : Bool). record { count = n; nitrified = b }) (e .before .before .before .reach-count .ensures) (e .before .before .has-nitrification .ensures))
+    (ap₂ (λ (n : ℕ) (b : Bool). record { count = n; nitrified = b }) (counted (e .before .before .before)) (e .before .before .has-nitrification .ensures))
     (w .report-all .ensures)
 
 pub report-spec : {M : Type 1} → statement M

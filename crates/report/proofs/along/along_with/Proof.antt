@@ -1,11 +1,11 @@
--- `report::mean::hand_on` meets its contract: the sums give the factors at the foot and the means, and their figures fit four bytes. Assumes
+-- `report::along::along_with` meets its contract: the sums give the factors at the foot and the means, and their figures fit four bytes. Assumes
 -- nothing.
 use mathlib.Core.Path.{refl}
 use native.Mathlib.Omega.{arith}
 use borrow.Author.Needs.{needs}
-use Rattle.report.proofs.mean.Passages.{sums-fit, foot-loss, foot-bod-few, mean-shares, mean-loss, handed-on}
-use Rattle.report.proofs.mean.hand_on.Statement.{statement}
-use Rattle.report.proofs.mean.hand_on.Tie as tie
+use Rattle.report.proofs.along.Along.{sums-fit, foot-loss, foot-bod-few, mean-shares, mean-loss, along-made}
+use Rattle.report.proofs.along.along_with.Statement.{statement}
+use Rattle.report.proofs.along.along_with.Tie as tie
 
 mean-factors-requires : tie.Need-mean-factors-requires
 mean-factors-requires c κs = (c .before .before .pre .mean-sound, sums-fit (c .before .before .pre) (c .before .factor-sums .ensures))
@@ -43,10 +43,10 @@ cast-t14 c =
 returns : tie.Need-returns
 returns c =
     let t = c .before .before .before .before .before .before .before .before in
-    handed-on (t .before .pre) (t .factor-sums .ensures) (c .before .before .before .before .before .before .mean-factors .ensures) (c .before .product .ensures) refl (c .before .before .before .before .oxygen-over-both .ensures .is) (c .before .before .before .oxygen-over-both2 .ensures .is) (c .before .before .loss-with .ensures)
+    along-made (t .before .pre) (t .factor-sums .ensures) (c .before .before .before .before .before .before .mean-factors .ensures) (c .before .product .ensures) refl (c .before .before .before .before .oxygen-over-both .ensures .is) (c .before .before .before .oxygen-over-both2 .ensures .is) (c .before .before .loss-with .ensures)
 
-pub hand-on-spec : {M : Type 1} → statement M
-hand-on-spec =
+pub along-with-spec : {M : Type 1} → statement M
+along-with-spec =
     tie.close
     (tie.spec
     (λ factor-sums-requires. search needs)

@@ -1,4 +1,4 @@
--- `report::mean::is_used_up` meets its contract: the status is 2 where oxygen is used up above, 0 where oxygen is surely nowhere below zero, and else that of the line.
+-- `report::along::is_used_up` meets its contract: the status is 2 where oxygen is used up above, 0 where oxygen is surely nowhere below zero, and else that of the line.
 -- Assumes nothing.
 use mathlib.Core.Path.{ap, _∙_}
 use Prim.Native.Nat.{ℕ}
@@ -10,14 +10,14 @@ use Rattle.flows.specs.held.Stored.{oxygenOf}
 use Rattle.report.specs.Record.{Figures}
 use Rattle.report.specs.Status.{statusBy, isUsed}
 use Rattle.report.specs.held.Lines.{LineReady, HeadFits}
-use Rattle.report.specs.held.MeanLines.{PassageBelow, PassedBelow}
-use Rattle.report.specs.declared.mean.Passage.{Passage}
-use Rattle.report.proofs.mean.NeverBelow.{lowest-above}
-use Rattle.report.proofs.mean.is_used_up.Statement.{statement}
-use Rattle.report.proofs.mean.is_used_up.Tie as tie
+use Rattle.report.specs.Along.{AlongBelow, AlongHead}
+use Rattle.report.specs.declared.along.ReachAlong.{ReachAlong}
+use Rattle.report.proofs.along.NeverBelow.{lowest-above}
+use Rattle.report.proofs.along.is_used_up.Statement.{statement}
+use Rattle.report.proofs.along.is_used_up.Tie as tie
 
 -- what the test asks of a reach
-abbrev passed : {card : Card} {flow : ℕ} {head : Head} {p : Passage} → LineReady card flow × HeadFits head × PassageBelow card flow (head .bod) (head .nitrogenous) (oxygenOf (head .oxygen)) p → PassedBelow card head p
+abbrev passed : {card : Card} {flow : ℕ} {head : Head} {p : ReachAlong} → LineReady card flow × HeadFits head × AlongBelow card flow (head .bod) (head .nitrogenous) (oxygenOf (head .oxygen)) p → AlongHead card head p
 passed {flow} h = record { flow = flow; ready = h .0; fits = h .1; below = h .2 }
 
 never-below-zero-requires : tie.Need-never-below-zero-requires

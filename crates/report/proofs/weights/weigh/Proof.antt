@@ -1,9 +1,9 @@
--- `report::mean::weigh` meets its contract: 128 products of a volume and 16 bits fit eight bytes. Assumes nothing.
+-- `report::weights::weigh` meets its contract: 128 products of a volume and 16 bits fit eight bytes. Assumes nothing.
 use native.Mathlib.Omega.{arith}
 use borrow.Author.Needs.{needs}
-use Rattle.report.proofs.mean.Weighing.{upper-part, lower-part}
-use Rattle.report.proofs.mean.weigh.Statement.{statement}
-use Rattle.report.proofs.mean.weigh.Tie as tie
+use Rattle.report.proofs.weights.Weighing.{upper-part, lower-part}
+use Rattle.report.proofs.weights.weigh.Statement.{statement}
+use Rattle.report.proofs.weights.weigh.Tie as tie
 
 mul-t7 : tie.Need-mul-t7
 mul-t7 c = omega (arith, upper-part (c .args .volume) (c .args .mean) (c .pre .volume-range) (omega arith))

@@ -33,9 +33,9 @@ use Rattle.report.specs.Program.{lowest}
 use Rattle.report.specs.held.Along.{unitParts, oxygenWith, factorsAlong, partsAlong, demandAlong, turnedAlong, lossAlong, oxygenAlong}
 use Rattle.report.specs.held.Profile.{StartInRange}
 use Rattle.report.specs.held.Lines.{LineReady, HeadFits}
-use Rattle.report.specs.held.MeanLines.{PassageBelow}
+use Rattle.report.specs.Along.{AlongBelow}
 use Rattle.report.specs.declared.profile.Start.{Start}
-use Rattle.report.specs.declared.mean.Passage.{Passage}
+use Rattle.report.specs.declared.along.ReachAlong.{ReachAlong}
 use Rattle.report.proofs.Lowest.{lowest-first}
 use Rattle.report.proofs.bed.Loss.{bed-in-range, loss-in-range}
 use Rattle.report.proofs.lines.Lines.{start-range}
@@ -107,7 +107,7 @@ oxygen-above f h {n} s r a b = by-order (decLe (h .oxygen) (h .saturation + stor
     by-order (no l) =
         stored-above (holds-over f h s r _ _ refl (omega arith) refl .0) (omega (arith, share-below (one - f .kept) (h .oxygen - (h .saturation + storedZero)) (omega arith)))
 
-module _ {card : Card} {Q : ℕ} {head : Head} {p : Passage} (ready : LineReady card Q) (fits : HeadFits head) (below : PassageBelow card Q (head .bod) (head .nitrogenous) (oxygenOf (head .oxygen)) p) where
+module _ {card : Card} {Q : ℕ} {head : Head} {p : ReachAlong} (ready : LineReady card Q) (fits : HeadFits head) (below : AlongBelow card Q (head .bod) (head .nitrogenous) (oxygenOf (head .oxygen)) p) where
   -- a demand at the foot is at most its head value
   pub bod-falls : p .«foot_bod» ≤ head .bod
   bod-falls = omega (arith, below .foot-bod, turned-within ready Bod (head .bod) foot (le-refl foot))

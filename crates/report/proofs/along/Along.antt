@@ -1,4 +1,4 @@
--- What a reach hands on: nitrogenous BOD by its sums, the figures of the foot, the mean, and the loss to the bed. Assumes nothing.
+-- A reach along its way: nitrogenous BOD by its sums, the figures of the foot, the mean, and the loss to the bed. Assumes nothing.
 use mathlib.Core.Path.{_≡_, sym, ap, ap₂, _∙_}
 use Prim.Native.Nat.{ℕ, _*_, _/_, _≤_, _<_}
 use native.Mathlib.Nat.{le-refl, zero-mul}
@@ -28,12 +28,12 @@ use Rattle.report.specs.held.Bed.{bedOf, LossInRange, lossWith}
 use Rattle.report.specs.held.Along.{unitParts, factorsAlong, partsAlong, demandAlong, turnedAlong, lossAlong, oxygenAlong}
 use Rattle.report.specs.held.Profile.{oxygenOver}
 use Rattle.report.specs.held.MeanAlong.{middle, factorsMean, turnedMean, meanAlong}
-use Rattle.report.specs.held.MeanLines.{demandsAlong, PassageReady, HandsOn, PassageBelow}
+use Rattle.report.specs.Along.{demandsAlong, AlongReady, AlongWith, AlongBelow}
 use Rattle.report.specs.held.Lines.{LineReady, HeadFits}
 use Rattle.report.specs.declared.bed.Bed.{Bed}
 use Rattle.report.specs.declared.profile.Start.{Start}
-use Rattle.report.specs.declared.mean.Passage.{Passage}
-use Rattle.report.specs.declared.mean.DemandAlong.{DemandAlong}
+use Rattle.report.specs.declared.along.ReachAlong.{ReachAlong}
+use Rattle.report.specs.declared.along.DemandAlong.{DemandAlong}
 use Rattle.report.proofs.bed.Loss.{loss-in-range, mean-loss-in-range}
 use Rattle.report.proofs.lines.Lines.{start-range, start-bed}
 
@@ -62,7 +62,7 @@ pub demand-sums-few : {start : ℕ} {step : Step} {d : DemandSums} → SoundStep
 demand-sums-few sound few s = demand-sums-fit sound few (le-refl foot) s
 
 -- the factors at the foot and the means, from the sums of a reach that is ready
-module _ {step mean : Step} {demand : DemandAlong} {start : Start} {bed : Bed} (r : PassageReady step mean demand start bed) {f : FactorSums} (s : FactorsSummed step foot f) where
+module _ {step mean : Step} {demand : DemandAlong} {start : Start} {bed : Bed} (r : AlongReady step mean demand start bed) {f : FactorSums} (s : FactorsSummed step foot f) where
   pub sums-fit : FactorSumsFit f
   sums-fit = factor-sums-fit (r .sound) (le-refl foot) s
 
@@ -84,15 +84,15 @@ module _ {step mean : Step} {demand : DemandAlong} {start : Start} {bed : Bed} (
     mean-loss = rw mean-is (mean-loss-in-range (r .mean-sound) (r .sound) (r .fills) (r .bed-range))
 
     -- what is made of them
-    pub handed-on :
-        {p : Passage} →
+    pub along-made :
+        {p : ReachAlong} →
         p .«foot_bod» ≡ product (f .reached .left) (start .bod) →
         p .«foot_nitrogenous» ≡ demand .foot .left / unitParts →
         oxygenOf (p .«foot_oxygen») ≡ oxygenOver start bed (f .reached) (demand .foot) foot →
         oxygenOf (p .mean) ≡ oxygenOver start bed g (demand .mean) middle →
         p .loss ≡ lossWith (f .reached) bed foot →
-        HandsOn step mean demand start bed p
-    handed-on a b c d h =
+        AlongWith step mean demand start bed p
+    along-made a b c d h =
         record {
           foot-bod = a ∙ ap (λ (x : Factors). product (x .left) (start .bod)) (s .reached);
           foot-nitrogenous = b;
@@ -106,9 +106,9 @@ module _ (card : Card) (flow : ℕ) (head : Head) {step mean : Step} {demand : D
   abbrev start : Start
   start = record { bod = head .bod; nitrogenous = head .nitrogenous; oxygen = head .oxygen; saturation = saturated }
 
-  -- are what it is to be handed
-  pub passage-ready : LineReady card flow → HeadFits head → head .oxygen < 4_294_967_296 → PassageReady step mean demand start bed
-  passage-ready p h fits =
+  -- are what it asks
+  pub along-ready : LineReady card flow → HeadFits head → head .oxygen < 4_294_967_296 → AlongReady step mean demand start bed
+  along-ready p h fits =
       let rates = p .rates Bod in
       let other = p .rates Nitrogenous in
       record {
@@ -122,8 +122,8 @@ module _ (card : Card) (flow : ℕ) (head : Head) {step mean : Step} {demand : D
       }
 
   -- and give its figures
-  pub passage-below : {p : Passage} → HandsOn step mean demand start bed p → PassageBelow card flow (head .bod) (head .nitrogenous) (oxygenOf (head .oxygen)) p
+  pub along-below : {p : ReachAlong} → AlongWith step mean demand start bed p → AlongBelow card flow (head .bod) (head .nitrogenous) (oxygenOf (head .oxygen)) p
   unfolding demandAlong turnedAlong lossAlong oxygenAlong factorsAlong partsAlong meanAlong factorsMean turnedMean
-  passage-below {p} made =
-      let h : HandsOn (stepOf (card .k1) (card .k2) (card .volume) flow) (meanStepOf (card .k1) (card .k2) (card .volume) flow) (demandsAlong card flow (unitParts * head .nitrogenous)) (record { bod = head .bod; nitrogenous = head .nitrogenous; oxygen = head .oxygen; saturation = saturationOf card }) (bedOf card flow) p = rw (e, m, d, t, b) at made in
+  along-below {p} made =
+      let h : AlongWith (stepOf (card .k1) (card .k2) (card .volume) flow) (meanStepOf (card .k1) (card .k2) (card .volume) flow) (demandsAlong card flow (unitParts * head .nitrogenous)) (record { bod = head .bod; nitrogenous = head .nitrogenous; oxygen = head .oxygen; saturation = saturationOf card }) (bedOf card flow) p = rw (e, m, d, t, b) at made in
       record { foot-bod = h .foot-bod; foot-nitrogenous = h .foot-nitrogenous; foot-oxygen = h .foot-oxygen; mean = h .mean-oxygen; loss = h .loss }

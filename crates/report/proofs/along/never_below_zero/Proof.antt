@@ -1,12 +1,12 @@
--- `report::mean::never_below_zero` meets its contract: a demand at the foot is at most its head value, the sums fit, and where the test passes nothing takes oxygen
+-- `report::along::never_below_zero` meets its contract: a demand at the foot is at most its head value, the sums fit, and where the test passes nothing takes oxygen
 -- below zero. Assumes nothing.
 use mathlib.Core.Bool.{false≢true}
 use native.Mathlib.Omega.{arith}
 use borrow.Author.Needs.{needs}
 use borrow.Author.Tests.{leb-true}
-use Rattle.report.proofs.mean.NeverBelow.{bod-falls, nitrogenous-falls, loss-few, stays}
-use Rattle.report.proofs.mean.never_below_zero.Statement.{statement}
-use Rattle.report.proofs.mean.never_below_zero.Tie as tie
+use Rattle.report.proofs.along.NeverBelow.{bod-falls, nitrogenous-falls, loss-few, stays}
+use Rattle.report.proofs.along.never_below_zero.Statement.{statement}
+use Rattle.report.proofs.along.never_below_zero.Tie as tie
 
 sub-lost : tie.Need-sub-lost
 sub-lost c =

@@ -1,10 +1,10 @@
--- `report::mean::nitrogenous_along` meets its contract: at the rate 0 all of it stays, and else its sums give foot and mean. Assumes nothing.
+-- `report::along::nitrogenous_along` meets its contract: at the rate 0 all of it stays, and else its sums give foot and mean. Assumes nothing.
 use mathlib.Core.Path.{_≡_, sym, ap, _∙_}
 use Prim.Native.Nat.{ℕ}
 use borrow.Author.Needs.{needs}
-use Rattle.report.proofs.mean.Passages.{idle-along, demands-made, demand-sums-few, sound, mean-sound}
-use Rattle.report.proofs.mean.nitrogenous_along.Statement.{statement}
-use Rattle.report.proofs.mean.nitrogenous_along.Tie as tie
+use Rattle.report.proofs.along.Along.{idle-along, demands-made, demand-sums-few, sound, mean-sound}
+use Rattle.report.proofs.along.nitrogenous_along.Statement.{statement}
+use Rattle.report.proofs.along.nitrogenous_along.Tie as tie
 
 returns : tie.Need-returns
 returns c =

@@ -1,15 +1,15 @@
--- `report::mean::divide` meets its contract: long division in two chunks. Assumes nothing.
+-- `report::weights::divide` meets its contract: long division in two chunks. Assumes nothing.
 use mathlib.Core.Path.{_≡_}
 use Prim.Native.Nat.{_*_, _+_, _/_, _%_, _≤_, _<_}
 use native.Mathlib.Nat.{mod-lt}
 use native.Mathlib.Omega.{arith}
 use borrow.Author.Needs.{needs}
 use Rattle.flows.specs.held.Stored.{storedLimit}
-use Rattle.report.specs.held.MeanLines.{chunk, wholeSum, Divisible}
-use Rattle.report.specs.declared.mean.Weights.{Weights}
-use Rattle.report.proofs.mean.Weighing.{long-quotient, long-remainder, quotient-fits}
-use Rattle.report.proofs.mean.divide.Statement.{statement}
-use Rattle.report.proofs.mean.divide.Tie as tie
+use Rattle.report.specs.Weights.{chunk, wholeSum, Divisible}
+use Rattle.report.specs.declared.weights.Weights.{Weights}
+use Rattle.report.proofs.weights.Weighing.{long-quotient, long-remainder, quotient-fits}
+use Rattle.report.proofs.weights.divide.Statement.{statement}
+use Rattle.report.proofs.weights.divide.Tie as tie
 
 module _ {w : Weights} (d : Divisible w) where
   below : w .high % w .volume < w .volume

@@ -1,0 +1,2 @@
+-- The rows of statuses.
+pub mod Rows

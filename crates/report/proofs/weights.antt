@@ -1,0 +1,2 @@
+-- Laws of the weighing of the means.
+pub mod Weighing
