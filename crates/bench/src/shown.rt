@@ -1,5 +1,7 @@
 // Results, figures of reaches and means, printed.
+ghost use mathlib.Core.Path.{_≡_};
 ghost use Prim.Native.Nat.{_≤_};
+ghost use Rattle.flows.specs.held.Stored.{oxygenOf};
 use crate::given::file_in;
 use crate::given::has_status;
 use crate::given::most_off_in;
@@ -12,7 +14,6 @@ use report::record::RP_SIZE;
 use report::record::read_record;
 use report::record::record_bytes;
 use text::means::read_mean;
-use text::means::stored;
 
 // Prints stored oxygen.
 fn print_oxygen(stored: u32) {
@@ -136,6 +137,13 @@ pub fn show_size(case: &[u8]) {
     io::write_all(1, b": ");
     io::print_decimal(1, report::xylandreo_record_size(file_in(case)) as u64);
     io::write_all(1, b" bytes\n");
+}
+
+// Signed units as a stored number.
+fn stored(units: i32) -> u32
+    ensures { λ r. ⌜ oxygenOf r ≡ units ⌝ }
+{
+    (units as i64 + STORED_ZERO as i64) as u32
 }
 
 // Prints a stored mean, on a line of its own.

@@ -4,7 +4,7 @@ pub mod Signed
 use mathlib.Core.Path.{_≡_, refl, sym, ap, _∙_, subst}
 use mathlib.Core.Logic.{_↔_}
 use mathlib.Core.Bool.{Bool, true, false, cond}
-use mathlib.Core.List.{List, _++_}
+use mathlib.Core.List.{List}
 use Prim.Native.Nat.{ℕ, suc, _-_, _≤_, _<_}
 use native.Mathlib.Nat.{le-refl}
 use native.Mathlib.Omega.{arith}
@@ -19,7 +19,7 @@ use Rattle.river.specs.declared.refusal.Outcome.{Outcome}
 use Rattle.flows.specs.declared.accept.Acceptance.{Acceptance}
 use Rattle.river.specs.Bytes.{AreBytes}
 use Rattle.river.specs.Card.{cardList}
-use Rattle.river.specs.Refusal.{Answer, accepted, refused, refuse, after, codeOf, outcomeOf}
+use Rattle.river.specs.Refusal.{accepted, refused, refuse, outcomeOf}
 use Rattle.flows.specs.Flow.{cardOf, above}
 use Rattle.flows.specs.held.Stored.{storedZero, storedLimit}
 use Rattle.flows.specs.Accept.{acceptFile}
@@ -30,9 +30,9 @@ use Rattle.report.specs.Status.{shownOxygen}
 use Rattle.report.specs.Program.{oxygenAt, criticalOxygen, usedAbove, statusOf, figuresOf, figuresAt, reportedAt, foot}
 use Rattle.report.specs.Distance.{allowanceAt, WithinAllowance}
 use Rattle.report.specs.Record.{hasNitrification, complement, fromComplement, recordSize, recordAt, readRecord, Figures}
-use Rattle.report.specs.Answers.{resultBy, AnswersReport}
+use Rattle.report.specs.Answers.{resultBy, ReportTold, AnswersReport}
 use Rattle.report.specs.Call.{resultOf, leftBy}
-use Rattle.report.specs.Report.{recordOf, reportOf, reportSize, roomAnswer, reportAnswer, bufferReported, figuresRead, Accepted, UsedUpAbove, TellsReach, Reports}
+use Rattle.report.specs.Report.{recordOf, reportSize, roomAnswer, reportAnswer, bufferReported, figuresRead, Accepted, UsedUpAbove, TellsReach, Reports}
 use Rattle.report.specs.Ties.{Tied}
 use Rattle.report.specs.held.Lines.{Ready}
 use Rattle.report.specs.declared.reporting.Reported.{Reported}
@@ -45,7 +45,7 @@ use Rattle.report.proofs.UsedAbove.{UsedReach, used-exactly}
 use Rattle.report.proofs.River.{IsRiver, river-of-file, head-in-range, instant-in-range, reach-tied, reach-within-allowance}
 use Rattle.report.proofs.record.Encoding.{Writable, record-length, read-back}
 use Rattle.report.proofs.record.Rows.{Begins, stands}
-use Rattle.report.proofs.Calls.{IsAccepted, called, result-is}
+use Rattle.report.proofs.Calls.{IsAccepted, called, result-is, value-told}
 use Rattle.report.proofs.Calls.Numbers.{Numbered, needs, next, accept-numbered}
 
 -- two's complement holds the oxygen of an accepted river
@@ -197,6 +197,25 @@ pub reports :
     result ≡ resultBy (r .outcome) →
     Reports file before after result
 reports {file} {before} {after} {result} r bytes h e = reports-of file before after result bytes (e ∙ result-is (r .outcome) h) (h .leaves)
+
+-- an accepted river, of which reporting tells count and nitrification, and the bytes all that the paper says
+pub record ReportGiven (file before after : List ℕ) (r : Reported) : Type 0 where
+  pub river : Accepted file (length before)
+  pub count : r .count ≡ length (river .cards)
+  pub nitrified : r .nitrified ≡ hasNitrification (river .cards)
+  pub each : (i : ℕ) → i < length (river .cards) → TellsReach (river .cards) after i
+
+pub report-given : {file before after : List ℕ} (r : Reported) → AreBytes file → AnswersReport file before after r → r .outcome ≡ Outcome.Accepted → ReportGiven file before after r
+report-given {file} {before} r bytes h e =
+    let t = value-told (reportAnswer file (length before)) h e in
+    let river = answered file (record { value = t .value; is = t .is }) in
+    let same : t .value ≡ river .cards = cc (t .is, answers file river) in
+    record {
+      river = river;
+      count = ap (λ (x : ReportTold). x .count) (t .told-is) ∙ ap length same;
+      nitrified = ap (λ (x : ReportTold). x .nitrified) (t .told-is) ∙ ap hasNitrification same;
+      each = tells-reach file before bytes (h .leaves) river;
+    }
 
 -- the answer for a file, by the outcome of reading and flow check and by the room
 module _ {file : List ℕ} {r : Acceptance} (h : Accepts file r) where

@@ -15,14 +15,14 @@ use Rattle.river.specs.declared.refusal.Outcome.{Outcome}
 use Rattle.flows.specs.declared.accept.Acceptance.{Acceptance}
 use Rattle.river.specs.Bytes.{AreBytes, fourBytes, fourAt}
 use Rattle.river.specs.Card.{cardList}
-use Rattle.river.specs.Refusal.{Answer, accepted, refused, refuse, after as then, codeOf, outcomeOf}
+use Rattle.river.specs.Refusal.{Answer, accepted, refused, refuse, outcomeOf}
 use Rattle.flows.specs.Flow.{cardOf, above}
 use Rattle.river.specs.Card.{Lawful}
 use Rattle.flows.specs.held.Stored.{oxygenOf}
 use Rattle.flows.specs.Accept.{acceptFile}
 use Rattle.flows.specs.held.Accepts.{Accepts}
 use Rattle.flows.proofs.Acceptance.{accepts-exactly}
-use Rattle.river.proofs.Answers.{never, passed, went, need-true, need-false, after-accepted, after-refused}
+use Rattle.river.proofs.Answers.{passed, went, need-true, need-false, after-accepted, after-refused}
 use Rattle.report.specs.Record.{complement, fromComplement}
 use Rattle.report.specs.Answers.{resultBy, MeansTold, AnswersMeans}
 use Rattle.report.specs.Call.{resultOf, leftBy}
@@ -218,3 +218,22 @@ module _ {file before after : List ℕ} (r : RiverMean) (bytes : AreBytes file) 
       let mean : record { units = units; remainder = r .remainder } ≡ riverMean (t .value) = ap (λ (z : ℤ). record { units = z; remainder = r .remainder }) u ∙ ap (λ (m : MeansTold). m .mean) (t .told-is) in
       means-of file before after units₀ units remainder₀ (r .remainder) 0 bytes (sym (ap resultOf (t .is)))
       (rw (t .is) (ap₂ (λ (b : List ℕ) (w : Weighted). record { buffer = b; mean = w }) (rw (t .is) at (h .leaves)) mean))
+
+-- an accepted river, of which the call tells count and mean, and the bytes all that the paper says
+pub record MeansGiven (file before after : List ℕ) (r : RiverMean) : Type 0 where
+  pub river : Averaged file (length before)
+  pub count : r .count ≡ length (river .cards)
+  pub mean : record { units = oxygenOf (r .units); remainder = r .remainder } ≡ riverMean (river .cards)
+  pub each : (i : ℕ) → i < length (river .cards) → TellsMean (river .cards) after i
+
+pub means-given : {file before after : List ℕ} (r : RiverMean) → AreBytes file → AnswersMeans file before after r → r .outcome ≡ Outcome.Accepted → MeansGiven file before after r
+means-given {file} {before} r bytes h e =
+    let t = value-told (meanAnswer file (length before)) h e in
+    let river = answered file (record { value = t .value; is = t .is }) in
+    let same : t .value ≡ river .cards = cc (t .is, averaged file river) in
+    record {
+      river = river;
+      count = ap (λ (x : MeansTold). x .count) (t .told-is) ∙ ap length same;
+      mean = ap (λ (x : MeansTold). x .mean) (t .told-is) ∙ ap riverMean same;
+      each = tells-mean file before bytes (h .leaves) river;
+    }

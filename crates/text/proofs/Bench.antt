@@ -16,7 +16,7 @@ use Rattle.report.proofs.Bench.{bench, laden}
 use Rattle.report.proofs.record.Bytes.{small}
 use Rattle.report.specs.Record.{nitrifies, isNitrified, hasNitrification, Figures}
 use Rattle.report.specs.Status.{shownNumber, shownOxygen, reported}
-use Rattle.text.specs.Text.{ascii, digitsBy, decimal, number, signed, afterWord, line, numbersOf, reachLine, linesOf, refusalLine, textOf}
+use Rattle.text.specs.Text.{ascii, digitsBy, decimal, number, signed, afterWord, line, numbersOf, reachLine, firstLines, refusalLine, textOf}
 use Rattle.text.specs.MeanText.{meanLine, riverLine, meanTextOf}
 
 pub record Rows : Type 0 where
@@ -48,7 +48,7 @@ twoLines nitrified f g = ([] ++ reachLine nitrified 1 f) ++ reachLine nitrified 
 
 -- THEOREM: the worked example, a refusal and some numbers as they are printed, a row each
 pub text-bench : Rows
-unfolding nitrifies isNitrified hasNitrification shownNumber shownOxygen textOf linesOf meanLine riverLine meanTextOf refusalLine line afterWord numbersOf signed number decimal digitsBy
+unfolding nitrifies isNitrified hasNitrification shownNumber shownOxygen textOf firstLines meanLine riverLine meanTextOf refusalLine line afterWord numbersOf signed number decimal digitsBy
 text-bench =
     record {
       example = ap₂ (twoLines false) (bench .line-1) (bench .line-2);

@@ -1,47 +1,41 @@
--- What `put_answer` puts is the text of the means for its file, by the contract of the entry. Assumes nothing.
-use mathlib.Core.Path.{_≡_, refl, sym, ap, ap₂, _∙_}
+-- What `render_means` puts is the text of the means for its file, by what the call for means answers. Assumes nothing.
+use mathlib.Core.Path.{_≡_, sym, ap, ap₂, _∙_}
 use mathlib.Core.List.{List, _++_}
-use Prim.Native.Nat.{ℕ, zero, suc, _/_, _%_, _<_}
-use native.Mathlib.Omega.{arith}
-use lib.IntN.{ℤ}
+use Prim.Native.Nat.{ℕ, suc}
 use lib.ListN.{length}
-use Rattle.river.specs.Bytes.{AreBytes, twoAt}
-use Rattle.river.specs.Refusal.{accepted}
+use Rattle.river.specs.declared.refusal.Refusal.{Refusal}
+use Rattle.river.specs.Refusal.{refused}
 use Rattle.flows.specs.held.Stored.{oxygenOf}
-use Rattle.report.proofs.Means.{averaged}
-use Rattle.report.specs.Mean.{meanAt, meanAnswer, Averaged, Means}
+use Rattle.report.proofs.Means.{averaged, MeansGiven}
+use Rattle.report.specs.declared.mean.RiverMean.{RiverMean}
+use Rattle.report.specs.Mean.{meanAt, meanAnswer}
 use Rattle.text.specs.Text.{refusalLine}
 use Rattle.text.specs.MeanText.{meanLine, meanLines, riverLine, meansRoom, meanTextOf, meanText}
 use Rattle.text.specs.Held.{meanHeld}
-use Rattle.text.proofs.Rendering.{counted}
+use Rattle.text.proofs.put.Lines.{same-lines}
 
--- equal means have equal lines
-same-lines : (f g : ℕ → ℤ) (n : ℕ) → ((i : ℕ) → i < n → f (suc i) ≡ g (suc i)) → meanLines f n ≡ meanLines g n
-unfolding meanLines
-same-lines f g zero h = refl
-same-lines f g (suc n) h = ap₂ _++_ (same-lines f g n (λ i l. h i (omega arith))) (ap (meanLine (suc n)) (h n (omega arith)))
-
-module _ {file before after : List ℕ} {units₀ units : ℤ} {remainder₀ remainder result : ℕ} (bytes : AreBytes file) (long : length before ≡ meansRoom) (means : Means file before after units₀ units remainder₀ remainder result) where
+module _ (file : List ℕ) where
   -- the text is by a call with this room
-  by-room : meanTextOf (meanAnswer file (length before)) ≡ meanText file
-  by-room = ap (λ (room : ℕ). meanTextOf (meanAnswer file room)) long
+  by-room : {room : ℕ} → room ≡ meansRoom → meanTextOf (meanAnswer file room) ≡ meanText file
+  by-room long = ap (λ (room : ℕ). meanTextOf (meanAnswer file room)) long
 
-  -- a result of 0: the lines of the means in the bytes, and of the two numbers, are those of the river
+  -- the lines of the means that the call gives, and of the mean that it tells, are those of the river
   pub means-are :
-      {count : ℕ} (stored : ℕ) →
-      count ≡ twoAt file 2 →
-      oxygenOf stored ≡ units →
-      result ≡ 0 →
-      meanLines (meanHeld after) count ++ riverLine (record { units = oxygenOf stored; remainder = remainder }) ≡ meanText file
+      {before after : List ℕ} (r : RiverMean) →
+      length before ≡ meansRoom →
+      MeansGiven file before after r →
+      meanLines (meanHeld after) (r .count) ++ riverLine (record { units = oxygenOf (r .units); remainder = r .remainder }) ≡ meanText file
   unfolding meanTextOf
-  means-are stored n e z =
-      let river = means .call .exactly .0 z in
-      rw (n, e, counted bytes (river .passes) .0)
-      (ap₂ _++_ (same-lines (meanHeld after) (meanAt (river .cards)) (length (river .cards)) (λ i l. means .each river i l .mean)) (ap riverLine (means .all river .mean))
-      ∙ sym (ap meanTextOf (averaged file river))
-      ∙ by-room)
+  means-are {after = after} r long given =
+      let cards = given .river .cards in
+      rw (given .count)
+      (ap₂ _++_
+      (same-lines (λ i. meanLine i (meanHeld after i)) (λ i. meanLine i (meanAt cards i)) (length cards) (λ i l. ap (meanLine (suc i)) (given .each i l .mean)))
+      (ap riverLine (given .mean))
+      ∙ sym (ap meanTextOf (averaged file (given .river)))
+      ∙ by-room long)
 
-  -- any other: its number and reach are the refusal's
-  pub refusal-is : (result ≡ 0 → ⊥) → refusalLine (result % 256) (result / 256) ≡ meanText file
+  -- a refusal is the call's
+  pub refusal-is : {room : ℕ} {r : Refusal} → room ≡ meansRoom → meanAnswer file room ≡ refused r → refusalLine (r .number) (r .reach) ≡ meanText file
   unfolding meanTextOf
-  refusal-is h = sym (ap meanTextOf (means .call .refuses h)) ∙ by-room
+  refusal-is long h = sym (ap meanTextOf h) ∙ by-room long

@@ -3,3 +3,4 @@ pub mod Decimal
 pub mod Signs
 pub mod Words
 pub mod Puts
+pub mod Lines

@@ -1,21 +1,20 @@
 -- "The printing program" of the river file paper, asked for means: the text of a river's mean oxygen, or of its refusal, as ASCII codes.
 use mathlib.Core.List.{List, [], _∷_, _++_, map}
-use Prim.Native.Nat.{ℕ, zero, suc, _*_}
+use Prim.Native.Nat.{ℕ, _*_}
 use lib.IntN.{ℤ, pos}
 use lib.ListN.{length}
 use Rattle.river.specs.declared.card.Card.{Card}
 use Rattle.river.specs.Refusal.{Answer, accepted, refused}
 use Rattle.report.specs.Mean.{Weighted, meanBytes, meanAt, riverMean, meanAnswer}
-use Rattle.text.specs.Text.{ascii, number, signed, line, refusalLine, Rendered}
+use Rattle.text.specs.Text.{ascii, number, signed, line, firstLines, refusalLine, Rendered}
 
 -- the line of a reach: its number and its mean
 unfoldable pub meanLine : (reach : ℕ) (mean : ℤ) → List ℕ
 meanLine reach mean = line (map signed (pos reach ∷ mean ∷ []))
 
 -- the lines of the first n reaches, whose means are given by reach number
-unfoldable pub meanLines : (ℕ → ℤ) → ℕ → List ℕ
-meanLines mean zero = []
-meanLines mean (suc n) = meanLines mean n ++ meanLine (suc n) (mean (suc n))
+abbrev pub meanLines : (ℕ → ℤ) → ℕ → List ℕ
+meanLines mean = firstLines (λ i. meanLine i (mean i))
 
 -- the line of the river: its mean, as whole units and a remainder
 unfoldable pub riverLine : Weighted → List ℕ

@@ -70,10 +70,14 @@ numbersOf nitrified reach f =
 abbrev pub reachLine : (nitrified : Bool) (reach : ℕ) → Figures → List ℕ
 reachLine nitrified reach f = line (map signed (numbersOf nitrified reach f))
 
--- the lines of the first n reaches, whose figures are given by reach number
-unfoldable pub linesOf : (nitrified : Bool) → (ℕ → Figures) → ℕ → List ℕ
-linesOf nitrified figures zero = []
-linesOf nitrified figures (suc n) = linesOf nitrified figures n ++ reachLine nitrified (suc n) (figures (suc n))
+-- the lines of the first n reaches, which are given by reach number
+unfoldable pub firstLines : (ℕ → List ℕ) → ℕ → List ℕ
+firstLines line zero = []
+firstLines line (suc n) = firstLines line n ++ line (suc n)
+
+-- those of a report, whose figures are given by reach number
+abbrev pub linesOf : (nitrified : Bool) → (ℕ → Figures) → ℕ → List ℕ
+linesOf nitrified figures = firstLines (λ i. reachLine nitrified i (figures i))
 
 -- the line of a refusal
 unfoldable pub refusalLine : (number reach : ℕ) → List ℕ

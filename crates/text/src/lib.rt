@@ -9,19 +9,21 @@ use line::numbers_of;
 use means::MEAN_NUMBERS;
 use means::RIVER_LINE;
 use means::put_means;
-use means::stored;
 use put::LONGEST_NUMBER;
 use put::put_line;
 use put::put_number;
 use put::put_word;
+use report::mean;
 use report::mean::MEAN_SIZE;
 use report::record::Line;
 use report::record::RN_SIZE;
 use report::record::RP_SIZE;
 use report::record::read_record;
-use river::bytes::two_at;
+use report::reporting;
 use river::card::LONGEST_FILE;
 use river::card::REACHES;
+use river::refusal::Outcome;
+use river::refusal::Refusal;
 ghost use Prim.Native.Nat.{_+_, _*_, _≤_};
 ghost use lib.ListN.{length};
 ghost use Rattle.io.specs.Counts.{Counts};
@@ -33,9 +35,6 @@ ghost use Rattle.text.specs.Held.{longestLine, recorded, PutWithin};
 
 // One byte past the longest lawful file, so that a longer one is seen to be too long.
 pub const FILE: usize = LONGEST_FILE + 1;
-
-// Where the reach count stands in a file: behind the header's mark.
-const COUNT_AT: usize = 2;
 
 // The longest report: the records of 128 reaches, each of both kinds.
 const REPORT: usize = REACHES * (RP_SIZE + RN_SIZE);
@@ -75,14 +74,14 @@ fn put_lines(out: &mut [u8], report: &[u8], nitrified: bool, count: usize) -> us
 }
 
 // Puts the line of a refusal.
-fn put_refusal(out: &mut [u8], number: u32, reach: u32) -> usize
+fn put_refusal(out: &mut [u8], refusal: Refusal) -> usize
     requires { ⌜ 56 ≤ length (now out) ⌝ }
-    ensures { λ r. ⌜ PutWithin 56 (now (out .entry)) 0 (refusalLine number reach) (now (out .exit)) r ⌝ }
+    ensures { λ r. ⌜ PutWithin 56 (now (out .entry)) 0 (refusalLine (refusal .number) (refusal .reach)) (now (out .exit)) r ⌝ }
 {
     let next = put_word(out, 0, b"refused ");
-    let next = put_number(out, next, number as u64);
+    let next = put_number(out, next, refusal.number as u64);
     let next = put_word(out, next, b" reach ");
-    let next = put_number(out, next, reach as u64);
+    let next = put_number(out, next, refusal.reach as u64);
     put_word(out, next, b"\n")
 }
 
@@ -92,41 +91,11 @@ pub fn render(file: &[u8], out: &mut [u8; TEXT]) -> usize
     ensures { λ r. ⌜ Counts r (now (out .exit)) ⌝ }
 {
     let mut report = [0u8; REPORT];
-    let result = report::xylandreo_report(file, &mut report);
-    if result == 0 {
-        let nitrified = RP_SIZE < report::xylandreo_record_size(file) as usize;
-        put_lines(out, &report, nitrified, two_at(file, COUNT_AT) as usize)
-    } else {
-        put_refusal(
-            out,
-            report::refusal_number(result),
-            report::refusal_reach(result),
-        )
-    }
-}
-
-// Puts the text of the means for a river file, by a call that is lent a buffer for them and two numbers for the mean of the river.
-fn put_answer(
-    file: &[u8],
-    out: &mut [u8; MEANS_TEXT],
-    means: &mut [u8; MEANS],
-    units: &mut i32,
-    remainder: &mut u64,
-) -> usize
-    ensures { λ r. ⌜ RendersMeans (now (file .entry)) (now (out .entry)) (now (out .exit)) r ⌝ }
-    ensures { λ r. ⌜ Counts r (now (out .exit)) ⌝ }
-{
-    let result = report::xylandreo_mean(file, means, units, remainder);
-    if result == 0 {
-        let count = two_at(file, COUNT_AT) as usize;
-        let mean = stored(*units) as u64;
-        put_means(out, means, count, mean, *remainder)
-    } else {
-        put_refusal(
-            out,
-            report::refusal_number(result),
-            report::refusal_reach(result),
-        )
+    let answer = reporting::report(file, &mut report);
+    let outcome = answer.outcome;
+    match outcome {
+        Outcome::Refused(r) => put_refusal(out, r),
+        Outcome::Accepted => put_lines(out, &report, answer.nitrified, answer.count),
     }
 }
 
@@ -136,7 +105,16 @@ pub fn render_means(file: &[u8], out: &mut [u8; MEANS_TEXT]) -> usize
     ensures { λ r. ⌜ Counts r (now (out .exit)) ⌝ }
 {
     let mut means = [0u8; MEANS];
-    let mut units: i32 = 0;
-    let mut remainder: u64 = 0;
-    put_answer(file, out, &mut means, &mut units, &mut remainder)
+    let answer = mean::mean(file, &mut means);
+    let outcome = answer.outcome;
+    match outcome {
+        Outcome::Refused(r) => put_refusal(out, r),
+        Outcome::Accepted => put_means(
+            out,
+            &means,
+            answer.count,
+            answer.units as u64,
+            answer.remainder,
+        ),
+    }
 }

@@ -4,7 +4,6 @@ use crate::put::put_line;
 use crate::put::put_number;
 use crate::put::put_signed;
 use crate::put::put_word;
-use flows::head::STORED_ZERO;
 use report::mean::MEAN_SIZE;
 use report::record::complement;
 use river::bytes::four_at;
@@ -54,13 +53,6 @@ fn put_mean_lines(out: &mut [u8], means: &[u8], count: usize) -> usize
         next = put_mean(out, next, i as u32, mean);
     }
     next
-}
-
-// Signed units as a stored number.
-pub fn stored(units: i32) -> u32
-    ensures { λ r. ⌜ oxygenOf r ≡ units ⌝ }
-{
-    (units as i64 + STORED_ZERO as i64) as u32
 }
 
 // Puts the line of the river, by its stored units and the remainder.

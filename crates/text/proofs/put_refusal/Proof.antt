@@ -17,9 +17,9 @@ returns : tie.Need-returns
 returns c =
     let e = c .before .before in
     let d = e .before .before .before .before .before in
-    let w = d .before .before .before .before in
+    let w = d .before .before .before .before .before in
     let b = w .before .before .before .before .before in
-    let a = b .before .before .before .before in
+    let a = b .before .before .before .before .before in
     reworded (refusal-is _ _)
     (both (both (both (both (a .put-word .ensures) (b .put-number .ensures)) (w .put-word2 .ensures)) (d .put-number2 .ensures)) (e .put-word3 .ensures))
 
@@ -29,9 +29,11 @@ put-refusal-spec =
     (tie.spec
     (λ slice-aggregate-put-word. search needs)
     (λ put-word-requires. search needs)
+    (λ cast-put-number. search needs)
     (λ put-number-requires. search needs)
     (λ slice-aggregate-put-word-2. search needs)
     (λ put-word-requires-2. search needs)
+    (λ cast-put-number-2. search needs)
     (λ put-number-requires-2. search needs)
     (λ slice-aggregate-put-word-3. search needs)
     (λ put-word-requires-3. search needs)

@@ -1,74 +1,50 @@
 -- `text::means::put_mean_lines` meets its contract. The loop's invariant: the lines of the first i reaches are put. The measure is
 -- how many reaches are left. Assumes nothing.
-use mathlib.Core.Path.{_≡_, refl, ap, _∙_}
-use mathlib.Core.List.{List}
-use Prim.Native.Nat.{ℕ, suc, _-_, _*_, _≤_}
+use mathlib.Core.Path.{ap}
+use Prim.Native.Nat.{suc, _-_, _*_, _≤_}
 use native.Mathlib.Numerals.{add-one}
 use native.Mathlib.Omega.{arith}
 use lib.ListN.{length}
-use Rattle.river.proofs.bytes.Puts.{chain}
 use Rattle.report.specs.Mean.{meanBytes}
-use Rattle.text.specs.MeanText.{meanLine, meanLines}
-use Rattle.text.specs.Held.{longestMeanLine, meanHeld, PutWithin}
+use Rattle.text.specs.MeanText.{meanLine}
+use Rattle.text.specs.Held.{longestMeanLine, meanHeld}
+use Rattle.text.proofs.put.Lines.{LinesPut, none-put, room-put, one-put, all-put}
 use Rattle.text.proofs.put.Puts.{reworded}
 use Rattle.text.proofs.means.put_mean_lines.Statement.{statement}
 use Rattle.text.proofs.means.put_mean_lines.Tie as tie
 
-record Written (out₀ means : List ℕ) (count : ℕ) (out : List ℕ) (next i : ℕ) : Type 0 where
-  within : i ≤ count
-  fits : (count ≤ 128) × (meanBytes * count ≤ length means) × (longestMeanLine * count ≤ length out₀)
-  same : length out ≡ length out₀
-  lines : PutWithin (longestMeanLine * i) out₀ 0 (meanLines (meanHeld means) i) out next
-
 abbrev Inv-loop : tie.InvT-loop
-Inv-loop out₀ means count next₀ i₀ out next i = Written out₀ means count out next i
+Inv-loop out₀ means count next₀ i₀ out next i =
+    LinesPut (λ k. meanLine k (meanHeld means k)) longestMeanLine count out₀ out next i × (count ≤ 128) × (meanBytes * count ≤ length means)
 
 abbrev μ-loop : tie.MeasureT-loop
 μ-loop out₀ means count next₀ i₀ out next i = count - i
 
 loop-holds : tie.Need-loop-holds Inv-loop μ-loop
-unfolding meanLines
-loop-holds c =
-    record {
-      within = omega arith;
-      fits = c .before .before .pre;
-      same = refl;
-      lines = record { put = record { buffer = refl; place = refl }; within = omega arith };
-    }
+loop-holds c = let pre = c .before .before .pre in (none-put _ longestMeanLine _ (pre .2), pre .0, pre .1)
 
 read-mean-requires : tie.Need-read-mean-requires Inv-loop μ-loop
-read-mean-requires c κs = let l = c .before .loop in omega (arith, l .inv .fits, l .inv .within)
+read-mean-requires c κs = let l = c .before .loop in omega (arith, l .inv .2, l .inv .0 .within)
 
 put-mean-requires : tie.Need-put-mean-requires Inv-loop μ-loop
-put-mean-requires c κs =
-    let l = c .before .before .before .loop in
-    omega (arith, l .inv .lines .within, l .inv .same, l .inv .fits .2)
+put-mean-requires c κs = room-put (c .before .before .before .loop .inv .0) (omega arith)
 
 loop-again : tie.Need-loop-again Inv-loop μ-loop
-unfolding meanLines
 loop-again c =
     let p = c .before .before in
     let r = p .before .before in
-    let l = r .before .before .loop in
-    record {
-      within = omega arith;
-      fits = l .inv .fits;
-      same = p .put-mean .kept .0 ∙ l .inv .same;
-      lines =
-          record {
-            put = rw add-one (chain (l .inv .lines .put) (reworded (ap (meanLine (suc (l .i))) (r .read-mean .ensures)) (rw add-one at (p .put-mean .ensures)) .put));
-            within = omega (arith, p .put-mean .ensures .within, l .inv .lines .within);
-          };
-    }
+    let l = r .before .before .loop in (
+      one-put (l .inv .0) (omega arith) (p .put-mean .kept .0)
+          (reworded (ap (meanLine (suc (l .i))) (r .read-mean .ensures)) (rw add-one at (p .put-mean .ensures))),
+      l .inv .1,
+      l .inv .2,
+    )
 
 same-length : tie.Need-same-length Inv-loop μ-loop
-same-length c = c .before .loop .inv .same
+same-length c = c .before .loop .inv .0 .same
 
 returns : tie.Need-returns Inv-loop μ-loop
-returns c =
-    let l = c .before .loop in
-    let all : l .i ≡ c .before .before .before .before .args .count = omega arith in
-    rw all at (l .inv .lines)
+returns c = all-put (c .before .loop .inv .0) (omega arith)
 
 pub put-mean-lines-spec : {M : Type 1} → statement M
 put-mean-lines-spec =

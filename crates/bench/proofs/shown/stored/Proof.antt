@@ -1,4 +1,4 @@
--- `text::means::stored` meets its contract: the sum fits, and stands for the units. Assumes nothing.
+-- `bench::shown::stored` meets its contract: the sum fits, and stands for the units. Assumes nothing.
 use mathlib.Core.Path.{sym, ap, subst, _∙_}
 use borrow.Author.Needs.{needs}
 use lib.Dec.{T}
@@ -8,9 +8,9 @@ use mir.Syntax.{w32, w64}
 use mir.Val.{Fits, SFits}
 use mir.Facts.{sfits-widen, sfits-toZ, fits-ofZ}
 use Rattle.flows.specs.held.Stored.{oxygenOf}
-use Rattle.text.proofs.means.Units.{stands-for, sum-fits, stored-fits, sum-held, sum-read}
-use Rattle.text.proofs.means.stored.Statement.{statement}
-use Rattle.text.proofs.means.stored.Tie as tie
+use Rattle.bench.proofs.Units.{stands-for, sum-fits, stored-fits, sum-held, sum-read}
+use Rattle.bench.proofs.shown.stored.Statement.{statement}
+use Rattle.bench.proofs.shown.stored.Tie as tie
 
 cast-result : tie.Need-cast-result
 cast-result c = sfits-widen tt (sfits-toZ (fits-ofZ (c .fits .units)))
