@@ -31,7 +31,7 @@ use Rattle.flows.specs.Head.{upstreamDemand, upstreamOxygen, belowDam, headDema
 use Rattle.flows.proofs.head.Bounds.{saturation-of-small}
 use Rattle.report.specs.held.Bed.{bedOf}
 use Rattle.report.specs.Program.{demandSum, oxygenSum, demandAtHead, oxygenAtHead, demandAt, oxygenAt, foot}
-use Rattle.report.specs.held.Along.{demandAlong, turnedAlong, lossAlong, oxygenAlong, oxygenWith, unitParts, factorsAlong, partsAlong}
+use Rattle.report.specs.held.Digits.{demandAlong, turnedAlong, lossAlong, oxygenAlong, oxygenWith, unitParts, factorsAlong, partsAlong}
 use Rattle.report.specs.Recurrence.{exactSaturation, exactMean, exactBelowDam, exactHeadDemand, exactHeadOxygen, exactDemandSum, exactOxygenSum, exactDemandAtHead, exactOxygenAtHead, exactDemandAlong, exactTurnedAlong, exactOxygenAlong, exactDemandAt, exactOxygenAt}
 use Rattle.report.specs.held.Water.{meanAllowance, allowanceSum, broughtAllowance, waterAllowance}
 use Rattle.report.specs.held.Loss.{lossDistance}

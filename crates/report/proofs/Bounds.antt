@@ -28,7 +28,7 @@ use Rattle.flows.proofs.flow.Take.{flow-remains, mass-within, mass-scaled}
 use Rattle.flows.proofs.head.Bounds.{saturation-of-small, upstream-kept}
 use Rattle.report.specs.held.Bed.{bedOf, lossWith, lossLimit}
 use Rattle.report.specs.Program.{demandSum, oxygenSum, demandAtHead, oxygenAtHead, demandAt, oxygenAt, foot}
-use Rattle.report.specs.held.Along.{oxygenWith, turnedAlong, lossAlong, oxygenAlong, factorsAlong}
+use Rattle.report.specs.held.Digits.{oxygenWith, turnedAlong, lossAlong, oxygenAlong, factorsAlong}
 use Rattle.report.specs.Mean.{meanOxygen}
 use Rattle.report.specs.held.MeanAlong.{middle, factorsMean, turnedMean, meanAlong}
 use Rattle.report.proofs.Facts.Floor.{Rounded}

@@ -9,7 +9,7 @@ use Rattle.river.specs.declared.refusal.Outcome.{Outcome}
 use Rattle.river.specs.declared.refusal.Refusal.{Refusal}
 use Rattle.river.specs.Refusal.{Answer, accepted, refused, outcomeOf, after as then}
 use Rattle.river.proofs.Answers.{never, after-accepted, after-refused}
-use Rattle.report.specs.Answers.{resultBy, Answers}
+use Rattle.report.specs.held.Answers.{resultBy, Answers}
 use Rattle.report.specs.Call.{resultOf, leftBy, Called}
 use Rattle.report.proofs.Calls.Numbers.{Numbered, read-refusal}
 

@@ -30,7 +30,7 @@ use Rattle.report.specs.Status.{shownOxygen}
 use Rattle.report.specs.Program.{oxygenAt, criticalOxygen, usedAbove, statusOf, figuresOf, figuresAt, reportedAt, foot}
 use Rattle.report.specs.Distance.{allowanceAt, WithinAllowance}
 use Rattle.report.specs.Record.{hasNitrification, complement, fromComplement, recordSize, recordAt, readRecord, Figures}
-use Rattle.report.specs.Answers.{resultBy, ReportTold, AnswersReport}
+use Rattle.report.specs.held.Answers.{resultBy, ReportTold, AnswersReport}
 use Rattle.report.specs.Call.{resultOf, leftBy}
 use Rattle.report.specs.Report.{recordOf, reportSize, roomAnswer, reportAnswer, bufferReported, figuresRead, Accepted, UsedUpAbove, TellsReach, Reports}
 use Rattle.report.specs.Ties.{Tied}

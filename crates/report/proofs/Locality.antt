@@ -24,7 +24,7 @@ use Rattle.report.specs.Record.{Figures}
 use Rattle.report.specs.held.Bed.{bedOf}
 use Rattle.report.specs.Status.{isUsed, usedBy}
 use Rattle.report.specs.Program.{demandSum, oxygenSum, demandAtHead, oxygenAtHead, oxygenAt, criticalOxygen, usedAbove, figuresBelow, figuresOf}
-use Rattle.report.specs.held.Along.{factorsAlong, partsAlong, demandAlong, turnedAlong, lossAlong, oxygenAlong}
+use Rattle.report.specs.held.Digits.{factorsAlong, partsAlong, demandAlong, turnedAlong, lossAlong, oxygenAlong}
 use Rattle.report.specs.Locality.{withOutlet, SameButOutlet, SameForest, bare, alike, exchanged, chained, SameReach, LiesAbove, feeds, through, SameCard, Agree}
 use Rattle.report.proofs.status.Rows
 

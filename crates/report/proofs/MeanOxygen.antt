@@ -25,7 +25,7 @@ use Rattle.river.specs.Source.{rateOf}
 use Rattle.flows.specs.Flow.{Feeders, reachFlow, reachDepth, cardOf, above}
 use Rattle.report.specs.held.Bed.{bedOf, lossWith}
 use Rattle.report.specs.Program.{demandAtHead, oxygenAtHead, criticalOxygen, usedAbove, statusOf}
-use Rattle.report.specs.held.Along.{unitParts}
+use Rattle.report.specs.held.Digits.{unitParts}
 use Rattle.report.specs.Recurrence.{exactTurnedAlong, exactLoss, exactOxygenAlong, exactOxygenAtHead, exactOxygenAt}
 use Rattle.report.specs.Ties.{NoChange}
 use Rattle.report.specs.Distance.{stepUnits, allowanceAt}

@@ -21,7 +21,7 @@ use Rattle.flows.specs.Saturation.{saturation, saturationThousandths, saturatio
 use Rattle.flows.specs.Head.{floor, upstreamDemand, upstreamOxygen, belowDam, headDemand, headOxygen}
 use Rattle.report.specs.held.Bed.{bedBy, bedOf, lossWith}
 use Rattle.report.specs.Program.{demandSum, oxygenSum, demandAtHead, oxygenAtHead, oxygenAt}
-use Rattle.report.specs.held.Along.{oxygenWith, unitParts, factorsAlong, partsAlong, lossAlong, turnedAlong, oxygenAlong}
+use Rattle.report.specs.held.Digits.{oxygenWith, unitParts, factorsAlong, partsAlong, lossAlong, turnedAlong, oxygenAlong}
 use Rattle.report.specs.Status.{usedBy}
 use Rattle.report.specs.Record.{nitrifies, isNitrified, hasNitrification}
 use Rattle.report.specs.Recurrence.{exactSaturation, exactMean, exactBelowDam, exactMixedDemand, exactMixedOxygen, exactHeadDemand, exactHeadOxygen, exactDemandSum, exactOxygenSum, exactDemandAtHead, exactOxygenAtHead}

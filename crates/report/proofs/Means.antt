@@ -24,13 +24,13 @@ use Rattle.flows.specs.held.Accepts.{Accepts}
 use Rattle.flows.proofs.Acceptance.{accepts-exactly}
 use Rattle.river.proofs.Answers.{passed, went, need-true, need-false, after-accepted, after-refused}
 use Rattle.report.specs.Record.{complement, fromComplement}
-use Rattle.report.specs.Answers.{resultBy, MeansTold, AnswersMeans}
+use Rattle.report.specs.held.Answers.{resultBy, MeansTold, AnswersMeans}
 use Rattle.report.specs.Call.{resultOf, leftBy}
 use Rattle.report.specs.Report.{firstRows}
 use Rattle.report.specs.Distance.{allowanceAt}
 use Rattle.report.specs.ExactMean.{exactMeanOxygen}
 use Rattle.report.specs.Mean.{meanAt, countedVolumeAt, countedVolume, weightedSum, riverMean, meanBytes, meanRow, meansOf, meansSize, meanRoomAnswer, meanAnswer, bufferAveraged, Weighted, Averaged, meanRead, MeansLent, lent, meansWritten, TellsMean, TellsRiverMean, Means}
-use Rattle.report.specs.Weights.{volumeLimit, Divisible, quotientOf}
+use Rattle.report.specs.held.Weights.{volumeLimit, Divisible, quotientOf}
 use Rattle.report.specs.held.MeanLines.{Weighs, MeansTabled, AllAveraged, storedRow}
 use Rattle.report.specs.declared.mean.RiverMean.{RiverMean}
 use Rattle.report.specs.declared.mean.MeanTable.{MeanTable}

@@ -21,7 +21,7 @@ use Rattle.flows.specs.Saturation.{saturation, saturationThousandths, saturatio
 use Rattle.flows.specs.Head.{floor, upstreamDemand, upstreamOxygen, aerated, belowDam, headDemand, headOxygen}
 use Rattle.report.specs.held.Bed.{bedBy, bedOf, lossWith}
 use Rattle.report.specs.Program.{demandSum, oxygenSum, demandAtHead, oxygenAtHead, demandAt, oxygenAt}
-use Rattle.report.specs.held.Along.{oxygenWith, factorsAlong, partsAlong, lossAlong, demandAlong, turnedAlong, oxygenAlong}
+use Rattle.report.specs.held.Digits.{oxygenWith, factorsAlong, partsAlong, lossAlong, demandAlong, turnedAlong, oxygenAlong}
 use Rattle.report.specs.Recurrence.{exactSaturation, exactMean, exactBelowDam, exactMixedDemand, exactMixedOxygen, exactHeadDemand, exactHeadOxygen, exactDemandAlong, exactTurnedAlong, exactLoss, exactOxygenAlong, exactDemandSum, exactOxygenSum, exactDemandAtHead, exactOxygenAtHead, exactDemandAt, exactOxygenAt}
 
 -- a reach, by its nitrification; its oxygen is 14 mg/L

@@ -20,7 +20,7 @@ use Rattle.flows.specs.Flow.{Feeders, joinedIf, feedersAmong, fed, flowOf}
 use Rattle.flows.specs.Head.{upstreamDemand, headDemand}
 use Rattle.river.proofs.Answers.{clash}
 use Rattle.report.specs.Program.{demandSum, demandAtHead, figuresOf, figuresAt}
-use Rattle.report.specs.held.Along.{partsAlong, demandAlong}
+use Rattle.report.specs.held.Digits.{partsAlong, demandAlong}
 use Rattle.report.specs.Record.{nitrifies, isNitrified, hasNitrification}
 use Rattle.report.proofs.record.Nitrified.{at-no-reach}
 

@@ -10,7 +10,7 @@ use Rattle.river.specs.Read.{readFile}
 use Rattle.river.specs.Refusal.{Answer, accepted, refused}
 use Rattle.river.specs.Rewrite.{rewriteAnswer, bufferRewritten, Rewritable, WritesBack}
 use Rattle.river.proofs.Answers.{never, no-refusal}
-use Rattle.report.specs.Answers.{resultBy}
+use Rattle.report.specs.held.Answers.{resultBy}
 use Rattle.report.specs.Call.{resultOf, leftBy}
 use Rattle.report.specs.Rewrite.{fileWritten, Rewrites}
 use Rattle.report.proofs.Calls.{IsAccepted, called, outcome-result}

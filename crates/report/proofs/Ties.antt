@@ -25,7 +25,7 @@ use Rattle.report.specs.held.Bed.{bedOf, lossLimit, LossInRange}
 use Rattle.report.specs.Mean.{meanOxygen}
 use Rattle.report.specs.held.MeanAlong.{middle, factorsMean, turnedMean, meanAlong}
 use Rattle.report.specs.Program.{demandAt, oxygenAt, demandAtHead, oxygenAtHead, Critical, criticalOxygen, usedAbove, figuresOf, foot}
-use Rattle.report.specs.held.Along.{unitParts, oxygenWith, factorsAlong, partsAlong, demandAlong, turnedAlong, lossAlong, oxygenAlong}
+use Rattle.report.specs.held.Digits.{unitParts, oxygenWith, factorsAlong, partsAlong, demandAlong, turnedAlong, lossAlong, oxygenAlong}
 use Rattle.report.specs.Status.{statusBy}
 use Rattle.report.proofs.NitrificationRows
 use Rattle.report.proofs.Lowest.{lowest-constant}

@@ -10,7 +10,4 @@ pub mod Call
 pub mod Report
 pub mod Rewrite
 pub mod Mean
-pub mod Answers
-pub mod Along
-pub mod Weights
 pub mod held

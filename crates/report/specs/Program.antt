@@ -15,7 +15,7 @@ use Rattle.river.specs.Source.{sourceOf}
 use Rattle.flows.specs.Head.{headDemand, headOxygen}
 use Rattle.report.specs.Record.{Figures}
 use Rattle.report.specs.Status.{statusBy, usedBy, reported}
-use Rattle.report.specs.held.Along.{demandAlong, oxygenAlong}
+use Rattle.report.specs.held.Digits.{demandAlong, oxygenAlong}
 
 -- the sum over the feeders of Q × foot value of a demand
 unfoldable pub demandSum : Demand → Feeders → ℕ

@@ -28,7 +28,7 @@ ghost use Rattle.flows.specs.held.Stored.{oxygenOf};
 ghost use Rattle.report.specs.held.Lines.{LineReady, HeadFits};
 ghost use Rattle.report.specs.Program.{figuresBelow};
 ghost use Rattle.report.specs.Status.{isUsed};
-ghost use Rattle.report.specs.Along.{demandsAlong, AlongReady, AlongWith, AlongBelow, AlongHead, TellsNeverBelow};
+ghost use Rattle.report.specs.held.Along.{demandsAlong, AlongReady, AlongWith, AlongBelow, AlongHead, TellsNeverBelow};
 
 // The instant half way down a reach.
 const MIDDLE: u64 = FOOT / 2;

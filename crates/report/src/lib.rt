@@ -16,7 +16,7 @@ use river::refusal::Outcome;
 use river::rewrite;
 ghost use mathlib.Core.Path.{_≡_};
 ghost use Prim.Native.Nat.{_/_, _%_};
-ghost use Rattle.report.specs.Answers.{resultBy};
+ghost use Rattle.report.specs.held.Answers.{resultBy};
 ghost use Rattle.report.specs.Report.{Reports, TellsSize};
 ghost use Rattle.report.specs.Rewrite.{Rewrites};
 ghost use Rattle.report.specs.Mean.{Means};

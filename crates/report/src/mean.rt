@@ -25,7 +25,7 @@ ghost use Rattle.river.specs.Card.{cardList};
 ghost use Rattle.report.specs.held.Lines.{Ready, LineAt};
 ghost use Rattle.report.specs.Report.{firstRows};
 ghost use Rattle.report.specs.Mean.{meanBytes};
-ghost use Rattle.report.specs.Answers.{AnswersMeans};
+ghost use Rattle.report.specs.held.Answers.{AnswersMeans};
 ghost use Rattle.report.specs.held.MeanLines.{AveragedBy, AllAveraged, storedRow};
 
 // How many bytes a mean has.

@@ -14,7 +14,7 @@ ghost use lib.IntN.{pos, _-ℤ_};
 ghost use Rattle.decay.specs.held.Factors.{SoundStep, AreShares, demandFrom};
 ghost use Rattle.report.specs.held.Bed.{noBed, lossLimit, LossInRange, BedInRange};
 ghost use Rattle.report.specs.Program.{foot};
-ghost use Rattle.report.specs.held.Along.{unitParts, oxygenWith};
+ghost use Rattle.report.specs.held.Digits.{unitParts, oxygenWith};
 ghost use Rattle.report.specs.held.Profile.{StartInRange, Begun, noStep, startParts, wholeDemand, oxygenOver, WalkedTo, BothWalkedTo, seenAt, Profiled};
 ghost use Rattle.flows.specs.held.Stored.{oxygenOf, Stores};
 

@@ -7,7 +7,7 @@ use river::refusal;
 use river::refusal::Outcome;
 use river::refusal::Refusal;
 ghost use mathlib.Core.Path.{_≡_};
-ghost use Rattle.report.specs.Answers.{AnswersReport};
+ghost use Rattle.report.specs.held.Answers.{AnswersReport};
 
 // The answer of reporting: its outcome, and beside it how many reaches an accepted river has and whether it has nitrification.
 pub struct Reported {

@@ -1,6 +1,6 @@
 // Stored means weighed by volume, in sums of two parts, since a sum of volume times mean may need more than eight bytes, and their quotient.
 ghost use mathlib.Core.Path.{_≡_};
-ghost use Rattle.report.specs.Weights.{weighedWith, RoomToWeigh, Divisible, quotientOf};
+ghost use Rattle.report.specs.held.Weights.{weighedWith, RoomToWeigh, Divisible, quotientOf};
 
 // Sums of volume times the upper, and times the lower, 16 bits of stored means, and of volume.
 pub struct Weights {

@@ -11,7 +11,7 @@ use Rattle.report.specs.declared.mean.RiverMean.{RiverMean}
 use Rattle.report.specs.Mean.{meanAt, meanAnswer}
 use Rattle.text.specs.Text.{refusalLine}
 use Rattle.text.specs.MeanText.{meanLine, meanLines, riverLine, meansRoom, meanTextOf, meanText}
-use Rattle.text.specs.Held.{meanHeld}
+use Rattle.text.specs.held.Words.{meanHeld}
 use Rattle.text.proofs.put.Lines.{same-lines}
 
 module _ (file : List ℕ) where

@@ -7,7 +7,7 @@ use lib.ListN.{take}
 use Rattle.flows.specs.held.Stored.{oxygenOf}
 use Rattle.report.specs.Record.{Figures}
 use Rattle.text.specs.Text.{numbersOf}
-use Rattle.text.specs.Held.{numberCount}
+use Rattle.text.specs.held.Words.{numberCount}
 
 map-take : {A B : Type 0} (f : A → B) (n : ℕ) (s : List A) → map f (take n s) ≡ take n (map f s)
 map-take f zero s = refl

@@ -23,7 +23,7 @@ use Rattle.report.specs.declared.reporting.Reported.{Reported}
 use Rattle.report.proofs.Entry.{answers, ReportGiven}
 use Rattle.report.proofs.record.Encoding.{record-bounds}
 use Rattle.text.specs.Text.{reachLine, linesOf, refusalLine, textOf, Rendered}
-use Rattle.text.specs.Held.{recorded, PutWithin}
+use Rattle.text.specs.held.Words.{recorded, PutWithin}
 use Rattle.text.proofs.put.Lines.{same-lines}
 
 module _ {file : List ℕ} (bytes : AreBytes file) where

@@ -1,3 +1,3 @@
 pub mod Text
 pub mod MeanText
-pub mod Held
+pub mod held

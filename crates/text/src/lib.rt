@@ -31,7 +31,7 @@ ghost use Rattle.report.specs.Record.{recordBytes};
 ghost use Rattle.report.specs.held.LineFigures.{figuresIn};
 ghost use Rattle.text.specs.Text.{reachLine, linesOf, refusalLine, Renders};
 ghost use Rattle.text.specs.MeanText.{RendersMeans};
-ghost use Rattle.text.specs.Held.{longestLine, recorded, PutWithin};
+ghost use Rattle.text.specs.held.Words.{longestLine, recorded, PutWithin};
 
 // One byte past the longest lawful file, so that a longer one is seen to be too long.
 pub const FILE: usize = LONGEST_FILE + 1;

@@ -7,7 +7,7 @@ ghost use lib.IntN.{pos};
 ghost use Rattle.flows.specs.held.Stored.{oxygenOf};
 ghost use Rattle.report.specs.held.LineFigures.{figuresIn};
 ghost use Rattle.text.specs.Text.{numbersOf};
-ghost use Rattle.text.specs.Held.{numberCount};
+ghost use Rattle.text.specs.held.Words.{numberCount};
 use flows::head::STORED_ZERO_WIDE;
 use report::record::Line;
 

@@ -14,7 +14,7 @@ ghost use lib.ListN.{length};
 ghost use Rattle.flows.specs.held.Stored.{oxygenOf};
 ghost use Rattle.report.specs.Mean.{meanBytes, meanRead};
 ghost use Rattle.text.specs.MeanText.{meanLine, meanLines, riverLine};
-ghost use Rattle.text.specs.Held.{longestMeanLine, longestRiverLine, meanHeld, PutWithin};
+ghost use Rattle.text.specs.held.Words.{longestMeanLine, longestRiverLine, meanHeld, PutWithin};
 
 // The numbers in the line of a reach.
 pub const MEAN_NUMBERS: usize = 2;

@@ -5,7 +5,7 @@ ghost use Prim.Native.Nat.{suc, _+_, _*_, _≤_, _<_};
 ghost use lib.ListN.{length, drop};
 ghost use Rattle.flows.specs.held.Stored.{oxygenOf};
 ghost use Rattle.text.specs.Text.{number, signed, afterWord, line};
-ghost use Rattle.text.specs.Held.{wordAt, wordsOf, PutWithin};
+ghost use Rattle.text.specs.held.Words.{wordAt, wordsOf, PutWithin};
 
 // The bytes of a number in a line at most: 20 digits, a sign and what stands after the number.
 pub const LONGEST_NUMBER: usize = 22;

@@ -21,7 +21,7 @@ use Rattle.flows.specs.Flow.{Feeders, sludgeOf, reachFlow}
 use Rattle.river.specs.declared.source.Demand.the-variants.{Bod}
 use Rattle.flows.proofs.flow.Take.{flow-remains}
 use Rattle.report.specs.held.Bed.{bedBy, bedOf, lossWith}
-use Rattle.report.specs.held.Along.{factorsAlong, lossAlong}
+use Rattle.report.specs.held.Digits.{factorsAlong, lossAlong}
 use Rattle.report.specs.Recurrence.{exactLoss}
 use Rattle.report.specs.held.Loss.{lossDistance}
 use Rattle.report.specs.declared.bed.Bed.{Bed}

@@ -25,10 +25,10 @@ use Rattle.flows.specs.Saturation.{saturationOf}
 use Rattle.flows.specs.declared.head.Head.{Head}
 use Rattle.flows.specs.held.Stored.{oxygenOf}
 use Rattle.report.specs.held.Bed.{bedOf, LossInRange, lossWith}
-use Rattle.report.specs.held.Along.{unitParts, factorsAlong, partsAlong, demandAlong, turnedAlong, lossAlong, oxygenAlong}
+use Rattle.report.specs.held.Digits.{unitParts, factorsAlong, partsAlong, demandAlong, turnedAlong, lossAlong, oxygenAlong}
 use Rattle.report.specs.held.Profile.{oxygenOver}
 use Rattle.report.specs.held.MeanAlong.{middle, factorsMean, turnedMean, meanAlong}
-use Rattle.report.specs.Along.{demandsAlong, AlongReady, AlongWith, AlongBelow}
+use Rattle.report.specs.held.Along.{demandsAlong, AlongReady, AlongWith, AlongBelow}
 use Rattle.report.specs.held.Lines.{LineReady, HeadFits}
 use Rattle.report.specs.declared.bed.Bed.{Bed}
 use Rattle.report.specs.declared.profile.Start.{Start}

@@ -30,10 +30,10 @@ use Rattle.flows.specs.held.Stored.{storedZero, oxygenOf, Stores}
 use Rattle.flows.proofs.head.Offset.{sub-pos, minus}
 use Rattle.report.specs.held.Bed.{bedOf, lossWith, lossLimit}
 use Rattle.report.specs.Program.{lowest}
-use Rattle.report.specs.held.Along.{unitParts, oxygenWith, factorsAlong, partsAlong, demandAlong, turnedAlong, lossAlong, oxygenAlong}
+use Rattle.report.specs.held.Digits.{unitParts, oxygenWith, factorsAlong, partsAlong, demandAlong, turnedAlong, lossAlong, oxygenAlong}
 use Rattle.report.specs.held.Profile.{StartInRange}
 use Rattle.report.specs.held.Lines.{LineReady, HeadFits}
-use Rattle.report.specs.Along.{AlongBelow}
+use Rattle.report.specs.held.Along.{AlongBelow}
 use Rattle.report.specs.declared.profile.Start.{Start}
 use Rattle.report.specs.declared.along.ReachAlong.{ReachAlong}
 use Rattle.report.proofs.Lowest.{lowest-first}

@@ -20,7 +20,7 @@ use Rattle.flows.specs.Saturation.{saturation, saturationThousandths, saturatio
 use Rattle.flows.specs.Head.{floor, upstreamDemand, upstreamOxygen, belowDam, headDemand, headOxygen}
 use Rattle.report.specs.held.Bed.{bedBy, bedOf, lossWith}
 use Rattle.report.specs.Program.{demandSum, oxygenSum, demandAtHead, oxygenAtHead, oxygenAt}
-use Rattle.report.specs.held.Along.{oxygenWith, factorsAlong, partsAlong, lossAlong, turnedAlong, oxygenAlong}
+use Rattle.report.specs.held.Digits.{oxygenWith, factorsAlong, partsAlong, lossAlong, turnedAlong, oxygenAlong}
 use Rattle.report.specs.Recurrence.{exactSaturation, exactMean, exactBelowDam, exactMixedDemand, exactMixedOxygen, exactHeadDemand, exactHeadOxygen, exactLoss, exactTurnedAlong, exactOxygenAlong, exactDemandSum, exactOxygenSum, exactDemandAtHead, exactOxygenAtHead, exactOxygenAt}
 
 -- the reach, by its rate k2; no BOD comes into it, and its oxygen is 14 mg/L

@@ -18,7 +18,7 @@ use Rattle.flows.specs.Saturation.{saturationOf, SaturationInRange}
 use Rattle.flows.proofs.head.Bounds.{saturation-of-small}
 use Rattle.report.specs.held.Bed.{bedOf, BedPasses, lossLimit, BedInRange}
 use Rattle.report.specs.Program.{foot, figuresBelow}
-use Rattle.report.specs.held.Along.{unitParts, factorsAlong, partsAlong, demandAlong, turnedAlong, lossAlong, oxygenAlong}
+use Rattle.report.specs.held.Digits.{unitParts, factorsAlong, partsAlong, demandAlong, turnedAlong, lossAlong, oxygenAlong}
 use Rattle.report.specs.held.Profile.{StartInRange, startParts, Profiled, oxygenAfter}
 use Rattle.report.specs.held.LineFigures.{figuresIn}
 use Rattle.report.specs.Status.{statusBy}

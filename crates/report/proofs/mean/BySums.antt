@@ -21,7 +21,7 @@ use Rattle.flows.specs.Flow.{Feeders, reachFlow}
 use Rattle.flows.specs.Saturation.{saturationOf}
 use Rattle.report.specs.held.Bed.{bedOf, lossWith}
 use Rattle.report.specs.Program.{demandAtHead, oxygenAtHead}
-use Rattle.report.specs.held.Along.{oxygenWith, unitParts}
+use Rattle.report.specs.held.Digits.{oxygenWith, unitParts}
 use Rattle.report.specs.Mean.{meanOxygen}
 use Rattle.report.specs.held.MeanAlong.{middle, factorsMean, turnedMean, meanAlong}
 

@@ -18,7 +18,7 @@ use Rattle.report.specs.Program.{demandAtHead, oxygenAtHead, figuresBelo
 use Rattle.report.specs.Record.{Figures}
 use Rattle.report.specs.Status.{isUsed}
 use Rattle.report.specs.Mean.{meanOxygen}
-use Rattle.report.specs.Along.{AlongBelow}
+use Rattle.report.specs.held.Along.{AlongBelow}
 use Rattle.report.specs.held.MeanLines.{ReachAveraged}
 use Rattle.report.specs.held.Lines.{footBy, LineAt, HeadOfReach}
 use Rattle.report.specs.declared.along.ReachAlong.{ReachAlong}

@@ -27,7 +27,7 @@ use Rattle.river.proofs.Bench.{reach, two}
 use Rattle.flows.proofs.Bench.{bench as flow-bench}
 use Rattle.report.specs.held.Bed.{bedBy, bedOf, lossWith}
 use Rattle.report.specs.Program.{demandSum, oxygenSum, demandAtHead, oxygenAtHead, oxygenAt, foot, criticalOxygen, usedAbove, statusOf}
-use Rattle.report.specs.held.Along.{oxygenWith, factorsAlong, partsAlong, lossAlong, demandAlong, turnedAlong, oxygenAlong}
+use Rattle.report.specs.held.Digits.{oxygenWith, factorsAlong, partsAlong, lossAlong, demandAlong, turnedAlong, oxygenAlong}
 use Rattle.report.specs.Status.{statusBy, isUsed, usedBy}
 use Rattle.report.specs.Mean.{meanAt, countedVolume, weightedSum, restOf, dividedBy, weightedMean, riverMean, meanRoomAnswer, volumeSum}
 use Rattle.report.proofs.Lowest.{lowest-first}

@@ -13,7 +13,7 @@ use Rattle.flows.proofs.flow.Table.{entered}
 use Rattle.flows.proofs.head.Offset.{sub-add, times-sub}
 use Rattle.report.proofs.mean.Rows
 use Rattle.report.specs.Mean.{meanAt, countedVolumeAt, weightedSum, volumeSum}
-use Rattle.report.specs.Weights.{volumeLimit, weighedWith, wholeSum}
+use Rattle.report.specs.held.Weights.{volumeLimit, weighedWith, wholeSum}
 use Rattle.report.specs.held.MeanLines.{Weighs, MeansTabled}
 use Rattle.report.specs.declared.weights.Weights.{Weights}
 use Rattle.report.proofs.weights.Weighing.{upper-part, lower-part, one-weighed}

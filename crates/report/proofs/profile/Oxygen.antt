@@ -13,7 +13,7 @@ use Rattle.decay.specs.declared.factors.DemandFactors.{DemandFactors}
 use Rattle.decay.specs.declared.factors.Factors.{Factors}
 use Rattle.decay.proofs.fixed.Digits.{share-below}
 use Rattle.report.specs.held.Bed.{lossLimit}
-use Rattle.report.specs.held.Along.{unitParts, oxygenWith}
+use Rattle.report.specs.held.Digits.{unitParts, oxygenWith}
 use Rattle.report.specs.held.Profile.{StartInRange}
 use Rattle.report.specs.declared.profile.Start.{Start}
 use Rattle.report.proofs.bed.Loss.{less-nothing}

@@ -17,7 +17,7 @@ use Rattle.decay.specs.declared.factors.DemandFactors.{DemandFactors}
 use Rattle.decay.specs.declared.factors.Factors.{Factors}
 use Rattle.decay.proofs.factors.Instants.{range, demand-range, demand-kept}
 use Rattle.report.specs.Program.{Critical, lower, lowest, foot}
-use Rattle.report.specs.held.Along.{unitParts}
+use Rattle.report.specs.held.Digits.{unitParts}
 use Rattle.report.specs.held.Bed.{LossInRange, BedInRange}
 use Rattle.report.specs.held.Profile.{StartInRange, Begun, noStep, startParts, wholeDemand, oxygenOver, oxygenAfter, WalkedTo, BothWalkedTo, seenAt, Profiled}
 use Rattle.report.specs.declared.bed.Bed.{Bed}

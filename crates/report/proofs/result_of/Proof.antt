@@ -1,7 +1,7 @@
 -- `report::result_of` meets its contract, by the outcome. Assumes nothing.
 use mathlib.Core.Path.{sym, ap, _∙_}
 use borrow.Author.Needs.{needs}
-use Rattle.report.specs.Answers.{resultBy}
+use Rattle.report.specs.held.Answers.{resultBy}
 use Rattle.report.proofs.result_of.Statement.{statement}
 use Rattle.report.proofs.result_of.Tie as tie
 

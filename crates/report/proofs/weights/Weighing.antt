@@ -14,7 +14,7 @@ use Rattle.flows.specs.held.Stored.{storedZero, storedLimit, oxygenOf, oxygenSu
 use Rattle.flows.proofs.flow.Table.{entered}
 use Rattle.flows.proofs.head.Offset.{sub-pos, sub-neg, minus, sub-add, times-sub, floor-offset}
 use Rattle.report.specs.Mean.{restOf, dividedBy}
-use Rattle.report.specs.Weights.{chunk, volumeLimit, weighedWith, wholeSum}
+use Rattle.report.specs.held.Weights.{chunk, volumeLimit, weighedWith, wholeSum}
 use Rattle.report.specs.declared.weights.Weights.{Weights}
 
 -- ---- long division by chunks of 16 bits

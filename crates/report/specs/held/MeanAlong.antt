@@ -8,7 +8,7 @@ use Rattle.river.specs.declared.source.Demand.the-variants.{Nitrogenous}
 use Rattle.river.specs.Source.{rateOf}
 use Rattle.flows.specs.Saturation.{saturationOf}
 use Rattle.report.specs.held.Bed.{bedOf, lossWith}
-use Rattle.report.specs.held.Along.{oxygenWith, unitParts}
+use Rattle.report.specs.held.Digits.{oxygenWith, unitParts}
 
 -- the instant half way down a reach, where a loss that grows in equal steps has its mean
 abbrev pub middle : ℕ

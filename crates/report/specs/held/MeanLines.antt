@@ -11,7 +11,7 @@ use Rattle.flows.specs.held.Stored.{storedLimit, oxygenOf, oxygenSumOf}
 use Rattle.report.specs.Record.{complement}
 use Rattle.report.specs.held.Lines.{LineAt, FootOf}
 use Rattle.report.specs.Mean.{meanAt, countedVolumeAt, volumeSum, weightedSum}
-use Rattle.report.specs.Weights.{wholeSum, volumeLimit, sumLimit}
+use Rattle.report.specs.held.Weights.{wholeSum, volumeLimit, sumLimit}
 use Rattle.report.specs.declared.mean.Averaged.{Averaged}
 use Rattle.report.specs.declared.mean.MeanTable.{MeanTable}
 use Rattle.report.specs.declared.weights.Weights.{Weights}

@@ -13,7 +13,7 @@ use Rattle.flows.specs.held.Stored.{oxygenOf, Stores}
 use Rattle.flows.specs.held.HeadTable.{demandLimit}
 use Rattle.report.specs.held.Bed.{lossWith, lossLimit}
 use Rattle.report.specs.Program.{foot, lowest}
-use Rattle.report.specs.held.Along.{unitParts, oxygenWith}
+use Rattle.report.specs.held.Digits.{unitParts, oxygenWith}
 use Rattle.report.specs.declared.bed.Bed.{Bed}
 use Rattle.report.specs.declared.profile.Start.{Start}
 use Rattle.report.specs.declared.profile.Walk.{Walk}

@@ -9,7 +9,7 @@ use lib.ListN.{length}
 use Rattle.river.proofs.bytes.Puts.{chain}
 use Rattle.report.proofs.record.Rows.{row-fits}
 use Rattle.text.specs.Text.{firstLines}
-use Rattle.text.specs.Held.{PutWithin}
+use Rattle.text.specs.held.Words.{PutWithin}
 
 -- the lines of the first i of so many reaches are put, of at most so many bytes each, and the next place is behind them
 pub record LinesPut (line : ℕ → List ℕ) (most count : ℕ) (before now : List ℕ) (next i : ℕ) : Type 0 where

@@ -9,7 +9,7 @@ use lib.ListN.{length, drop, set, getD}
 use lib.Seq.{drop-cons}
 use Rattle.river.specs.Bytes.{Put}
 use Rattle.river.proofs.bytes.Puts.{chain}
-use Rattle.text.specs.Held.{PutWithin}
+use Rattle.text.specs.held.Words.{PutWithin}
 
 -- two words, one behind the other
 pub both :

@@ -8,7 +8,7 @@ use lib.ListN.{length, drop, length-map, List·getD-map, drop-of-length-le}
 use lib.Seq.{drop-cons}
 use Rattle.flows.specs.held.Stored.{oxygenOf}
 use Rattle.text.specs.Text.{ascii, signed, afterWord, line}
-use Rattle.text.specs.Held.{wordAt, wordsOf}
+use Rattle.text.specs.held.Words.{wordAt, wordsOf}
 
 module _ (numbers : List ℕ) where
   words-length : length (wordsOf numbers) ≡ length numbers

@@ -8,7 +8,7 @@ use native.Mathlib.Omega.{arith}
 use lib.ListN.{length}
 use Rattle.report.specs.Record.{recordBytes}
 use Rattle.text.specs.Text.{reachLine}
-use Rattle.text.specs.Held.{longestLine, recorded}
+use Rattle.text.specs.held.Words.{longestLine, recorded}
 use Rattle.text.proofs.put.Lines.{LinesPut, none-put, room-put, one-put, all-put}
 use Rattle.text.proofs.put.Puts.{reworded}
 use Rattle.text.proofs.put_lines.Statement.{statement}

@@ -10,7 +10,7 @@ use Rattle.flows.specs.held.Stored.{oxygenOf}
 use Rattle.report.specs.Record.{Figures}
 use Rattle.report.specs.Status.{statusBy, isUsed}
 use Rattle.report.specs.held.Lines.{LineReady, HeadFits}
-use Rattle.report.specs.Along.{AlongBelow, AlongHead}
+use Rattle.report.specs.held.Along.{AlongBelow, AlongHead}
 use Rattle.report.specs.declared.along.ReachAlong.{ReachAlong}
 use Rattle.report.proofs.along.NeverBelow.{lowest-above}
 use Rattle.report.proofs.along.is_used_up.Statement.{statement}

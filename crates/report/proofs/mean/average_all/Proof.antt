@@ -20,7 +20,7 @@ use Rattle.flows.specs.held.Stored.{storedLimit}
 use Rattle.flows.proofs.head.Heads.{broughtBy}
 use Rattle.report.specs.Program.{usedAbove}
 use Rattle.report.specs.Mean.{countedVolumeAt}
-use Rattle.report.specs.Weights.{volumeLimit, weighedWith, RoomToWeigh}
+use Rattle.report.specs.held.Weights.{volumeLimit, weighedWith, RoomToWeigh}
 use Rattle.report.specs.held.MeanLines.{Weighs, MeansTabled, ReachAveraged}
 use Rattle.report.specs.declared.mean.Averaged.{Averaged}
 use Rattle.report.specs.declared.weights.Weights.{Weights}

@@ -5,7 +5,7 @@ use native.Mathlib.Nat.{mod-lt}
 use native.Mathlib.Omega.{arith}
 use borrow.Author.Needs.{needs}
 use Rattle.flows.specs.held.Stored.{storedLimit}
-use Rattle.report.specs.Weights.{chunk, wholeSum, Divisible}
+use Rattle.report.specs.held.Weights.{chunk, wholeSum, Divisible}
 use Rattle.report.specs.declared.weights.Weights.{Weights}
 use Rattle.report.proofs.weights.Weighing.{long-quotient, long-remainder, quotient-fits}
 use Rattle.report.proofs.weights.divide.Statement.{statement}

@@ -7,7 +7,7 @@ use native.Mathlib.Omega.{arith}
 use lib.ListN.{length}
 use Rattle.report.specs.Mean.{meanBytes}
 use Rattle.text.specs.MeanText.{meanLine}
-use Rattle.text.specs.Held.{longestMeanLine, meanHeld}
+use Rattle.text.specs.held.Words.{longestMeanLine, meanHeld}
 use Rattle.text.proofs.put.Lines.{LinesPut, none-put, room-put, one-put, all-put}
 use Rattle.text.proofs.put.Puts.{reworded}
 use Rattle.text.proofs.means.put_mean_lines.Statement.{statement}

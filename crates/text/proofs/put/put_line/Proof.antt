@@ -7,7 +7,7 @@ use native.Mathlib.Omega.{arith}
 use denote.Ref.{now}
 use lib.ListN.{length, drop}
 use Rattle.text.specs.Text.{line}
-use Rattle.text.specs.Held.{wordsOf}
+use Rattle.text.specs.held.Words.{wordsOf}
 use Rattle.text.proofs.put.Puts.{Remains, starts, goes-on, ends}
 use Rattle.text.proofs.put.Words.{line-from, line-ends}
 use Rattle.text.proofs.put.put_line.Statement.{statement}
