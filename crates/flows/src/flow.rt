@@ -34,16 +34,16 @@ const BED_LIMIT: u64 = 432_000;
 // Tables of the reaches that passed: outlet, Qu, flow and undecayed BOD after the take, and depth.
 pub struct FlowTable {
     pub outlet: [u8; REACHES],
-    pub upstream: [u64; REACHES],
-    pub flow: [u64; REACHES],
+    pub upstream: [u32; REACHES],
+    pub flow: [u32; REACHES],
     pub mass: [u64; REACHES],
     pub depth: [u8; REACHES],
 }
 
 // Qu, flow after the take, and depth of a reach that passed.
 pub struct ReachFlows {
-    pub upstream: u64,
-    pub flow: u64,
+    pub upstream: u32,
+    pub flow: u32,
     pub depth: u8,
 }
 
@@ -53,10 +53,11 @@ pub struct Checked {
     pub flows: FlowTable,
 }
 
-// What the check of a reach yields: its flow and undecayed BOD after the take and its depth if it passes, or a refusal.
+// What the check of a reach yields: its Qu, its flow and undecayed BOD after the take and its depth if it passes, or a refusal.
 pub struct ReachChecked {
     pub outcome: Outcome,
-    pub flow: u64,
+    pub upstream: u32,
+    pub flow: u32,
     pub mass: u64,
     pub depth: u8,
 }
@@ -76,12 +77,12 @@ fn larger(a: u8, b: u8) -> u8
 }
 
 // What flows in with one more feeder, of this flow, undecayed BOD and depth.
-fn with_feeder(up: Upstream, flow: u64, mass: u64, depth: u8) -> Upstream
+fn with_feeder(up: Upstream, flow: u32, mass: u64, depth: u8) -> Upstream
     requires { ⌜ FeederFits up flow mass ⌝ }
     ensures { λ r. ⌜ r ≡ withFeeder up flow mass depth ⌝ }
 {
     Upstream {
-        flow: up.flow + flow,
+        flow: up.flow + flow as u64,
         mass: up.mass + mass,
         deepest: larger(depth, up.deepest),
     }
@@ -90,7 +91,7 @@ fn with_feeder(up: Upstream, flow: u64, mass: u64, depth: u8) -> Upstream
 // What flows into reach i + 1, by tables of the reaches before.
 fn upstream_of<'a>(
     outlet: &'a [u8; REACHES],
-    flow: &'a [u64; REACHES],
+    flow: &'a [u32; REACHES],
     mass: &'a [u64; REACHES],
     depth: &'a [u8; REACHES],
     i: usize,
@@ -294,6 +295,7 @@ fn check_next(card: Card, up: Upstream, i: usize) -> ReachChecked
     let Outcome::Accepted = outcome else {
         return ReachChecked {
             outcome,
+            upstream: 0,
             flow: 0,
             mass: 0,
             depth: 0,
@@ -305,7 +307,8 @@ fn check_next(card: Card, up: Upstream, i: usize) -> ReachChecked
     let depth = up.deepest + 1;
     ReachChecked {
         outcome,
-        flow: left,
+        upstream: up.flow as u32,
+        flow: left as u32,
         mass,
         depth,
     }
@@ -325,8 +328,8 @@ pub(crate) fn no_flows() -> FlowTable
 {
     FlowTable {
         outlet: [0u8; REACHES],
-        upstream: [0u64; REACHES],
-        flow: [0u64; REACHES],
+        upstream: [0u32; REACHES],
+        flow: [0u32; REACHES],
         mass: [0u64; REACHES],
         depth: [0u8; REACHES],
     }
@@ -350,7 +353,7 @@ pub fn check_from(cards: Cards, flows: FlowTable, i: usize) -> Checked
             return Checked { outcome, flows };
         };
         flows.outlet[i] = card.outlet;
-        flows.upstream[i] = up.flow;
+        flows.upstream[i] = next.upstream;
         flows.flow[i] = next.flow;
         flows.mass[i] = next.mass;
         flows.depth[i] = next.depth;

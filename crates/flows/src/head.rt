@@ -185,10 +185,11 @@ pub fn no_feet() -> FootTable
 }
 
 // What a foot with these values brings. The report has the flow of an accepted river's reach.
-pub fn foot_of(flow: u64, bod: u32, nitrogenous: u32, oxygen: u32, used: bool) -> Brought
+pub fn foot_of(flow: u32, bod: u32, nitrogenous: u32, oxygen: u32, used: bool) -> Brought
     requires { ⌜ flow ≤ flowLimit ⌝ }
     ensures { λ r. ⌜ r ≡ footOf flow bod nitrogenous oxygen used ⌝ }
 {
+    let flow = flow as u64;
     Brought {
         bod: flow * (bod as u64),
         nitrogenous: flow * (nitrogenous as u64),

@@ -79,8 +79,8 @@ fn reach(cards: Cards, flows: FlowTable, feet: FootTable, i: usize, oxygen: u32)
         &feet.used,
         i,
     );
-    let head = head_of(card, 1 < depth, flows.upstream[i], sums);
-    line(i + 1, depth, flow, flows.mass[i], head);
+    let head = head_of(card, 1 < depth, flows.upstream[i] as u64, sums);
+    line(i + 1, depth, flow as u64, flows.mass[i], head);
     foot_of(flow, less(head.bod), less(head.nitrogenous), oxygen, false)
 }
 

@@ -91,7 +91,7 @@ pub fn head_at(card: Card, reach: ReachFlows, brought: Brought) -> Head
     requires { ⌜ LineAt card reach brought ⌝ }
     ensures { λ r. ⌜ HeadBy card reach brought r ⌝ }
 {
-    head::head_of(card, 1 < reach.depth, reach.upstream, brought)
+    head::head_of(card, 1 < reach.depth, reach.upstream as u64, brought)
 }
 
 // The figures of a reach, from its card, its flows, and what its feeders bring.
@@ -100,7 +100,7 @@ pub fn line_at(card: Card, reach: ReachFlows, brought: Brought) -> Line
     ensures { λ r. ⌜ LineBy card reach brought r ⌝ }
 {
     let head = head_at(card, reach, brought);
-    line_of(card, reach.flow as u32, reach.depth, head, brought.used)
+    line_of(card, reach.flow, reach.depth, head, brought.used)
 }
 
 // Puts the record of a reach at a place, by whether its river has nitrification, and tells what its foot brings, with oxygen as it is.

@@ -57,9 +57,8 @@ pub fn average_reach(card: Card, reach: ReachFlows, brought: Brought) -> Average
     ensures { λ r. ⌜ AveragedBy card reach brought r ⌝ }
 {
     let head = lines::head_at(card, reach, brought);
-    let flow = reach.flow as u32;
-    let p = along::along_of(card, flow, head);
-    let used = along::is_used_up(card, flow, reach.depth, head, p, brought.used);
+    let p = along::along_of(card, reach.flow, head);
+    let used = along::is_used_up(card, reach.flow, reach.depth, head, p, brought.used);
     Averaged {
         foot: head::foot_of(
             reach.flow,

@@ -134,10 +134,6 @@ module _ {cards : List Card} {i : ℕ} {t : FlowTable} (h : Underway cards i t �
   deepest-here = max-of-feeders (depth-table (h .0 .passed .tabled)) (suc i)
 
   module _ {u : Upstream} (e : u ≡ upstreamBy t i) where
-    -- Qu
-    pub upstream-here : u .flow ≡ flowOf (above cards (suc i))
-    upstream-here = rw e flow-here
-
     pub gathered-small : (u .flow ≤ 128 * flowLimit) × (u .mass ≤ 128 * (massLimit * flowLimit)) × (u .deepest ≤ 127)
     gathered-small = rw e (flow-small, mass-small, rw deepest-here (omega (arith, index-few, deepest-few cards i (suc i))))
 
@@ -149,20 +145,22 @@ module _ {cards : List Card} {i : ℕ} {t : FlowTable} (h : Underway cards i t �
           record { answer = λ later. d .answer later ∙ cc (e, flow-here, mass-here, deepest-here, fed-deepest (above cards (suc i))) }
 
       -- what the check of the reach yields: a refusal, or what is entered of it
-      pub next-refused : {x : Refusal} {q m k : ℕ} → o ≡ Outcome.Refused x → NextChecked cards i (record { outcome = o; flow = q; mass = m; depth = k })
+      pub next-refused : {x : Refusal} {w q m k : ℕ} → o ≡ Outcome.Refused x → NextChecked cards i (record { outcome = o; upstream = w; flow = q; mass = m; depth = k })
       next-refused f =
           record {
             answer = next-answer;
+            upstream = λ a. no-refusal (sym a ∙ f);
             flow = λ a. no-refusal (sym a ∙ f);
             mass = λ a. no-refusal (sym a ∙ f);
             depth = λ a. no-refusal (sym a ∙ f);
           }
 
       pub next-passed : {take left : ℕ} → take ≡ takeOf card → left ≡ remainingMass take (u .flow + card .inflow) (u .mass + own)
-          → NextChecked cards i (record { outcome = o; flow = u .flow + card .inflow - take; mass = left; depth = u .deepest + 1 })
+          → NextChecked cards i (record { outcome = o; upstream = u .flow; flow = u .flow + card .inflow - take; mass = left; depth = u .deepest + 1 })
       next-passed et el =
           record {
             answer = next-answer;
+            upstream = λ _. rw (e, flow-here);
             flow = λ _. rw (et, e, flow-here, ec);
             mass = λ _. rw (el, et, e, flow-here, mass-here, eo, ec);
             depth = λ _. rw (e, deepest-here) (omega arith);

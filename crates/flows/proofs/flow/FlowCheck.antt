@@ -143,13 +143,12 @@ module _ {cards : List Card} {i : ℕ} {t : FlowTable} (h : Underway cards i t) 
 
     -- a reach that passes leads to the next
     pub at-next :
-        {o u : ℕ} →
+        {o : ℕ} →
         r .outcome ≡ Outcome.Accepted →
         Full t →
         o ≡ cardOf cards (suc i) .outlet →
-        u ≡ flowOf (above cards (suc i)) →
-        Underway cards (i + 1) (withReach t i o u (r .flow) (r .mass) (r .depth))
-    at-next e full own upstream =
+        Underway cards (i + 1) (withReach t i o (r .upstream) (r .flow) (r .mass) (r .depth))
+    at-next e full own =
         rw
         add-one
         record {
@@ -162,7 +161,7 @@ module _ {cards : List Card} {i : ℕ} {t : FlowTable} (h : Underway cards i t) 
                     (λ (q : j ≡ i). rw q (decided (c .answer) (reach-asks _ _ _) e))
                     (λ (q : j < i). h .passed .sound j q)
                     (eq-or-lt-of-le (le-of-suc-le-suc k));
-                tabled = next-table (h .passed .tabled) (omega (arith, h .regular .few)) full own upstream (c .flow e) (c .mass e) (c .depth e);
+                tabled = next-table (h .passed .tabled) (omega (arith, h .regular .few)) full own (c .upstream e) (c .flow e) (c .mass e) (c .depth e);
               };
         }
 

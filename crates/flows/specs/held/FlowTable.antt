@@ -97,9 +97,10 @@ pub record Underway (cards : List Card) (i : ℕ) (t : FlowTable) : Type 0 where
   pub within : i ≤ length cards
   pub passed : PassedFirst cards i t
 
--- what the check of reach i + 1 yields: its answer, and where it passes its flow and undecayed BOD after the take and its depth
+-- what the check of reach i + 1 yields: its answer, and where it passes its Qu, its flow and undecayed BOD after the take and its depth
 pub record NextChecked (cards : List Card) (i : ℕ) (r : ReachChecked) : Type 0 where
   pub answer : Decides (r .outcome) (reachChecks (cardOf cards (suc i)) (above cards (suc i)) (suc i))
+  pub upstream : r .outcome ≡ Outcome.Accepted → r .upstream ≡ flowOf (above cards (suc i))
   pub flow : r .outcome ≡ Outcome.Accepted → r .flow ≡ flowAt cards (suc i)
   pub mass : r .outcome ≡ Outcome.Accepted → r .mass ≡ massAt cards (suc i)
   pub depth : r .outcome ≡ Outcome.Accepted → r .depth ≡ depthAt cards (suc i)

@@ -12,7 +12,7 @@ use Rattle.river.specs.Card.{cardList, blank}
 use Rattle.flows.specs.Flow.{cardOf}
 use Rattle.flows.specs.held.FlowTable.{Underway, CheckAt, upstreamBy}
 use Rattle.flows.proofs.flow.Count.{reaches-counted, card-of-river}
-use Rattle.flows.proofs.flow.Checks.{Full, full-next, sums-fit, upstream-here}
+use Rattle.flows.proofs.flow.Checks.{Full, full-next, sums-fit}
 use Rattle.flows.proofs.flow.FlowCheck.{at-refusal, at-next, at-end}
 use Rattle.flows.proofs.flow.check_from.Statement.{statement}
 use Rattle.flows.proofs.flow.check_from.Tie as tie
@@ -92,7 +92,7 @@ loop-again c =
       counted = p .counted;
       underway =
           at-next (p .underway) (within p l) (next .check-next .ensures (check-at p l (up .upstream-of .ensures))) (c .enum-told .given .1) (p .full)
-          (own-outlet p l) (upstream-here (p .underway, within p l) (up .upstream-of .ensures));
+          (own-outlet p l);
       full = full-next _ _ _ _ _ _ (p .full);
     }
 

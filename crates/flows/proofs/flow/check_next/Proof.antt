@@ -56,9 +56,15 @@ add-depth c =
     let s = c .before .before .before .before .before .before .before .before .before .before in
     omega (arith, gathered-small (next s) (s .pre .gathered))
 
+cast-t14 : tie.Need-cast-t14
+cast-t14 c = omega (arith, remaining-mass-requires (c .before .before .before) tt .1)
+
+cast-t15 : tie.Need-cast-t15
+cast-t15 c = omega (arith, remaining-mass-requires (c .before .before .before) tt .1)
+
 returns-2 : tie.Need-returns-2
 returns-2 c =
-    let left = c .before in
+    let left = c .before .before in
     let take = left .before in
     let check = take .before .before .before in
     let own = check .before .before in
@@ -83,4 +89,6 @@ check-next-spec =
     sub-left
     remaining-mass-requires
     add-depth
+    cast-t14
+    cast-t15
     returns-2)

@@ -7,17 +7,17 @@ use Rattle.flows.specs.held.Stored.{storedLimit}
 use Rattle.flows.proofs.head.foot_of.Statement.{statement}
 use Rattle.flows.proofs.head.foot_of.Tie as tie
 
-mul-t7 : tie.Need-mul-t7
-mul-t7 c = let b : c .args .bod ≤ storedLimit = omega arith in omega (arith, mul-le-mul (c .pre) b)
+mul-t8 : tie.Need-mul-t8
+mul-t8 c = let b : c .args .bod ≤ storedLimit = omega arith in omega (arith, mul-le-mul (c .pre) b)
 
-mul-t9 : tie.Need-mul-t9
-mul-t9 c = let n : c .args .nitrogenous ≤ storedLimit = omega arith in omega (arith, mul-le-mul (c .pre) n)
+mul-t10 : tie.Need-mul-t10
+mul-t10 c = let n : c .args .nitrogenous ≤ storedLimit = omega arith in omega (arith, mul-le-mul (c .pre) n)
 
-mul-t11 : tie.Need-mul-t11
-mul-t11 c = let o : c .args .oxygen ≤ storedLimit = omega arith in omega (arith, mul-le-mul (c .pre) o)
+mul-t12 : tie.Need-mul-t12
+mul-t12 c = let o : c .args .oxygen ≤ storedLimit = omega arith in omega (arith, mul-le-mul (c .pre) o)
 
 returns : tie.Need-returns
 returns c = search needs
 
 pub foot-of-spec : {M : Type 1} → statement M
-foot-of-spec = tie.close (tie.spec mul-t7 mul-t9 mul-t11 returns)
+foot-of-spec = tie.close (tie.spec mul-t8 mul-t10 mul-t12 returns)

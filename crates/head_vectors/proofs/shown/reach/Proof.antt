@@ -49,8 +49,10 @@ reach-spec =
     brought-to-requires
     (λ mul-upstream. search needs)
     (λ element-copy-out-upstream. search needs)
+    (λ cast-head-of. omega (arith, head-of-requires cast-head-of tt .ready .flows .bounded))
     head-of-requires
     (λ add-line. search needs)
+    (λ cast-line. omega (arith, flow-bounded (cast-line .before .before .before .before .before .before .before .before .before .before .before .before .before .pre)))
     (λ mul-line. search needs)
     (λ element-copy-out-line. search needs)
     (λ line-requires κs. search needs)

@@ -1,20 +1,16 @@
 -- `report::lines::line_at` meets its contract: the line below the head of the reach is that of the reach. Assumes nothing.
-use native.Mathlib.Omega.{arith}
 use borrow.Author.Needs.{needs}
-use Rattle.report.proofs.lines.Feet.{flow-small, line-ready, line-of-reach}
+use Rattle.report.proofs.lines.Feet.{line-ready, line-of-reach}
 use Rattle.report.proofs.lines.line_at.Statement.{statement}
 use Rattle.report.proofs.lines.line_at.Tie as tie
 
-cast-line-of : tie.Need-cast-line-of
-cast-line-of c = omega (arith, flow-small (c .before .before .pre))
-
 line-of-requires : tie.Need-line-of-requires
 line-of-requires c κs =
-    let p = c .before .before .pre in
-    (line-ready p, c .before .head-at .ensures p .fits)
+    let p = c .before .pre in
+    (line-ready p, c .head-at .ensures p .fits)
 
 returns : tie.Need-returns
-returns c = λ p. line-of-reach p (c .before .before .head-at .ensures p) (c .line-of .result) (c .line-of .ensures)
+returns c = λ p. line-of-reach p (c .before .head-at .ensures p) (c .line-of .result) (c .line-of .ensures)
 
 pub line-at-spec : {M : Type 1} → statement M
-line-at-spec = tie.close (tie.spec (λ head-at-requires. search needs) cast-line-of line-of-requires returns)
+line-at-spec = tie.close (tie.spec (λ head-at-requires. search needs) line-of-requires returns)

@@ -6,28 +6,25 @@ use Rattle.report.proofs.mean.Reach.{along-of-reach, reach-averaged}
 use Rattle.report.proofs.mean.average_reach.Statement.{statement}
 use Rattle.report.proofs.mean.average_reach.Tie as tie
 
-cast-flow : tie.Need-cast-flow
-cast-flow c = omega (arith, flow-small (c .before .before .pre))
-
 along-of-requires : tie.Need-along-of-requires
 along-of-requires c κs =
-    let p = c .before .before .pre in
-    (line-ready p, c .before .head-at .ensures p .fits)
+    let p = c .before .pre in
+    (line-ready p, c .head-at .ensures p .fits)
 
 is-used-up-requires : tie.Need-is-used-up-requires
 is-used-up-requires c κs =
-    let p = c .before .before .before .pre in
-    (line-ready p, c .before .before .head-at .ensures p .fits, c .along-of .ensures)
+    let p = c .before .before .pre in
+    (line-ready p, c .before .head-at .ensures p .fits, c .along-of .ensures)
 
 foot-of-requires : tie.Need-foot-of-requires
-foot-of-requires c κs = flow-small (c .before .before .before .before .pre)
+foot-of-requires c κs = flow-small (c .before .before .before .pre)
 
 returns : tie.Need-returns
 returns c =
     let tested = c .before .before in
     let made = tested .before in
     λ here.
-    let head = made .before .before .head-at .ensures here in
+    let head = made .before .head-at .ensures here in
     reach-averaged here head (along-of-reach here head (made .along-of .ensures) (omega (arith, made .along-of .ok))) (tested .is-used-up .ensures) (c .before .foot-of .ensures) (c .reported-mean .ensures)
 
 pub average-reach-spec : {M : Type 1} → statement M
@@ -35,7 +32,6 @@ average-reach-spec =
     tie.close
     (tie.spec
     (λ head-at-requires. search needs)
-    cast-flow
     along-of-requires
     is-used-up-requires
     foot-of-requires
