@@ -92,7 +92,7 @@ pub reading-lawful : {file : List ℕ} {r : Reading} → AreBytes file → Reads
 reading-lawful {file} {r} b h e = reads-only-lawful file (riverRead r) b (was-read file h e) .lawful
 
 -- a refused reading is the answer
-pub reading-refused : {file : List ℕ} {r : Reading} {x : Refusal} (t : FlowTable) → Reads file r → r .outcome ≡ Outcome.Refused x → Accepts file (record { outcome = r .outcome; cards = r .cards; flows = t })
+pub reading-refused : {file : List ℕ} {r : Reading} {x : Refusal} (t : FlowTable) → Reads file r → r .outcome ≡ Outcome.Refused x → Accepts file (record { outcome = r .outcome; effective = r .cards; flows = t })
 unfolding acceptFile
 reading-refused {file} {r} {x} t h e =
     let read : readFile file ≡ refused x = sym (h .answer) ∙ ap (λ (o : Outcome). outcomeOf o (riverRead r)) e in
@@ -108,7 +108,7 @@ module _ {file : List ℕ} {r : Reading} (cards : Cards) (b : AreBytes file) (h 
   pub regular-read : Regular (cardList cards)
   regular-read = rw f (regular-in-force (riverRead r) (reading-lawful b h e .cards))
 
-  pub reading-checked : {k : Checked} → FlowChecked (cardList cards) k → Accepts file (record { outcome = k .outcome; cards = cards; flows = k .flows })
+  pub reading-checked : {k : Checked} → FlowChecked (cardList cards) k → Accepts file (record { outcome = k .outcome; effective = cards; flows = k .flows })
   unfolding acceptFile
   reading-checked {k} c =
       let passes : k .outcome ≡ Outcome.Accepted → Flows (cardList cards) =
@@ -122,7 +122,7 @@ module _ {file : List ℕ} {r : Reading} (cards : Cards) (b : AreBytes file) (h 
       }
 
 -- THEOREM: an accepted river has, at every reach, what the flow check asks for from there on
-pub accepted-underway : {file : List ℕ} {r : Acceptance} → Accepts file r → r .outcome ≡ Outcome.Accepted → {i : ℕ} → i ≤ length (cardList (r .cards)) → Underway (cardList (r .cards)) i (r .flows)
+pub accepted-underway : {file : List ℕ} {r : Acceptance} → Accepts file r → r .outcome ≡ Outcome.Accepted → {i : ℕ} → i ≤ length (cardList (r .effective)) → Underway (cardList (r .effective)) i (r .flows)
 accepted-underway a e l =
     record {
       regular = regular-of-lawful (a .lawful e);

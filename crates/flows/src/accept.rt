@@ -8,10 +8,11 @@ use river::card::Cards;
 use river::file::read_file;
 use river::refusal::Outcome;
 
-// What reading and the flow check of a file yield: the cards with the rates in force and their flows if the river is accepted, or a refusal.
+// What reading and the flow check of a file yield: the effective cards, which have the rates in force, and their flows if the river is accepted, or a
+// refusal, whose cards and flows say nothing.
 pub struct Acceptance {
     pub outcome: Outcome,
-    pub cards: Cards,
+    pub effective: Cards,
     pub flows: FlowTable,
 }
 
@@ -22,22 +23,22 @@ pub fn accept(file: &[u8]) -> Acceptance
     let reading = read_file(file);
     let read = reading.outcome;
     let Outcome::Accepted = read else {
-        let cards = reading.cards;
+        let given = reading.cards;
         let flows = no_flows();
         return Acceptance {
             outcome: read,
-            cards,
+            effective: given,
             flows,
         };
     };
     let factors = reading.factors;
-    let cards = in_force(factors, reading.cards);
-    let checked = flow_check(cards);
+    let effective = in_force(factors, reading.cards);
+    let checked = flow_check(effective);
     let outcome = checked.outcome;
     let flows = checked.flows;
     Acceptance {
         outcome,
-        cards,
+        effective,
         flows,
     }
 }

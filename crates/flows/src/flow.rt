@@ -323,7 +323,7 @@ pub fn reach_count(count: u8) -> usize
 }
 
 // The tables of no reach.
-pub(crate) fn no_flows() -> FlowTable
+pub fn no_flows() -> FlowTable
     ensures { λ r. ⌜ r ≡ noFlows ⌝ }
 {
     FlowTable {
@@ -365,8 +365,8 @@ pub fn check_from(cards: Cards, flows: FlowTable, i: usize) -> Checked
     }
 }
 
-// The flow check of a river, by its cards with the rates in force. `accept` has regular cards from its reading and their correction.
-pub(crate) fn flow_check(cards: Cards) -> Checked
+// The flow check of a river, by its effective cards. `accept` has regular cards from its reading and their correction.
+pub fn flow_check(cards: Cards) -> Checked
     requires { ⌜ Regular (cardList cards) ⌝ }
     ensures { λ r. ⌜ FlowChecked (cardList cards) r ⌝ }
 {

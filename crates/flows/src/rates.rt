@@ -113,24 +113,24 @@ fn corrected(decay: u16, aeration: u16, card: Card) -> Card
     }
 }
 
-// The cards of a river with the rates in force: corrected once a reach, and only where the river has factors.
-pub(crate) fn in_force(factors: RateFactors, cards: Cards) -> Cards
-    requires { ⌜ LawfulRiver (riverOf factors (cardList cards)) × (cards .count ≤ 128) ⌝ }
-    ensures { λ r. ⌜ cardList r ≡ inForce (riverOf factors (cardList cards)) ⌝ }
+// The effective cards of a river, with the rates in force, by its cards as given: corrected once a reach, and only where the river has factors.
+pub fn in_force(factors: RateFactors, given: Cards) -> Cards
+    requires { ⌜ LawfulRiver (riverOf factors (cardList given)) × (given .count ≤ 128) ⌝ }
+    ensures { λ r. ⌜ cardList r ≡ inForce (riverOf factors (cardList given)) ⌝ }
 {
     let RateFactors::PerDegree { decay, aeration } = factors else {
-        return cards;
+        return given;
     };
-    let count = cards.count as usize;
-    let mut at = cards.at;
+    let count = given.count as usize;
+    let mut at = given.at;
     let mut i: usize = 0;
     while i < count {
-        let card = cards.at[i];
+        let card = given.at[i];
         at[i] = corrected(decay, aeration, card);
         i = i + 1;
     }
     Cards {
         at,
-        count: cards.count,
+        count: given.count,
     }
 }

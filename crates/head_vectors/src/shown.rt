@@ -115,7 +115,7 @@ pub fn show(file: &[u8], first: u32, step: u32) {
     match outcome {
         Outcome::Refused(r) => refusal(r),
         Outcome::Accepted => {
-            let cards = accepted.cards;
+            let cards = accepted.effective;
             let flows = accepted.flows;
             reaches(cards, flows, first, step);
         }

@@ -222,26 +222,26 @@ module _ {file : List ℕ} {r : Acceptance} (h : Accepts file r) where
   pub file-refused : (room : ℕ) {refusal : Refusal} → r .outcome ≡ Outcome.Refused refusal → reportAnswer file room ≡ refused refusal
   unfolding reportAnswer
   file-refused room e =
-      after-refused (acceptFile file) _ (sym (h .answer) ∙ ap (λ (o : Outcome). outcomeOf o (cardList (r .cards))) e)
+      after-refused (acceptFile file) _ (sym (h .answer) ∙ ap (λ (o : Outcome). outcomeOf o (cardList (r .effective))) e)
 
-  pub file-accepted : r .outcome ≡ Outcome.Accepted → acceptFile file ≡ accepted (cardList (r .cards))
-  file-accepted e = sym (h .answer) ∙ ap (λ (o : Outcome). outcomeOf o (cardList (r .cards))) e
+  pub file-accepted : r .outcome ≡ Outcome.Accepted → acceptFile file ≡ accepted (cardList (r .effective))
+  file-accepted e = sym (h .answer) ∙ ap (λ (o : Outcome). outcomeOf o (cardList (r .effective))) e
 
   pub file-short :
       (room : ℕ) →
       r .outcome ≡ Outcome.Accepted →
-      room < reportSize (cardList (r .cards)) →
+      room < reportSize (cardList (r .effective)) →
       reportAnswer file room ≡ refused (refuse 12 0)
   unfolding reportAnswer roomAnswer
   file-short room e l =
-      after-accepted (acceptFile file) _ (file-accepted e) ∙ need-false _ 12 0 _ (lt-leb (reportSize (cardList (r .cards))) room l)
+      after-accepted (acceptFile file) _ (file-accepted e) ∙ need-false _ 12 0 _ (lt-leb (reportSize (cardList (r .effective))) room l)
 
   pub file-held :
       (room : ℕ) →
       r .outcome ≡ Outcome.Accepted →
-      reportSize (cardList (r .cards)) ≤ room →
-      reportAnswer file room ≡ accepted (cardList (r .cards))
-  file-held room e l = answers file (record { cards = cardList (r .cards); passes = file-accepted e; holds = l })
+      reportSize (cardList (r .effective)) ≤ room →
+      reportAnswer file room ≡ accepted (cardList (r .effective))
+  file-held room e l = answers file (record { cards = cardList (r .effective); passes = file-accepted e; holds = l })
 
-  pub file-ready : r .outcome ≡ Outcome.Accepted → Ready (cardList (r .cards)) (r .flows)
+  pub file-ready : r .outcome ≡ Outcome.Accepted → Ready (cardList (r .effective)) (r .flows)
   file-ready e = record { lawful = h .lawful e; sound = h .sound e; tabled = h .tabled e }

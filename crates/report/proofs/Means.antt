@@ -71,22 +71,22 @@ numbered file room = next (acceptFile file) _ (accept-numbered file) (λ _. sear
 module _ {file : List ℕ} {r : Acceptance} (h : Accepts file r) where
   pub means-refused : (room : ℕ) {refusal : Refusal} → r .outcome ≡ Outcome.Refused refusal → meanAnswer file room ≡ refused refusal
   unfolding meanAnswer
-  means-refused room e = after-refused (acceptFile file) _ (sym (h .answer) ∙ ap (λ (o : Outcome). outcomeOf o (cardList (r .cards))) e)
+  means-refused room e = after-refused (acceptFile file) _ (sym (h .answer) ∙ ap (λ (o : Outcome). outcomeOf o (cardList (r .effective))) e)
 
   module _ (room : ℕ) (ok : r .outcome ≡ Outcome.Accepted) where
-    pub means-short : room < meansSize (cardList (r .cards)) → meanAnswer file room ≡ refused (refuse 12 0)
+    pub means-short : room < meansSize (cardList (r .effective)) → meanAnswer file room ≡ refused (refuse 12 0)
     unfolding meanAnswer meanRoomAnswer
-    means-short l = after-accepted (acceptFile file) _ (file-accepted h ok) ∙ need-false _ 12 0 _ (lt-leb (meansSize (cardList (r .cards))) room l)
+    means-short l = after-accepted (acceptFile file) _ (file-accepted h ok) ∙ need-false _ 12 0 _ (lt-leb (meansSize (cardList (r .effective))) room l)
 
-    pub means-empty : meansSize (cardList (r .cards)) ≤ room → countedVolume (cardList (r .cards)) ≡ 0 → meanAnswer file room ≡ refused (refuse 16 0)
+    pub means-empty : meansSize (cardList (r .effective)) ≤ room → countedVolume (cardList (r .effective)) ≡ 0 → meanAnswer file room ≡ refused (refuse 16 0)
     unfolding meanAnswer meanRoomAnswer
     means-empty l z =
         after-accepted (acceptFile file) _ (file-accepted h ok)
-        ∙ need-true _ 12 0 _ (le-leb (meansSize (cardList (r .cards))) room l)
-        ∙ need-false _ 16 0 _ (le-ltb 0 (countedVolume (cardList (r .cards))) (omega arith))
+        ∙ need-true _ 12 0 _ (le-leb (meansSize (cardList (r .effective))) room l)
+        ∙ need-false _ 16 0 _ (le-ltb 0 (countedVolume (cardList (r .effective))) (omega arith))
 
-    pub means-held : meansSize (cardList (r .cards)) ≤ room → 0 < countedVolume (cardList (r .cards)) → meanAnswer file room ≡ accepted (cardList (r .cards))
-    means-held l v = averaged file (record { cards = cardList (r .cards); passes = file-accepted h ok; holds = l; volume = v })
+    pub means-held : meansSize (cardList (r .effective)) ≤ room → 0 < countedVolume (cardList (r .effective)) → meanAnswer file room ≡ accepted (cardList (r .effective))
+    means-held l v = averaged file (record { cards = cardList (r .effective); passes = file-accepted h ok; holds = l; volume = v })
 
 -- ---- the call
 

@@ -150,11 +150,11 @@ pub fn mean(file: &[u8], means: &mut [u8]) -> RiverMean
     match outcome {
         Outcome::Refused(r) => refused(r),
         Outcome::Accepted => {
-            let count = flow::reach_count(river.cards.count);
+            let count = flow::reach_count(river.effective.count);
             if means.len() < MEAN_SIZE * count {
                 return refused(refusal::refuse(12, 0));
             }
-            let table = average_all(river.cards, river.flows);
+            let table = average_all(river.effective, river.flows);
             let weights = table.weights;
             if weights.volume == 0 {
                 return refused(refusal::refuse(16, 0));

@@ -36,13 +36,13 @@ pub fn report(file: &[u8], report: &mut [u8]) -> Reported
     match outcome {
         Outcome::Refused(r) => refused(r),
         Outcome::Accepted => {
-            let count = flow::reach_count(river.cards.count);
-            let nitrified = record::has_nitrification(river.cards);
+            let count = flow::reach_count(river.effective.count);
+            let nitrified = record::has_nitrification(river.effective);
             let size = record::record_bytes(nitrified) * count;
             if report.len() < size {
                 return refused(refusal::refuse(12, 0));
             }
-            lines::report_all(river.cards, river.flows, nitrified, report);
+            lines::report_all(river.effective, river.flows, nitrified, report);
             Reported {
                 outcome,
                 count,

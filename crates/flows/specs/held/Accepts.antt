@@ -14,7 +14,7 @@ use Rattle.flows.specs.Accept.{acceptFile}
 -- the answer of reading and flow check; the cards of an accepted river are lawful, too, with the rates in force, and pass the flow rules, and
 -- the tables are theirs
 pub record Accepts (file : List ℕ) (r : Acceptance) : Type 0 where
-  pub answer : outcomeOf (r .outcome) (cardList (r .cards)) ≡ acceptFile file
-  pub lawful : r .outcome ≡ Outcome.Accepted → Lawful (cardList (r .cards))
-  pub sound : r .outcome ≡ Outcome.Accepted → Flows (cardList (r .cards))
-  pub tabled : r .outcome ≡ Outcome.Accepted → Tabled (cardList (r .cards)) (length (cardList (r .cards))) (r .flows)
+  pub answer : outcomeOf (r .outcome) (cardList (r .effective)) ≡ acceptFile file
+  pub lawful : r .outcome ≡ Outcome.Accepted → Lawful (cardList (r .effective))
+  pub sound : r .outcome ≡ Outcome.Accepted → Flows (cardList (r .effective))
+  pub tabled : r .outcome ≡ Outcome.Accepted → Tabled (cardList (r .effective)) (length (cardList (r .effective))) (r .flows)

@@ -15,8 +15,8 @@ use Rattle.report.proofs.Means.{means-refused, means-short, means-empty
 use Rattle.report.proofs.mean.mean.Statement.{statement}
 use Rattle.report.proofs.mean.mean.Tie as tie
 
-count : (c : tie.After-reach-count) → c .reach-count .result ≡ length (cardList (c .before .before .before .accept .result .cards))
-count c = reaches-counted (c .before .before .before .accept .result .cards) (simp length-map at (c .before .before .before .accept .ok .1 .1 .1 .0 .1 .1 .0 .1 .0 .1)) (c .reach-count .ensures)
+count : (c : tie.After-reach-count) → c .reach-count .result ≡ length (cardList (c .before .before .before .accept .result .effective))
+count c = reaches-counted (c .before .before .before .accept .result .effective) (simp length-map at (c .before .before .before .accept .ok .1 .1 .1 .0 .1 .1 .0 .1 .0 .1)) (c .reach-count .ensures)
 
 mul-if1 : tie.Need-mul-if1
 mul-if1 c =

@@ -17,8 +17,8 @@ use Rattle.report.proofs.record.Encoding.{record-bounds}
 use Rattle.report.proofs.reporting.report.Statement.{statement}
 use Rattle.report.proofs.reporting.report.Tie as tie
 
-counted : (c : tie.After-reach-count) → c .reach-count .result ≡ length (cardList (c .before .before .before .accept .result .cards))
-counted c = reaches-counted (c .before .before .before .accept .result .cards) (simp length-map at (c .before .before .before .accept .ok .1 .1 .1 .0 .1 .1 .0 .1 .0 .1)) (c .reach-count .ensures)
+counted : (c : tie.After-reach-count) → c .reach-count .result ≡ length (cardList (c .before .before .before .accept .result .effective))
+counted c = reaches-counted (c .before .before .before .accept .result .effective) (simp length-map at (c .before .before .before .accept .ok .1 .1 .1 .0 .1 .1 .0 .1 .0 .1)) (c .reach-count .ensures)
 
 has-nitrification-requires : tie.Need-has-nitrification-requires
 has-nitrification-requires c κs = c .before .before .before .accept .ensures .lawful (c .before .enum-told .given .1) .few
@@ -26,14 +26,14 @@ has-nitrification-requires c κs = c .before .before .before .accept .ensures .l
 -- the bytes of a record, times how many there are, are those of the report
 size-is :
     (c : tie.After-record-bytes) →
-    c .record-bytes .result * c .before .before .reach-count .result ≡ reportSize (cardList (c .before .before .before .before .before .accept .result .cards))
+    c .record-bytes .result * c .before .before .reach-count .result ≡ reportSize (cardList (c .before .before .before .before .before .accept .result .effective))
 size-is c = ap₂ _*_ (c .record-bytes .ensures ∙ ap recordBytes (c .before .has-nitrification .ensures)) (counted (c .before .before))
 
 mul-size : tie.Need-mul-size
 mul-size c =
     let told = c .before .before .before in
     let a = told .before .before .accept in
-    let cards = cardList (a .result .cards) in
+    let cards = cardList (a .result .effective) in
     let few = a .ensures .lawful (told .enum-told .given .1) .few in
     record { fits = omega (arith, size-is c, mul-le-mul (record-bounds (hasNitrification cards) .1) few) }
 
