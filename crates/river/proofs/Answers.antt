@@ -2,11 +2,11 @@
 -- The orders of the checks are named here so that their rows are checked before the laws: a wrong order is refused by them.
 -- Assumes nothing.
 use Prim.Native.Nat.{ℕ}
-use mathlib.Core.Path.{_≡_, refl}
+use mathlib.Core.Path.{_≡_, refl, ap, sym, _∙_}
 use mathlib.Core.Bool.{Bool, true, false, _&&_}
 use native.Mathlib.Omega.{arith}
 use Rattle.river.proofs.Orders
-use Rattle.river.specs.Refusal.{Answer, accepted, refused, refuse, need, choose, after}
+use Rattle.river.specs.Refusal.{Answer, accepted, refused, refuse, need, choose, after, outcomeOf, goOn}
 use Rattle.river.specs.declared.refusal.Outcome.{Outcome}
 use Rattle.river.specs.declared.refusal.Refusal.{Refusal}
 
@@ -57,6 +57,11 @@ module _ {A : Type 0} where
   unfolding after
   after-refused x f p = rw p
 
+  pub after-all : (x : Answer A) → after x accepted ≡ x
+  unfolding after
+  after-all (accepted a) = refl
+  after-all (refused r) = refl
+
   -- a sequence of three
   pub after-after : {B C : Type 0} (x : Answer A) (f : A → Answer B) (g : B → Answer C) → after (after x f) g ≡ after x (λ a. after (f a) g)
   unfolding after
@@ -83,3 +88,15 @@ module _ {A : Type 0} where
   unfolding after
   went (accepted a) f e = record { value = a; first = refl; then = e }
   went (refused r) f e = never e
+
+  -- what the program's outcome says of the answer that it stands for, with the value beside it
+  pub is-accepted : (a : A) {o : Outcome} {x : Answer A} → outcomeOf o a ≡ x → o ≡ Outcome.Accepted → x ≡ accepted a
+  is-accepted a e f = sym e ∙ ap (λ (o : Outcome). outcomeOf o a) f
+
+  pub is-refused : (a : A) {o : Outcome} {x : Answer A} {r : Refusal} → outcomeOf o a ≡ x → o ≡ Outcome.Refused r → x ≡ refused r
+  is-refused a e f = sym e ∙ ap (λ (o : Outcome). outcomeOf o a) f
+
+  pub goes-on : (o : Outcome) (a : A) → goOn o (accepted a) ≡ outcomeOf o a
+  unfolding goOn
+  goes-on Outcome.Accepted a = refl
+  goes-on (Outcome.Refused r) a = refl

@@ -179,13 +179,19 @@ reachBytes = 26
 abbrev pub optional : List Kind
 optional = damRecord ∷ takeRecord ∷ pressureRecord ∷ sludgeRecord ∷ nitrificationRecord ∷ []
 
--- what a card holds of them
-abbrev pub optionalOf : Card → Values optional
-optionalOf c = let o = c .optionals in (c .dam, (o .take, (o .pressure, (o .sludge, (o .nitrification, tt)))))
+-- what a dam and optional fields are of them, and what a card holds
+abbrev pub valuesOf : Dam → Optionals → Values optional
+valuesOf dam o = (dam, (o .take, (o .pressure, (o .sludge, (o .nitrification, tt)))))
 
--- the optional fields of what is read
+abbrev pub optionalOf : Card → Values optional
+optionalOf c = valuesOf (c .dam) (c .optionals)
+
+-- the optional fields of what is read, and a card with what is read
 abbrev pub optionalsOf : Values optional → Optionals
 optionalsOf vs = record { take = vs .1 .0; pressure = vs .1 .1 .0; sludge = vs .1 .1 .1 .0; nitrification = vs .1 .1 .1 .1 .0 }
+
+abbrev pub withValues : Values optional → Card → Card
+withValues vs c = withOptionals (vs .0) (optionalsOf vs) c
 
 -- the length of a card's records, and that of the longest card's
 abbrev pub sizeOf : Card → ℕ

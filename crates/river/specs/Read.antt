@@ -1,24 +1,13 @@
 -- Reading: the river of a river file, or the first refusal in file order.
 use mathlib.Core.List.{List, [], _∷_}
-use Prim.Native.Nat.{ℕ, zero, suc, _+_}
+use Prim.Native.Nat.{ℕ, zero, suc}
 use lib.ListN.{length, drop}
 use lib.Dec.{leb, eqb}
 use Rattle.river.specs.declared.card.Card.{Card}
-use Rattle.river.specs.declared.card.Dam.{Dam}
-use Rattle.river.specs.declared.card.Amount.{Amount}
-use Rattle.river.specs.declared.card.Nitrification.{Nitrification}
-use Rattle.river.specs.declared.card.RateFactors.{RateFactors}
-use Rattle.river.specs.declared.refusal.Refusal.{Refusal}
-use Rattle.river.specs.declared.read.FactorsRead.{FactorsRead}
-use Rattle.river.specs.declared.read.DamRead.{DamRead}
-use Rattle.river.specs.declared.read.AmountRead.{AmountRead}
-use Rattle.river.specs.declared.read.NitrificationRead.{NitrificationRead}
-use Rattle.river.specs.declared.read.Header.{Header}
-use Rattle.river.specs.declared.read.Reach.{Reach}
 use Rattle.river.specs.Bytes.{byteAt, twoAt, fourAt, marked}
 use Rattle.river.specs.Card.{RV, RE, headerBytes, reachBytes, optional, optionalsOf, countOk, inRange, outletOk, sizeOf}
 use Rattle.river.specs.Optional.{Values, absent, readOptional, readOptionals}
-use Rattle.river.specs.Refusal.{Answer, accepted, refused, refuse, need, after}
+use Rattle.river.specs.Refusal.{Answer, accepted, need, after}
 use Rattle.river.specs.River.{River, riverOf}
 use Rattle.river.specs.Records.{factorsRecord}
 
@@ -70,53 +59,3 @@ readRest n s =
 -- a river file: the header, and what follows it
 unfoldable pub readFile : List ℕ → Answer River
 readFile s = after (readHeader s) (λ n. readRest n (drop headerBytes s))
-
--- the answers of the program, case by case: the header's, the factors', a dam's, an amount's, a nitrification's, and a reach's at a position
-abbrev pub headerOf : Answer ℕ → Header
-headerOf (accepted n) = Header.Count n headerBytes
-headerOf (refused r) = Header.Refused r
-
-abbrev pub factorsReadOf : Answer RateFactors → FactorsRead
-factorsReadOf (accepted f) = FactorsRead.Found f
-factorsReadOf (refused r) = FactorsRead.Refused r
-
-abbrev pub damOf : Answer Dam → DamRead
-damOf (accepted d) = DamRead.Found d
-damOf (refused r) = DamRead.Refused r
-
-abbrev pub amountOf : Answer Amount → AmountRead
-amountOf (accepted a) = AmountRead.Found a
-amountOf (refused r) = AmountRead.Refused r
-
-abbrev pub nitrificationOf : Answer Nitrification → NitrificationRead
-nitrificationOf (accepted n) = NitrificationRead.Found n
-nitrificationOf (refused r) = NitrificationRead.Refused r
-
-abbrev pub reachOf : ℕ → Answer Card → Reach
-reachOf at (accepted c) = Reach.Read c (at + sizeOf c)
-reachOf at (refused r) = Reach.Refused r
-
--- the refusal in an answer; number 0 where there is none
-abbrev pub headerRefusal : Header → Refusal
-headerRefusal (Header.Count n next) = refuse 0 0
-headerRefusal (Header.Refused r) = r
-
-abbrev pub factorsRefusal : FactorsRead → Refusal
-factorsRefusal (FactorsRead.Found f) = refuse 0 0
-factorsRefusal (FactorsRead.Refused r) = r
-
-abbrev pub damRefusal : DamRead → Refusal
-damRefusal (DamRead.Found d) = refuse 0 0
-damRefusal (DamRead.Refused r) = r
-
-abbrev pub amountRefusal : AmountRead → Refusal
-amountRefusal (AmountRead.Found a) = refuse 0 0
-amountRefusal (AmountRead.Refused r) = r
-
-abbrev pub nitrificationRefusal : NitrificationRead → Refusal
-nitrificationRefusal (NitrificationRead.Found n) = refuse 0 0
-nitrificationRefusal (NitrificationRead.Refused r) = r
-
-abbrev pub reachRefusal : Reach → Refusal
-reachRefusal (Reach.Read c next) = refuse 0 0
-reachRefusal (Reach.Refused r) = r

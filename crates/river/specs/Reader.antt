@@ -1,4 +1,4 @@
--- The reader's progress through a file.
+-- A reach as the program reads it, and the reader's progress through a file.
 use mathlib.Core.Path.{_≡_}
 use mathlib.Core.List.{List, _++_}
 use Prim.Native.Nat.{ℕ, _+_, _-_, _≤_, _<_}
@@ -7,16 +7,21 @@ use Rattle.river.specs.declared.card.Card.{Card}
 use Rattle.river.specs.declared.card.RateFactors.{RateFactors}
 use Rattle.river.specs.declared.card.RateFactors.the-variants.{AsGiven}
 use Rattle.river.specs.declared.refusal.Outcome.{Outcome}
-use Rattle.river.specs.declared.refusal.Refusal.{Refusal}
-use Rattle.river.specs.declared.read.Reach.{Reach}
+use Rattle.river.specs.declared.read.ReachRead.{ReachRead}
 use Rattle.river.specs.declared.reader.Progress.{Progress}
-use Rattle.river.specs.Read.{readReach, reachOf, readReaches, readFile}
-use Rattle.river.specs.Refusal.{Answer, accepted, refused}
+use Rattle.river.specs.Card.{sizeOf}
+use Rattle.river.specs.Read.{readReach, readReaches, readFile}
+use Rattle.river.specs.Refusal.{Answer, accepted, refused, outcomeOf}
 use Rattle.river.specs.River.{River, riverOf}
 
+-- reading a reach at a position yields an answer: the card, with the position behind its records, or the refusal
+pub record YieldsReach (at : ℕ) (a : Answer Card) (r : ReachRead) : Type 0 where
+  pub answer : outcomeOf (r .outcome) (r .card) ≡ a
+  pub place : r .outcome ≡ Outcome.Accepted → r .next ≡ at + sizeOf (r .card)
+
 -- a refusal, after which no reach is due
-abbrev pub haltedAt : List Card → Refusal → Progress
-haltedAt at r = record { outcome = Outcome.Refused r; at = at; count = 0; read = 0; next = 0; factors = AsGiven }
+abbrev pub haltedAt : List Card → Outcome → Progress
+haltedAt at outcome = record { outcome = outcome; at = at; count = 0; read = 0; next = 0; factors = AsGiven }
 
 -- the river of some factors, some cards and then those of an answer
 abbrev pub withCards : RateFactors → List Card → Answer (List Card) → Answer River
@@ -42,6 +47,6 @@ pub record ReadingIsOver (s : List ℕ) (p : Progress) : Type 0 where
   pub none-due : p .count ≤ p .read
 
 -- one reach more, from one progress to the next, with fewer reaches due
-pub record Takes (p : Progress) (x : Reach) (q : Progress) : Type 0 where
-  pub goes : (s : List ℕ) → ReadingGoesOn s p → x ≡ reachOf (p .next) (readReach (p .count) (p .read + 1) (drop (p .next) s)) → ReadingGoesOn s q
+pub record Advances (p : Progress) (x : ReachRead) (q : Progress) : Type 0 where
+  pub goes : (s : List ℕ) → ReadingGoesOn s p → YieldsReach (p .next) (readReach (p .count) (p .read + 1) (drop (p .next) s)) x → ReadingGoesOn s q
   pub fewer : q .count - q .read < p .count - p .read

@@ -2,12 +2,17 @@
 ghost use mathlib.Core.Path.{_≡_};
 ghost use Prim.Native.Nat.{_<_, _^_};
 ghost use lib.ListN.{drop};
-ghost use Rattle.river.specs.Card.{reachBytes, optional};
-ghost use Rattle.river.specs.Fields.{numberAt};
+ghost use Rattle.river.specs.declared.card.Amount.the-variants.{Without};
+ghost use Rattle.river.specs.declared.card.Dam.the-variants.{Absent};
+ghost use Rattle.river.specs.declared.card.Nitrification.the-variants.{Idle};
+ghost use Rattle.river.specs.declared.card.RateFactors.the-variants.{AsGiven};
+ghost use Rattle.river.specs.Card.{optional, valuesOf, withValues};
 ghost use Rattle.river.specs.Optional.{absent, readOptional, readOptionals};
+ghost use Rattle.river.specs.Refusal.{accepted, after, outcomeOf, goOn};
+ghost use Rattle.river.specs.Fields.{numberAt};
 ghost use Rattle.river.specs.Records.{damRecord, nitrificationRecord, factorsRecord, widthOf, amountRecord};
-ghost use Rattle.river.specs.Refusal.{accepted, after};
-ghost use Rattle.river.specs.Read.{readHeader, headerOf, headerRefusal, factorsReadOf, factorsRefusal, cardAt, damOf, damRefusal, amountOf, amountRefusal, nitrificationOf, nitrificationRefusal, readReach, reachOf, reachRefusal};
+ghost use Rattle.river.specs.Read.{readHeader, cardAt, readReach};
+ghost use Rattle.river.specs.Reader.{YieldsReach};
 use crate::bytes::behind;
 use crate::bytes::byte_at;
 use crate::bytes::four_at;
@@ -29,6 +34,7 @@ use crate::card::RateFactors;
 use crate::card::SLUDGE;
 use crate::card::TAKE;
 use crate::card::amount_size;
+use crate::card::blank;
 use crate::card::dam_size;
 use crate::card::layout_size;
 use crate::card::no_optionals;
@@ -41,83 +47,111 @@ use crate::range::factors_in_range;
 use crate::range::in_range;
 use crate::range::nitrification_in_range;
 use crate::range::outlet_ok;
-use crate::refusal::Refusal;
+use crate::refusal::Outcome;
 use crate::refusal::refuse;
 
-// What reading the header finds: the reach count and the next position, or a refusal.
-pub enum Header {
-    Count { count: u8, next: usize },
-    Refused(Refusal),
+// What reading the header answers: the reach count, 0 beside a refusal.
+pub struct HeaderRead {
+    pub outcome: Outcome,
+    pub count: u8,
 }
 
-// What reading the rate factors finds: the factors, or a refusal.
-pub enum FactorsRead {
-    Found(RateFactors),
-    Refused(Refusal),
+// What reading the rate factors answers: none beside a refusal.
+pub struct FactorsRead {
+    pub outcome: Outcome,
+    pub factors: RateFactors,
 }
 
-// What reading a dam finds: the dam, or a refusal.
-pub enum DamRead {
-    Found(Dam),
-    Refused(Refusal),
+// What reading a dam answers: none beside a refusal.
+pub struct DamRead {
+    pub outcome: Outcome,
+    pub dam: Dam,
 }
 
-// What reading an amount finds: the amount, or a refusal.
-pub enum AmountRead {
-    Found(Amount),
-    Refused(Refusal),
+// What reading an amount answers: none beside a refusal.
+pub struct AmountRead {
+    pub outcome: Outcome,
+    pub amount: Amount,
 }
 
-// What reading a nitrification finds: the nitrification, or a refusal.
-pub enum NitrificationRead {
-    Found(Nitrification),
-    Refused(Refusal),
+// What reading a nitrification answers: none beside a refusal.
+pub struct NitrificationRead {
+    pub outcome: Outcome,
+    pub nitrification: Nitrification,
 }
 
-// What reading a reach finds: its card and the next position, or a refusal.
-pub enum Reach {
-    Read { card: Card, next: usize },
-    Refused(Refusal),
+// What reading the records behind an `RE` record answers: a dam and optional fields, those that come before it beside a refusal.
+pub struct OptionalsRead {
+    pub outcome: Outcome,
+    pub dam: Dam,
+    pub optionals: Optionals,
+}
+
+// What reading a reach answers: its card and the next position, a blank card and 0 beside a refusal.
+pub struct ReachRead {
+    pub outcome: Outcome,
+    pub card: Card,
+    pub next: usize,
+}
+
+// An outcome, and no reach count.
+fn no_count(outcome: Outcome) -> HeaderRead
+    ensures { λ r. ⌜ outcomeOf (r .outcome) (r .count) ≡ outcomeOf outcome 0 ⌝ }
+{
+    HeaderRead { outcome, count: 0 }
 }
 
 // The header of a file: refusals 1, 2 and 3, or the reach count.
-pub fn read_header(file: &[u8]) -> Header
-    ensures { λ r. ⌜ r ≡ headerOf (readHeader (now (file .entry))) ⌝ }
+pub fn read_header(file: &[u8]) -> HeaderRead
+    ensures { λ r. ⌜ outcomeOf (r .outcome) (r .count) ≡ readHeader (now (file .entry)) ⌝ }
 {
     if file.len() < HEADER_BYTES {
-        return Header::Refused(refuse(1, 0));
+        return no_count(Outcome::Refused(refuse(1, 0)));
     }
     if !marked(file, b'R', b'V') {
-        return Header::Refused(refuse(2, 0));
+        return no_count(Outcome::Refused(refuse(2, 0)));
     }
     let count = two_at(file, 2);
     if !count_ok(count as usize) {
-        return Header::Refused(refuse(3, 0));
+        return no_count(Outcome::Refused(refuse(3, 0)));
     }
-    Header::Count {
+    HeaderRead {
+        outcome: Outcome::Accepted,
         count: count as u8,
-        next: HEADER_BYTES,
+    }
+}
+
+// An outcome, and no rate factors.
+fn no_factors(outcome: Outcome) -> FactorsRead
+    ensures { λ r. ⌜ outcomeOf (r .outcome) (r .factors) ≡ outcomeOf outcome AsGiven ⌝ }
+{
+    FactorsRead {
+        outcome,
+        factors: RateFactors::AsGiven,
     }
 }
 
 // The rate factors in the `TH` record at the start, if there is one: refusals 1 and 4.
 pub fn read_factors(s: &[u8]) -> FactorsRead
-    ensures { λ r. ⌜ r ≡ factorsReadOf (readOptional factorsRecord 0 (now (s .entry))) ⌝ }
+    ensures { λ r. ⌜ outcomeOf (r .outcome) (r .factors) ≡ readOptional factorsRecord 0 (now (s .entry)) ⌝ }
 {
     if !marked(s, b'T', b'H') {
-        return FactorsRead::Found(RateFactors::AsGiven);
+        return no_factors(Outcome::Accepted);
     }
     if s.len() < FACTORS_BYTES {
-        return FactorsRead::Refused(refuse(1, 0));
+        return no_factors(Outcome::Refused(refuse(1, 0)));
     }
     let factors = RateFactors::PerDegree {
         decay: two_at(s, 2),
         aeration: two_at(s, 4),
     };
     if !factors_in_range(factors) {
-        return FactorsRead::Refused(refuse(4, 0));
+        return no_factors(Outcome::Refused(refuse(4, 0)));
     }
-    FactorsRead::Found(factors)
+    FactorsRead {
+        outcome: Outcome::Accepted,
+        factors,
+    }
 }
 
 // The card in an `RE` record, without the records that may follow.
@@ -140,24 +174,37 @@ fn card_at(s: &[u8]) -> Card
     }
 }
 
+// An outcome, and no dam.
+fn no_dam(outcome: Outcome) -> DamRead
+    ensures { λ r. ⌜ outcomeOf (r .outcome) (r .dam) ≡ outcomeOf outcome Absent ⌝ }
+{
+    DamRead {
+        outcome,
+        dam: Dam::Absent,
+    }
+}
+
 // The dam in the `DM` record at the start, if there is one: refusals 1 and 4.
 pub fn read_dam(s: &[u8], reach: u8) -> DamRead
-    ensures { λ r. ⌜ r ≡ damOf (readOptional damRecord reach (now (s .entry))) ⌝ }
+    ensures { λ r. ⌜ outcomeOf (r .outcome) (r .dam) ≡ readOptional damRecord reach (now (s .entry)) ⌝ }
 {
     if !marked(s, b'D', b'M') {
-        return DamRead::Found(Dam::Absent);
+        return no_dam(Outcome::Accepted);
     }
     if s.len() < DAM_BYTES {
-        return DamRead::Refused(refuse(1, reach));
+        return no_dam(Outcome::Refused(refuse(1, reach)));
     }
     let dam = Dam::Aerating {
         share: two_at(s, 2),
         generating: four_at(s, 4),
     };
     if !dam_in_range(dam) {
-        return DamRead::Refused(refuse(4, reach));
+        return no_dam(Outcome::Refused(refuse(4, reach)));
     }
-    DamRead::Found(dam)
+    DamRead {
+        outcome: Outcome::Accepted,
+        dam,
+    }
 }
 
 // The number in a record of one number.
@@ -171,32 +218,62 @@ fn number_at(s: &[u8], wide: bool) -> u32
     }
 }
 
-// The amount in a layout's record at the start, if there is one: refusals 1 and 4.
-pub(crate) fn read_amount(s: &[u8], reach: u8, layout: Layout) -> AmountRead
-    ensures { λ r. ⌜ r ≡ amountOf (readOptional (amountRecord layout) reach (now (s .entry))) ⌝ }
+// An outcome, and no amount.
+fn no_amount(outcome: Outcome) -> AmountRead
+    ensures { λ r. ⌜ outcomeOf (r .outcome) (r .amount) ≡ outcomeOf outcome Without ⌝ }
 {
+    AmountRead {
+        outcome,
+        amount: Amount::Without,
+    }
+}
+
+// The amount in a layout's record at the start, if there is one: the refusal of the records before it, or refusals 1 and 4.
+pub(crate) fn read_amount(before: Outcome, s: &[u8], reach: u8, layout: Layout) -> AmountRead
+    ensures { λ r. ⌜ outcomeOf (r .outcome) (r .amount) ≡ goOn before (readOptional (amountRecord layout) reach (now (s .entry))) ⌝ }
+{
+    let Outcome::Accepted = before else {
+        return no_amount(before);
+    };
     if !marked(s, layout.first, layout.second) {
-        return AmountRead::Found(Amount::Without);
+        return no_amount(Outcome::Accepted);
     }
     if s.len() < layout_size(layout) {
-        return AmountRead::Refused(refuse(1, reach));
+        return no_amount(Outcome::Refused(refuse(1, reach)));
     }
     let amount = Amount::Given(number_at(s, layout.wide));
     if !amount_in_range(layout, amount) {
-        return AmountRead::Refused(refuse(4, reach));
+        return no_amount(Outcome::Refused(refuse(4, reach)));
     }
-    AmountRead::Found(amount)
+    AmountRead {
+        outcome: Outcome::Accepted,
+        amount,
+    }
 }
 
-// The nitrification in the `NT` record at the start, if there is one: refusals 1 and 4, the latter also where its last four bytes are not all 0.
-pub fn read_nitrification(s: &[u8], reach: u8) -> NitrificationRead
-    ensures { λ r. ⌜ r ≡ nitrificationOf (readOptional nitrificationRecord reach (now (s .entry))) ⌝ }
+// An outcome, and no nitrification.
+fn no_nitrification(outcome: Outcome) -> NitrificationRead
+    ensures { λ r. ⌜ outcomeOf (r .outcome) (r .nitrification) ≡ outcomeOf outcome Idle ⌝ }
 {
+    NitrificationRead {
+        outcome,
+        nitrification: Nitrification::Idle,
+    }
+}
+
+// The nitrification in the `NT` record at the start, if there is one: the refusal of the records before it, or refusals 1 and 4, the latter also
+// where its last four bytes are not all 0.
+pub fn read_nitrification(before: Outcome, s: &[u8], reach: u8) -> NitrificationRead
+    ensures { λ r. ⌜ outcomeOf (r .outcome) (r .nitrification) ≡ goOn before (readOptional nitrificationRecord reach (now (s .entry))) ⌝ }
+{
+    let Outcome::Accepted = before else {
+        return no_nitrification(before);
+    };
     if !marked(s, b'N', b'T') {
-        return NitrificationRead::Found(Nitrification::Idle);
+        return no_nitrification(Outcome::Accepted);
     }
     if s.len() < NITRIFICATION_BYTES {
-        return NitrificationRead::Refused(refuse(1, reach));
+        return no_nitrification(Outcome::Refused(refuse(1, reach)));
     }
     let nitrification = Nitrification::Nitrifying {
         rate: two_at(s, 2) as u32,
@@ -204,142 +281,113 @@ pub fn read_nitrification(s: &[u8], reach: u8) -> NitrificationRead
         load: four_at(s, 8),
     };
     if !nitrification_in_range(nitrification) {
-        return NitrificationRead::Refused(refuse(4, reach));
+        return no_nitrification(Outcome::Refused(refuse(4, reach)));
     }
     if four_at(s, 12) != 0 {
-        return NitrificationRead::Refused(refuse(4, reach));
+        return no_nitrification(Outcome::Refused(refuse(4, reach)));
     }
-    NitrificationRead::Found(nitrification)
+    NitrificationRead {
+        outcome: Outcome::Accepted,
+        nitrification,
+    }
 }
 
-// The card at a position, whose `RE` record stands at the start, with the records that follow.
-fn read_card(s: &[u8], at: usize, reach: u8) -> Reach
-    requires { ⌜ at < 2 ^ 63 ⌝ }
-    ensures { λ r. ⌜ r ≡ reachOf at (after (readOptionals optional reach (drop reachBytes (now (s .entry)))) (λ vs. accepted (cardAt (now (s .entry)) vs))) ⌝ }
+// The records that may follow an `RE` record, each at the start of what the one before it leaves: the first refusal is the answer.
+fn read_optionals(s: &[u8], reach: u8) -> OptionalsRead
+    ensures { λ r. ⌜ outcomeOf (r .outcome) (valuesOf (r .dam) (r .optionals)) ≡ readOptionals optional reach (now (s .entry)) ⌝ }
 {
-    let rest = behind(s, REACH_BYTES);
-    let found = read_dam(rest, reach);
-    let DamRead::Found(dam) = found else {
-        return Reach::Refused(dam_refusal(found));
-    };
-    let rest = behind(rest, dam_size(dam));
-    let found = read_amount(rest, reach, TAKE);
-    let AmountRead::Found(take) = found else {
-        return Reach::Refused(amount_refusal(found));
-    };
+    let found = read_dam(s, reach);
+    let dam = found.dam;
+    let outcome = found.outcome;
+    let rest = behind(s, dam_size(dam));
+    let found = read_amount(outcome, rest, reach, TAKE);
+    let take = found.amount;
+    let outcome = found.outcome;
     let rest = behind(rest, amount_size(TAKE, take));
-    let found = read_amount(rest, reach, PRESSURE);
-    let AmountRead::Found(pressure) = found else {
-        return Reach::Refused(amount_refusal(found));
-    };
+    let found = read_amount(outcome, rest, reach, PRESSURE);
+    let pressure = found.amount;
+    let outcome = found.outcome;
     let rest = behind(rest, amount_size(PRESSURE, pressure));
-    let found = read_amount(rest, reach, SLUDGE);
-    let AmountRead::Found(sludge) = found else {
-        return Reach::Refused(amount_refusal(found));
-    };
+    let found = read_amount(outcome, rest, reach, SLUDGE);
+    let sludge = found.amount;
+    let outcome = found.outcome;
     let rest = behind(rest, amount_size(SLUDGE, sludge));
-    let found = read_nitrification(rest, reach);
-    let NitrificationRead::Found(nitrification) = found else {
-        return Reach::Refused(nitrification_refusal(found));
-    };
+    let found = read_nitrification(outcome, rest, reach);
+    let nitrification = found.nitrification;
+    let outcome = found.outcome;
     let optionals = Optionals {
         take,
         pressure,
         sludge,
         nitrification,
     };
-    let card = with_optionals(dam, optionals, card_at(s));
-    let next = at + size_of(card);
-    Reach::Read { card, next }
+    OptionalsRead {
+        outcome,
+        dam,
+        optionals,
+    }
 }
 
-// A reach at the start, at a position of the file: refusals 1, 2, 4 and 5, then the records that follow.
-fn read_here(s: &[u8], at: usize, count: u8, reach: u8) -> Reach
+// An outcome, and no reach.
+fn no_reach(outcome: Outcome) -> ReachRead
+    ensures { λ r. ⌜ r .outcome ≡ outcome ⌝ }
+{
+    let card = blank();
+    ReachRead {
+        outcome,
+        card,
+        next: 0,
+    }
+}
+
+// The card of an `RE` record at a position, with the records behind it.
+fn read_card(card: Card, s: &[u8], at: usize, reach: u8) -> ReachRead
     requires { ⌜ at < 2 ^ 63 ⌝ }
-    ensures { λ r. ⌜ r ≡ reachOf at (readReach count reach (now (s .entry))) ⌝ }
+    ensures { λ r. ⌜ YieldsReach at (after (readOptionals optional reach (now (s .entry))) (λ vs. accepted (withValues vs card))) r ⌝ }
+{
+    let read = read_optionals(s, reach);
+    let outcome = read.outcome;
+    let Outcome::Accepted = outcome else {
+        return no_reach(outcome);
+    };
+    let dam = read.dam;
+    let optionals = read.optionals;
+    let card = with_optionals(dam, optionals, card);
+    let next = at + size_of(card);
+    ReachRead {
+        outcome,
+        card,
+        next,
+    }
+}
+
+// A reach at the start, at a position of the file: refusals 1, 2, 4 and 5, then the records behind its `RE` record.
+fn read_here(s: &[u8], at: usize, count: u8, reach: u8) -> ReachRead
+    requires { ⌜ at < 2 ^ 63 ⌝ }
+    ensures { λ r. ⌜ YieldsReach at (readReach count reach (now (s .entry))) r ⌝ }
 {
     if s.len() < REACH_BYTES {
-        return Reach::Refused(refuse(1, reach));
+        return no_reach(Outcome::Refused(refuse(1, reach)));
     }
     if !marked(s, b'R', b'E') {
-        return Reach::Refused(refuse(2, reach));
+        return no_reach(Outcome::Refused(refuse(2, reach)));
     }
     let card = card_at(s);
     if !in_range(card) {
-        return Reach::Refused(refuse(4, reach));
+        return no_reach(Outcome::Refused(refuse(4, reach)));
     }
     if !outlet_ok(count, reach, card.outlet) {
-        return Reach::Refused(refuse(5, reach));
+        return no_reach(Outcome::Refused(refuse(5, reach)));
     }
-    read_card(s, at, reach)
+    read_card(card, behind(s, REACH_BYTES), at, reach)
 }
 
 // The reach at a position of a file.
-pub fn read_reach(file: &[u8], at: usize, count: u8, reach: u8) -> Reach
-    ensures { λ r. ⌜ r ≡ reachOf at (readReach count reach (drop at (now (file .entry)))) ⌝ }
+pub fn read_reach(file: &[u8], at: usize, count: u8, reach: u8) -> ReachRead
+    ensures { λ r. ⌜ YieldsReach at (readReach count reach (drop at (now (file .entry)))) r ⌝ }
 {
     if file.len() < at {
-        return Reach::Refused(refuse(1, reach));
+        return no_reach(Outcome::Refused(refuse(1, reach)));
     }
     read_here(behind(file, at), at, count, reach)
-}
-
-// The refusal in an answer about the header.
-pub fn header_refusal(answer: Header) -> Refusal
-    ensures { λ r. ⌜ r ≡ headerRefusal answer ⌝ }
-{
-    match answer {
-        Header::Refused(r) => r,
-        Header::Count { count: _, next: _ } => refuse(0, 0),
-    }
-}
-
-// The refusal in an answer about the rate factors.
-pub fn factors_refusal(answer: FactorsRead) -> Refusal
-    ensures { λ r. ⌜ r ≡ factorsRefusal answer ⌝ }
-{
-    match answer {
-        FactorsRead::Refused(r) => r,
-        FactorsRead::Found(_) => refuse(0, 0),
-    }
-}
-
-// The refusal in an answer about a dam.
-fn dam_refusal(answer: DamRead) -> Refusal
-    ensures { λ r. ⌜ r ≡ damRefusal answer ⌝ }
-{
-    match answer {
-        DamRead::Refused(r) => r,
-        DamRead::Found(_) => refuse(0, 0),
-    }
-}
-
-// The refusal in an answer about an amount.
-fn amount_refusal(answer: AmountRead) -> Refusal
-    ensures { λ r. ⌜ r ≡ amountRefusal answer ⌝ }
-{
-    match answer {
-        AmountRead::Refused(r) => r,
-        AmountRead::Found(_) => refuse(0, 0),
-    }
-}
-
-// The refusal in an answer about a nitrification.
-fn nitrification_refusal(answer: NitrificationRead) -> Refusal
-    ensures { λ r. ⌜ r ≡ nitrificationRefusal answer ⌝ }
-{
-    match answer {
-        NitrificationRead::Refused(r) => r,
-        NitrificationRead::Found(_) => refuse(0, 0),
-    }
-}
-
-// The refusal in an answer about a reach.
-pub fn reach_refusal(answer: Reach) -> Refusal
-    ensures { λ r. ⌜ r ≡ reachRefusal answer ⌝ }
-{
-    match answer {
-        Reach::Refused(r) => r,
-        Reach::Read { card: _, next: _ } => refuse(0, 0),
-    }
 }

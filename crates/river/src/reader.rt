@@ -3,25 +3,20 @@
 ghost use mathlib.Core.Path.{_≡_};
 ghost use Prim.Native.Nat.{_<_, _≤_};
 ghost use lib.ListN.{drop};
-ghost use Rattle.river.specs.Read.{readReach, reachOf};
-ghost use Rattle.river.specs.Reader.{haltedAt, ReadingGoesOn, ReadingIsOver, Takes};
+ghost use Rattle.river.specs.Read.{readReach};
+ghost use Rattle.river.specs.Reader.{YieldsReach, haltedAt, ReadingGoesOn, ReadingIsOver, Advances};
 use crate::bytes::behind;
 use crate::card::Card;
+use crate::card::HEADER_BYTES;
 use crate::card::REACHES;
 use crate::card::RateFactors;
 use crate::card::blank;
 use crate::card::factors_size;
-use crate::read::FactorsRead;
-use crate::read::Header;
-use crate::read::Reach;
-use crate::read::factors_refusal;
-use crate::read::header_refusal;
-use crate::read::reach_refusal;
+use crate::read::ReachRead;
 use crate::read::read_factors;
 use crate::read::read_header;
 use crate::read::read_reach;
 use crate::refusal::Outcome;
-use crate::refusal::Refusal;
 
 // A file, and how far it has been read.
 pub struct Reader<'a> {
@@ -48,8 +43,8 @@ impl<'a> Reader<'a> {
     }
 
     // The next reach, of so many, with the position behind it, or the refusal.
-    pub fn next(self, count: u8, reach: u8) -> Reach
-        ensures { λ x. ⌜ x ≡ reachOf (self .entry .at) (readReach count reach (drop (self .entry .at) (now (self .entry .file)))) ⌝ }
+    pub fn next(self, count: u8, reach: u8) -> ReachRead
+        ensures { λ x. ⌜ YieldsReach (self .entry .at) (readReach count reach (drop (self .entry .at) (now (self .entry .file)))) x ⌝ }
     {
         read_reach(self.file, self.at, count, reach)
     }
@@ -66,11 +61,11 @@ impl<'a> Reader<'a> {
 }
 
 // A refusal, after which no reach is due.
-fn halted(at: [Card; REACHES], r: Refusal) -> Progress
-    ensures { λ p. ⌜ p ≡ haltedAt at r ⌝ }
+fn halted(at: [Card; REACHES], outcome: Outcome) -> Progress
+    ensures { λ p. ⌜ p ≡ haltedAt at outcome ⌝ }
 {
     Progress {
-        outcome: Outcome::Refused(r),
+        outcome,
         at,
         count: 0,
         read: 0,
@@ -86,43 +81,48 @@ pub fn begin(file: &[u8]) -> Progress
     let none = blank();
     let at = [none; REACHES];
     let header = read_header(file);
-    let Header::Count { count, next } = header else {
-        return halted(at, header_refusal(header));
+    let outcome = header.outcome;
+    let Outcome::Accepted = outcome else {
+        return halted(at, outcome);
     };
-    let found = read_factors(behind(file, next));
-    let FactorsRead::Found(factors) = found else {
-        return halted(at, factors_refusal(found));
+    let found = read_factors(behind(file, HEADER_BYTES));
+    let outcome = found.outcome;
+    let Outcome::Accepted = outcome else {
+        return halted(at, outcome);
     };
+    let factors = found.factors;
     Progress {
-        outcome: Outcome::Accepted,
+        outcome,
         at,
-        count,
+        count: header.count,
         read: 0,
-        next: next + factors_size(factors),
+        next: HEADER_BYTES + factors_size(factors),
         factors,
     }
 }
 
 // One reach more: its card, or the refusal, after which no reach is due.
-pub fn take(p: Progress, reach: Reach) -> Progress
+pub fn advance(p: Progress, reach: ReachRead) -> Progress
     requires { ⌜ (p .read < p .count) × (p .count ≤ 128) ⌝ }
-    ensures { λ q. ⌜ Takes p reach q ⌝ }
+    ensures { λ q. ⌜ Advances p reach q ⌝ }
 {
     let mut at = p.at;
     let count = p.count;
     let read = p.read;
     let factors = p.factors;
-    let Reach::Read { card, next } = reach else {
-        return halted(at, reach_refusal(reach));
+    let outcome = reach.outcome;
+    let Outcome::Accepted = outcome else {
+        return halted(at, outcome);
     };
     let k = read as usize;
+    let card = reach.card;
     at[k] = card;
     Progress {
-        outcome: Outcome::Accepted,
+        outcome,
         at,
         count,
         read: read + 1,
-        next,
+        next: reach.next,
         factors,
     }
 }
@@ -135,7 +135,7 @@ pub fn read_cards(file: &[u8], mut p: Progress) -> Progress
     let mut reader = Reader::new(file);
     while p.read < p.count {
         reader = reader.moved(p.next);
-        p = take(p, reader.next(p.count, p.read + 1));
+        p = advance(p, reader.next(p.count, p.read + 1));
     }
     p
 }

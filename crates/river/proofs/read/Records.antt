@@ -10,13 +10,15 @@ use lib.ListN.{length, drop}
 use lib.Seq.{drop-at}
 use borrow.Author.Tests.{le-leb, leb-true}
 use Rattle.river.specs.Bytes.{AreBytes, byteAt}
-use Rattle.river.specs.Card.{RatesInRange, LawfulCard, RE, withOptionals, optional, optionalOf, optionalsOf, inRange, outletOk, sizeOf}
-use Rattle.river.specs.Optional.{Values, absent, encodeOptionals}
+use Rattle.river.specs.Card.{RatesInRange, LawfulCard, RE, reachBytes, optional, optionalOf, withValues, inRange, outletOk, sizeOf}
+use Rattle.river.specs.Optional.{Values, absent, readOptionals, encodeOptionals}
 use Rattle.river.specs.Read.{cardAt, readReach}
+use Rattle.river.specs.Reader.{YieldsReach}
 use Rattle.river.specs.Records.{rateMost}
-use Rattle.river.specs.Refusal.{accepted}
+use Rattle.river.specs.Refusal.{accepted, after}
 use Rattle.river.specs.Write.{encodeReach, encodeCard}
 use Rattle.river.specs.declared.card.Card.{Card}
+use Rattle.river.specs.declared.read.ReachRead.{ReachRead}
 use Rattle.river.proofs.Answers.{need-true, after-accepted, passed, went}
 use Rattle.river.proofs.bytes.Numbers.{HasMark, true-marked, twoBytes-twoAt, narrowBytes-twoAt, fourBytes-fourAt, fourAt-below, bytesFrom, leads-spelled, leads-more, are-bytes-drop}
 use Rattle.river.proofs.range.Ranges.{inRange-true, lawful-card, lawful-optionals}
@@ -28,10 +30,11 @@ inRange-cardAt : (s : List ℕ) (vs ws : Values optional) → inRange (cardAt s 
 unfolding inRange cardAt
 inRange-cardAt s vs ws = refl
 
--- the card of an `RE` record gets what it holds of them
-pub with-values : (s : List ℕ) (vs : Values optional) → withOptionals (vs .0) (optionalsOf vs) (cardAt s (absent optional)) ≡ cardAt s vs
+-- the records that follow are put into the card of an `RE` record
+pub put-into : {at : ℕ} (i : ℕ) (s : List ℕ) {rest : List ℕ} {c : Card} {x : ReachRead} → rest ≡ drop reachBytes s → c ≡ cardAt s (absent optional)
+    → YieldsReach at (after (readOptionals optional i rest) (λ vs. accepted (withValues vs c))) x → YieldsReach at (after (readOptionals optional i (drop reachBytes s)) (λ vs. accepted (cardAt s vs))) x
 unfolding cardAt
-with-values s vs = refl
+put-into i s e f y = record { answer = y .answer ∙ rw (e, f); place = y .place }
 
 -- Reading what was encoded.
 

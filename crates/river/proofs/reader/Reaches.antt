@@ -9,20 +9,19 @@ use lib.ListN.{length, take, drop, set, length-drop}
 use lib.Seq.{take-suc-set, drop-drop, append-snoc}
 use borrow.Author.Tests.{eq-eqb, ne-eqb}
 use Rattle.river.specs.Optional.{readOptional}
-use Rattle.river.specs.Read.{readHeader, headerOf, readReach, readReaches, readFile}
+use Rattle.river.specs.Read.{readHeader, readReach, readReaches, readFile}
 use Rattle.river.specs.Reader.{haltedAt, withCards, continued, ReadingGoesOn}
 use Rattle.river.specs.Refusal.{Answer, accepted, refused, refuse, after}
 use Rattle.river.specs.River.{River, riverOf}
 use Rattle.river.specs.Records.{factorsRecord}
 use Rattle.river.specs.declared.card.Card.{Card}
 use Rattle.river.specs.declared.card.RateFactors.{RateFactors}
-use Rattle.river.specs.declared.read.Header.{Header}
 use Rattle.river.specs.declared.refusal.Outcome.{Outcome}
 use Rattle.river.specs.declared.reader.Progress.{Progress}
 use Rattle.river.specs.declared.refusal.Refusal.{Refusal}
 use Rattle.river.proofs.Answers.{need-true, need-false, after-accepted, after-refused}
-use Rattle.river.proofs.read.Steps.{header-counted, header-few, file-rest, rest-reaches}
-use Rattle.river.specs.Card.{sizeOf}
+use Rattle.river.proofs.read.Steps.{header-few, file-rest, rest-reaches}
+use Rattle.river.specs.Card.{headerBytes, sizeOf}
 
 joined-nil : (f : RateFactors) (x : Answer (List Card)) → after x (λ cs. accepted (riverOf f cs)) ≡ withCards f [] x
 unfolding after
@@ -59,9 +58,9 @@ left-over n i h = omega arith
 
 module _ (s : List ℕ) where
   -- a refusal, after which no reach is due
-  pub halted : {at : List Card} {r : Refusal} {p : Progress} → p ≡ haltedAt at r → readFile s ≡ refused r → ReadingGoesOn s p
-  halted e f =
-      rw e
+  pub halted : {at : List Card} {o : Outcome} {r : Refusal} {p : Progress} → p ≡ haltedAt at o → o ≡ Outcome.Refused r → readFile s ≡ refused r → ReadingGoesOn s p
+  halted e g f =
+      rw (e, g)
       (record {
         few = omega arith;
         most = omega arith;
@@ -70,13 +69,14 @@ module _ (s : List ℕ) where
       })
 
   -- the header and the rate factors are read
-  pub begun : (at : List Card) {n next k : ℕ} {rest : List ℕ} {f : RateFactors} → headerOf (readHeader s) ≡ Header.Count n next → rest ≡ drop next s → readOptional factorsRecord 0 rest ≡ accepted f
-      → k ≡ length (factorsRecord .encode f) → ReadingGoesOn s (record { outcome = Outcome.Accepted; at = at; count = n; read = 0; next = next + k; factors = f })
-  begun at {n} {next} {k} {rest} {f} e behind found size =
+  pub begun : (at : List Card) {n k : ℕ} {rest : List ℕ} {f : RateFactors} {o : Outcome} → readHeader s ≡ accepted n → rest ≡ drop headerBytes s → readOptional factorsRecord 0 rest ≡ accepted f
+      → k ≡ length (factorsRecord .encode f) → o ≡ Outcome.Accepted → ReadingGoesOn s (record { outcome = o; at = at; count = n; read = 0; next = headerBytes + k; factors = f })
+  begun at {n} {k} {rest} {f} e behind found size is =
       let same : n ≡ n - 0 = omega arith in
-      let place : drop (length (factorsRecord .encode f)) rest ≡ drop (next + k) s = rw (behind, ← size) (drop-drop k next s) in
-      record {
-        few = header-few s (header-counted (readHeader s) e .0);
+      let place : drop (length (factorsRecord .encode f)) rest ≡ drop (headerBytes + k) s = rw (behind, ← size) (drop-drop k headerBytes s) in
+      rw is
+      (record {
+        few = header-few s e;
         most = omega arith;
         opened = λ _. refl;
         rest =
@@ -84,7 +84,7 @@ module _ (s : List ℕ) where
             rest-reaches n rest found ∙
             joined-nil f (readReaches n 1 n (drop (length (factorsRecord .encode f)) rest)) ∙
             λ j. withCards f [] (readReaches n 1 (same j) (place j));
-      }
+      })
 
   module _ {p : Progress} (g : ReadingGoesOn s p) where
     -- the answer for m reaches that are due, and the file's, by an answer for the reaches that are still to be read
@@ -98,15 +98,16 @@ module _ (s : List ℕ) where
     going : {o : Outcome} → p .outcome ≡ o → readFile s ≡ continued o (p .factors) (take (p .read) (p .at)) (due (p .count - p .read))
     going e = g .rest ∙ ap (λ (o : Outcome). continued o (p .factors) (take (p .read) (p .at)) (due (p .count - p .read))) e
 
-    pub one-more : {c : Card} {k : ℕ} → p .read < p .count → length (p .at) ≡ 128 → readReach (p .count) (p .read + 1) (drop (p .next) s) ≡ accepted c → k ≡ p .next + sizeOf c
-        → ReadingGoesOn s (record { outcome = Outcome.Accepted; at = set (p .at) (p .read) c; count = p .count; read = p .read + 1; next = k; factors = p .factors })
-    one-more {c} {k} less room e f =
-        record {
+    pub one-more : {c : Card} {k : ℕ} {o : Outcome} → p .read < p .count → length (p .at) ≡ 128 → readReach (p .count) (p .read + 1) (drop (p .next) s) ≡ accepted c → k ≡ p .next + sizeOf c
+        → o ≡ Outcome.Accepted → ReadingGoesOn s (record { outcome = o; at = set (p .at) (p .read) c; count = p .count; read = p .read + 1; next = k; factors = p .factors })
+    one-more {c} {k} less room e f is =
+        rw is
+        (record {
           few = g .few;
           most = omega arith;
           opened = λ _. refl;
           rest = going (g .opened less) ∙ rest₁ ∙ rest₂ ∙ rest₃;
-        }
+        })
       where
         m : ℕ
         m = p .count - (p .read + 1)

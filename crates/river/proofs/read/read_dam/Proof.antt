@@ -1,5 +1,6 @@
 -- `river::read::read_dam` meets its contract: each return follows from the tests before it.
 -- Assumes nothing.
+use mathlib.Core.Path.{_∙_}
 use borrow.Author.Needs.{needs}
 use borrow.Author.Tests.{le-leb, lt-leb, not-true, not-false}
 use Rattle.river.specs.Optional.{readOptional}
@@ -9,41 +10,50 @@ use Rattle.river.proofs.read.read_dam.Tie as tie
 
 returns : tie.Need-returns
 unfolding readOptional choose
-returns c = rw (← c .before .marked .ensures, not-true (c .before .marked .result) (c .if1 .taken))
+returns c =
+    let m = c .before in
+    c .no-dam .ensures ∙ rw (← m .before .marked .ensures, not-true (m .before .marked .result) (m .if1 .taken))
 
 returns-2 : tie.Need-returns-2
 unfolding readOptional need choose
 returns-2 c =
-    let e1 = c .before .before in
-    rw (c .refuse .ensures, ← e1 .before .marked .ensures, not-false (e1 .before .marked .result) (e1 .if1 .left), lt-leb _ _ (c .before .if2 .taken))
+    let e = c .before in
+    let e1 = e .before .before in
+    c .no-dam2 .ensures ∙
+    rw (e .refuse .ensures, ← e1 .before .marked .ensures, not-false (e1 .before .marked .result) (e1 .if1 .left), lt-leb _ _ (e .before .if2 .taken))
 
 returns-3 : tie.Need-returns-3
 unfolding readOptional need choose
 returns-3 c =
-    let dam = c .before .before in
-    let e2 = dam .before .before .before in
+    let e = c .before in
+    let r = e .before .before in
+    let e2 = r .before .before .before in
     let e1 = e2 .before in
-    rw (c .refuse2 .ensures, ← e1 .before .marked .ensures, not-false (e1 .before .marked .result) (e1 .if1 .left), le-leb _ _ (e2 .if2 .left), ← dam .before .before .two-at .ensures, ← dam .before .four-at .ensures, ← dam .dam-in-range .ensures, not-true (dam .dam-in-range .result) (c .before .if3 .taken))
+    c .no-dam3 .ensures ∙
+    rw (e .refuse2 .ensures, ← e1 .before .marked .ensures, not-false (e1 .before .marked .result) (e1 .if1 .left), le-leb _ _ (e2 .if2 .left), ← r .before .before .two-at .ensures, ← r .before .four-at .ensures, ← r .dam-in-range .ensures, not-true (r .dam-in-range .result) (e .before .if3 .taken))
 
 returns-4 : tie.Need-returns-4
 unfolding readOptional need choose
 returns-4 c =
-    let dam = c .before in
-    let e2 = dam .before .before .before in
+    let r = c .before in
+    let e2 = r .before .before .before in
     let e1 = e2 .before in
-    rw (← e1 .before .marked .ensures, not-false (e1 .before .marked .result) (e1 .if1 .left), le-leb _ _ (e2 .if2 .left), ← dam .before .before .two-at .ensures, ← dam .before .four-at .ensures, ← dam .dam-in-range .ensures, not-false (dam .dam-in-range .result) (c .if3 .left))
+    rw (← e1 .before .marked .ensures, not-false (e1 .before .marked .result) (e1 .if1 .left), le-leb _ _ (e2 .if2 .left), ← r .before .before .two-at .ensures, ← r .before .four-at .ensures, ← r .dam-in-range .ensures, not-false (r .dam-in-range .result) (c .if3 .left))
 
 pub read-dam-spec : {M : Type 1} → statement M
 read-dam-spec =
     tie.close
     (tie.spec
     (λ marked-requires. search needs)
+    (λ no-dam-requires. search needs)
     returns
     (λ refuse-requires. search needs)
+    (λ no-dam-requires-2. search needs)
     returns-2
     (λ two-at-requires. search needs)
     (λ four-at-requires. search needs)
     (λ dam-in-range-requires. search needs)
     (λ refuse-requires-2. search needs)
+    (λ no-dam-requires-3. search needs)
     returns-3
     returns-4)

@@ -12,23 +12,27 @@ use Rattle.river.proofs.read.read_header.Tie as tie
 
 returns : tie.Need-returns
 unfolding readHeader need
-returns c = rw (c .refuse .ensures, lt-leb _ _ (c .before .if1 .taken))
+returns c = let e = c .before in c .no-count .ensures ∙ rw (e .refuse .ensures, lt-leb _ _ (e .before .if1 .taken))
 
 returns-2 : tie.Need-returns-2
 unfolding readHeader need
 returns-2 c =
-    let m = c .before .before in
-    rw (c .refuse2 .ensures, le-leb _ _ (m .before .if1 .left), ← m .marked .ensures, not-true (m .marked .result) (c .before .if2 .taken))
+    let e = c .before in
+    let m = e .before .before in
+    c .no-count2 .ensures ∙
+    rw (e .refuse2 .ensures, le-leb _ _ (m .before .if1 .left), ← m .marked .ensures, not-true (m .marked .result) (e .before .if2 .taken))
 
 returns-3 : tie.Need-returns-3
 unfolding readHeader need
 returns-3 c =
-    let n = c .before .before in
+    let e = c .before in
+    let n = e .before .before in
     let e2 = n .before .before in
-    rw (c .refuse3 .ensures, le-leb _ _ (e2 .before .before .if1 .left), ← e2 .before .marked .ensures, not-false (e2 .before .marked .result) (e2 .if2 .left), ← n .before .two-at .ensures, ← n .count-ok .ensures, not-true (n .count-ok .result) (c .before .if3 .taken))
+    c .no-count3 .ensures ∙
+    rw (e .refuse3 .ensures, le-leb _ _ (e2 .before .before .if1 .left), ← e2 .before .marked .ensures, not-false (e2 .before .marked .result) (e2 .if2 .left), ← n .before .two-at .ensures, ← n .count-ok .ensures, not-true (n .count-ok .result) (e .before .if3 .taken))
 
-cast-t9 : tie.Need-cast-t9
-cast-t9 c = omega (arith, true-countOk (c .before .before .two-at .result) (sym (c .before .count-ok .ensures) ∙ not-false (c .before .count-ok .result) (c .if3 .left)))
+cast-t13 : tie.Need-cast-t13
+cast-t13 c = omega (arith, true-countOk (c .before .before .two-at .result) (sym (c .before .count-ok .ensures) ∙ not-false (c .before .count-ok .result) (c .if3 .left)))
 
 returns-4 : tie.Need-returns-4
 unfolding readHeader need
@@ -42,14 +46,17 @@ read-header-spec =
     tie.close
     (tie.spec
     (λ refuse-requires. search needs)
+    (λ no-count-requires. search needs)
     returns
     (λ marked-requires. search needs)
     (λ refuse-requires-2. search needs)
+    (λ no-count-requires-2. search needs)
     returns-2
     (λ two-at-requires. search needs)
     (λ cast-count-ok. search needs)
     (λ count-ok-requires. search needs)
     (λ refuse-requires-3. search needs)
+    (λ no-count-requires-3. search needs)
     returns-3
-    cast-t9
+    cast-t13
     returns-4)

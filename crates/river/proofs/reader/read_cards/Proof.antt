@@ -35,7 +35,6 @@ use denote.Ref.{RefT, NamedLft, now}
 use denote.Signature.{plain, namedLft}
 use denote.Slice.{sliceVal, ShrSlice, slice-vals, shr-slice-tells, shr-slice-lawful, shr-slice-copy}
 use denote.Steps.{only, owned, peeks, heard, nothing}
-use denote.Enum.Laws as EL
 use denote.Struct.Laws as LL
 use denote.Struct.Rest.{own-shut}
 use denote.Triple.Statement.{Contract, Triple}
@@ -46,14 +45,14 @@ use denote.Triple.Table.{entered, cited}
 use denote.Triple.Walked.{says, needs, Stays, stay-none-slice, stay-dropped, walkOf, goes-none-slice, goes-dropped, Walks, ends-at, walked, walk-meets}
 use denote.Exit.{yes}
 use denote.Triple.Clauses.{ensured, lasts}
-use Rattle.river.specs.Read.{readReach, reachOf}
-use Rattle.river.specs.Reader.{ReadingGoesOn, ReadingIsOver, Takes}
-use Rattle.river.specs.declared.read.Reach.{Reach}
+use Rattle.river.specs.Read.{readReach}
+use Rattle.river.specs.Reader.{YieldsReach, ReadingGoesOn, ReadingIsOver, Advances}
+use Rattle.river.specs.declared.read.ReachRead.{ReachRead}
 use Rattle.river.specs.declared.reader.Progress.{Progress}
 use Rattle.river.specs.declared.reader.Reader.{Reader}
 use Rattle.river.proofs.Walks.Locals.{type-of, of-local, of-field, empty, holds, cells, free}
-use Rattle.river.proofs.read.Reach as Rc
-use Rattle.river.proofs.read.Reach.Laws as Rc′
+use Rattle.river.proofs.read.ReachRead as Rc
+use Rattle.river.proofs.read.ReachRead.Laws as Rc′
 use Rattle.river.proofs.reader.Progress as P
 use Rattle.river.proofs.reader.Progress.Laws as P′
 use Rattle.river.proofs.reader.Reader as T
@@ -70,10 +69,10 @@ use Rattle.river.proofs.reader.Reader.moved as moved
 use Rattle.river.proofs.reader.Reader.moved.Symbol as moved-def
 use Rattle.river.proofs.reader.Reader.moved.Symbol.{name as #river·moved}
 use Rattle.river.proofs.reader.Reader.moved.Met as moved-thm
-use Rattle.river.proofs.reader.take as taking
-use Rattle.river.proofs.reader.take.Symbol as taking-def
-use Rattle.river.proofs.reader.take.Symbol.{name as #river·take}
-use Rattle.river.proofs.reader.take.Met as taking-thm
+use Rattle.river.proofs.reader.advance as advance
+use Rattle.river.proofs.reader.advance.Symbol as advance-def
+use Rattle.river.proofs.reader.advance.Symbol.{name as #river·advance}
+use Rattle.river.proofs.reader.advance.Met as advance-thm
 use Rattle.river.proofs.reader.read_cards.Key.{name as #river·read-cards}
 use Rattle.river.proofs.reader.read_cards as cards
 use Rattle.river.proofs.reader.read_cards.Statement as stated
@@ -107,15 +106,15 @@ module _ {M : Type 1} (𝓤 : URA M) (H : Heap 𝓤) (A : Atoms 𝓤) (mem : Mem
   abbrev Moved : Contract 𝓤
   Moved = tripleOf 𝓤 H A moved.signature (moved.spec 𝓤 H A mem run)
 
-  abbrev Take : Contract 𝓤
-  Take = tripleOf 𝓤 H A taking.signature (taking.spec 𝓤 H A mem run)
+  abbrev Advance : Contract 𝓤
+  Advance = tripleOf 𝓤 H A advance.signature (advance.spec 𝓤 H A mem run)
 
   -- each callee's contract, at its entry of the table of calls
   record Known (C : Calls 𝓤 H) : Type 2 where
     makes : Triple 𝓤 (C #river·new) New
     nexts : Triple 𝓤 (C #river·next) Next
     moves : Triple 𝓤 (C #river·moved) Moved
-    takes : Triple 𝓤 (C #river·take) Take
+    advances : Triple 𝓤 (C #river·advance) Advance
 
 module _ {M : Type 1} (𝓤 : URA M) (H : Heap 𝓤) (A : Atoms 𝓤) (W : Given 𝓤 H A) (mem : Memory → SProp 𝓤) (run : Routine → Fun 𝓤) (κ : Lft) (q : Share) (s : RefT (List ℕ)) (p₀ : Progress) where
   -- the machine value that s has
@@ -196,22 +195,22 @@ module _ {M : Type 1} (𝓤 : URA M) (H : Heap 𝓤) (A : Atoms 𝓤) (W : Given
       nothing ! $ owned ! u8 (Is u8) (uint-makes 𝓤 H A W w8) i _ (refl, i-fits) $ fjoin ! $ owned ! u8 (Is u8) (uint-makes 𝓤 H A W w8) c _ (refl, c-fits) $ fjoin ! $ move ! (1 ∷ 0 ∷ []) $ fjoin ! $ move ! (2 ∷ 0 ∷ []) $
       use2 W (raw (Next 𝓤 H A mem run .pre (to-next n c i))) (qed W (Tok ∷ ‵ (owns (B (κ, tt) ∷ u8 ∷ u8 ∷ []) (mk n, (c, (i, tt))) (T′.lowered (mk n) ∷ [], (vint w8 c ∷ [], (vint w8 i ∷ [], tt)))) ∷ []) ∵ join ! $ frame ! $ done !) $ frame ! $ done !
 
-  abbrev there : ℕ → ℕ → ℕ → Reach
-  there n c i = reachOf n (readReach c i (dropped n (now s)))
+  abbrev There : ℕ → ℕ → ℕ → ReachRead → Type 0
+  There n c i = YieldsReach n (readReach c i (dropped n (now s)))
 
-  next-said : (n c i : ℕ) (x : Reach) → ent 𝓤 (ensured 𝓤 H A next.ended (next.clauses 𝓤 H A mem run) (κ, tt) (mk n, (c, (i, tt))) tt x) (fact 𝓤 (x ≡ there n c i))
-  next-said n c i x = exE 𝓤 _ (λ ws. snd∗ 𝓤 (sem 𝓤 H A (lasts next.ended (κ, tt) (mk n, (c, (i, tt))) ws)) (fact 𝓤 (x ≡ there n c i)))
+  next-said : (n c i : ℕ) (x : ReachRead) → ent 𝓤 (ensured 𝓤 H A next.ended (next.clauses 𝓤 H A mem run) (κ, tt) (mk n, (c, (i, tt))) tt x) (fact 𝓤 (There n c i x))
+  next-said n c i x = exE 𝓤 _ (λ ws. snd∗ 𝓤 (sem 𝓤 H A (lasts next.ended (κ, tt) (mk n, (c, (i, tt))) ws)) (fact 𝓤 (There n c i x)))
 
-  abbrev to-take : Progress → Reach → Val → Take 𝓤 H A mem run .Ghost
-  to-take p x u = ((tt, tt, tt, (p, (x, tt)), (P′.lowered p ∷ [], (u ∷ [], tt))), tt)
+  abbrev to-advance : Progress → ReachRead → Val → Advance 𝓤 H A mem run .Ghost
+  to-advance p x u = ((tt, tt, tt, (p, (x, tt)), (P′.lowered p ∷ [], (u ∷ [], tt))), tt)
 
-  goes-take : (p : Progress) (x : Reach) (u : Val) → IsLowered p → p .read < p .count → p .count ≤ 128 → ent 𝓤 (sem 𝓤 H A (Rc.the-row .own x (u ∷ []))) (Take 𝓤 H A mem run .pre (to-take p x u))
-  goes-take p x u ok less few =
+  goes-advance : (p : Progress) (x : ReachRead) (u : Val) → IsLowered p → p .read < p .count → p .count ≤ 128 → ent 𝓤 (sem 𝓤 H A (Rc.the-row .own x (u ∷ []))) (Advance 𝓤 H A mem run .pre (to-advance p x u))
+  goes-advance p x u ok less few =
       qed W (‵ (Rc.the-row .own x (u ∷ [])) ∷ []) ∵ says ! (less, few) $ nothing ! $ move ! (1 ∷ 0 ∷ []) $ fjoin ! $
       owned ! P.the-row (Is P.the-row) (LL.makes P.the-type P′.the-plain 𝓤 H A) p (P′.lowered p ∷ []) ok $ fjoin ! $ nothing ! $ frame ! $ done !
 
-  take-said : (p : Progress) (x : Reach) (r : Progress) → ent 𝓤 (ensured 𝓤 H A taking.ended (taking.clauses 𝓤 H A mem run) tt (p, (x, tt)) tt r) (fact 𝓤 (Takes p x r))
-  take-said p x r = exE 𝓤 _ (λ ws. snd∗ 𝓤 (sem 𝓤 H A (lasts taking.ended tt (p, (x, tt)) ws)) (fact 𝓤 (Takes p x r)))
+  advance-said : (p : Progress) (x : ReachRead) (r : Progress) → ent 𝓤 (ensured 𝓤 H A advance.ended (advance.clauses 𝓤 H A mem run) tt (p, (x, tt)) tt r) (fact 𝓤 (Advances p x r))
+  advance-said p x r = exE 𝓤 _ (λ ws. snd∗ 𝓤 (sem 𝓤 H A (lasts advance.ended tt (p, (x, tt)) ws)) (fact 𝓤 (Advances p x r)))
 
   exits : (y : Progress) → IsLowered y → ReadingIsOver (now s) y → ent 𝓤 (⋆ 𝓤 H A (Tok ∷ ‵ Own ∷ [])) (Post (P′.lowered y))
   exits y ok e =
@@ -295,15 +294,15 @@ module _ {M : Type 1} (𝓤 : URA M) (H : Heap 𝓤) (A : Atoms 𝓤) (W : Given
           assigns ! (bin ! (of-field ! 14 refl tt) (lit ! tt) (record { fits = one })) (from ! (stop !)) (init ! 2 refl (tt, record { fits = one })) $
           use2 W (raw (Next 𝓤 H A mem run .pre (to-next (p .next) (p .count) (p .read + 1))) ⊛ ‵ Own) (goes-next (p .next) (p .count) (p .read + 1) here (wt .1 .1 .1 .0 .fits) one) $ split ! $
           calls-at ! fm (Next 𝓤 H A mem run) (known .nexts) (to-next (p .next) (p .count) (p .read + 1)) (and-then ! (of-local ! 4 refl) (and-then ! (of-field ! 14 refl tt) (and-then ! (of-local ! 2 refl) (no-more !)))) (λ u.
-          use1 W (later (some (λ (r : Reach). (Tok ⊛ ‵ (Rc.the-row .own r (u ∷ []))) ⊛ raw (ensured 𝓤 H A next.ended (next.clauses 𝓤 H A mem run) (κ, tt) (mk (p .next), (p .count, (p .read + 1, tt))) tt r)))) (id⊢ 𝓤 _) $ await ! tt $ pick ! (λ r.
-          split ! $ move ! (1 ∷ []) $ use1 W (raw (fact 𝓤 (r ≡ there (p .next) (p .count) (p .read + 1)))) (next-said (p .next) (p .count) (p .read + 1) r) $ heard ! (r ≡ there (p .next) (p .count) (p .read + 1)) (λ d. split ! $ move ! (1 ∷ []) $
+          use1 W (later (some (λ (r : ReachRead). (Tok ⊛ ‵ (Rc.the-row .own r (u ∷ []))) ⊛ raw (ensured 𝓤 H A next.ended (next.clauses 𝓤 H A mem run) (κ, tt) (mk (p .next), (p .count, (p .read + 1, tt))) tt r)))) (id⊢ 𝓤 _) $ await ! tt $ pick ! (λ r.
+          split ! $ move ! (1 ∷ []) $ use1 W (raw (fact 𝓤 (There (p .next) (p .count) (p .read + 1) r))) (next-said (p .next) (p .count) (p .read + 1) r) $ heard ! (There (p .next) (p .count) (p .read + 1) r) (λ d. split ! $ move ! (1 ∷ []) $
           -- [the reach; the token; what s owns; _8; …; _0; …]
           peeks ! Rc.the-row (Is Rc.the-row) (shows 𝓤 H A Rc.the-row) r (u ∷ []) (λ is.
-          land ! (from ! (stop !)) (init ! 7 refl (EL.lawful Rc.the-type Rc′.the-laws 𝓤 H A W tt .typed r _ is .0)) $
-          use1 W (raw (Take 𝓤 H A mem run .pre (to-take p r u))) (goes-take p r u (x .is-lowered) less (x .goes .few)) $
-          calls-at-last ! fm (Take 𝓤 H A mem run) (known .takes) (to-take p r u) (and-then ! (of-local ! 15 refl) (and-then ! (of-local ! 7 refl) (no-more !))) (λ w.
-          use1 W (later (some (λ (y : Progress). (‵ ftrue ⊛ ‵ (P.the-row .own y (w ∷ []))) ⊛ raw (ensured 𝓤 H A taking.ended (taking.clauses 𝓤 H A mem run) tt (p, (r, tt)) tt y)))) (id⊢ 𝓤 _) $ await ! tt $ pick ! (λ y.
-          split ! $ move ! (1 ∷ []) $ use1 W (raw (fact 𝓤 (Takes p r y))) (take-said p r y) $ heard ! (Takes p r y) (λ f. split ! $ drop ! $
+          land ! (from ! (stop !)) (init ! 7 refl (LL.lawful Rc.the-type Rc′.the-laws 𝓤 H A W .typed r _ is .0)) $
+          use1 W (raw (Advance 𝓤 H A mem run .pre (to-advance p r u))) (goes-advance p r u (x .is-lowered) less (x .goes .few)) $
+          calls-at-last ! fm (Advance 𝓤 H A mem run) (known .advances) (to-advance p r u) (and-then ! (of-local ! 15 refl) (and-then ! (of-local ! 7 refl) (no-more !))) (λ w.
+          use1 W (later (some (λ (y : Progress). (‵ ftrue ⊛ ‵ (P.the-row .own y (w ∷ []))) ⊛ raw (ensured 𝓤 H A advance.ended (advance.clauses 𝓤 H A mem run) tt (p, (r, tt)) tt y)))) (id⊢ 𝓤 _) $ await ! tt $ pick ! (λ y.
+          split ! $ move ! (1 ∷ []) $ use1 W (raw (fact 𝓤 (Advances p r y))) (advance-said p r y) $ heard ! (Advances p r y) (λ f. split ! $ drop ! $
           -- [the new progress; the token; what s owns; _8; …; _0; …]
           peeks ! P.the-row (Is P.the-row) (shows 𝓤 H A P.the-row) y (w ∷ []) (λ isp.
           let x′ : State = record { at = y; goes = f .goes (now s) (x .goes) d; is-lowered = subst (Is P.the-row y) (spelled y w isp) isp; place = p .next; fits = here } in
@@ -357,5 +356,5 @@ read-cards-spec 𝓤 H 𝓜 𝓖 𝓡 =
       makes = cited 𝓤 H (New 𝓤 H (𝓖 .A) (𝓜 .mem) (𝓡 .run)) 𝓜 𝓡 code.env #river·new new-def.routine code.calls-river·reader·Reader·new (new-thm.met 𝓤 H 𝓜 𝓖 𝓡);
       nexts = cited 𝓤 H (Next 𝓤 H (𝓖 .A) (𝓜 .mem) (𝓡 .run)) 𝓜 𝓡 code.env #river·next next-def.routine code.calls-river·reader·Reader·next (next-thm.met 𝓤 H 𝓜 𝓖 𝓡);
       moves = cited 𝓤 H (Moved 𝓤 H (𝓖 .A) (𝓜 .mem) (𝓡 .run)) 𝓜 𝓡 code.env #river·moved moved-def.routine code.calls-river·reader·Reader·moved (moved-thm.met 𝓤 H 𝓜 𝓖 𝓡);
-      takes = cited 𝓤 H (Take 𝓤 H (𝓖 .A) (𝓜 .mem) (𝓡 .run)) 𝓜 𝓡 code.env #river·take taking-def.routine code.calls-river·reader·take (taking-thm.met 𝓤 H 𝓜 𝓖 𝓡);
+      advances = cited 𝓤 H (Advance 𝓤 H (𝓖 .A) (𝓜 .mem) (𝓡 .run)) 𝓜 𝓡 code.env #river·advance advance-def.routine code.calls-river·reader·advance (advance-thm.met 𝓤 H 𝓜 𝓖 𝓡);
     }))

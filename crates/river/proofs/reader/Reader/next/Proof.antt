@@ -29,7 +29,6 @@ use denote.Ref.{now}
 use denote.Signature.{namedLft}
 use denote.Slice.{sliceVal, ShrSlice}
 use denote.Steps.{owned, peeks, heard, nothing}
-use denote.Enum.Laws as EL
 use denote.Struct.Declared.{Declared}
 use denote.Struct.Laws as LL
 use denote.Struct.Rest.{all-own, ownAt, rest, own-open, own-out}
@@ -42,11 +41,12 @@ use denote.Triple.Table.{entered, cited}
 use denote.Triple.Walked.{says, Stays, stay-none, walkOf, goes-none, Walks, ends-at, walked, walk-meets}
 use denote.Exit.{yes}
 use denote.Triple.Clauses.{ensured, lasts}
-use Rattle.river.specs.Read.{readReach, reachOf}
-use Rattle.river.specs.declared.read.Reach.{Reach}
+use Rattle.river.specs.Read.{readReach}
+use Rattle.river.specs.Reader.{YieldsReach}
+use Rattle.river.specs.declared.read.ReachRead.{ReachRead}
 use Rattle.river.specs.declared.reader.Reader.{Reader}
-use Rattle.river.proofs.read.Reach as S
-use Rattle.river.proofs.read.Reach.Laws as S′
+use Rattle.river.proofs.read.ReachRead as S
+use Rattle.river.proofs.read.ReachRead.Laws as S′
 use Rattle.river.proofs.read.read_reach as reach
 use Rattle.river.proofs.read.read_reach.Symbol as reach-def
 use Rattle.river.proofs.read.read_reach.Symbol.{name as #river·read-reach}
@@ -88,8 +88,9 @@ module _ {M : Type 1} (𝓤 : URA M) (H : Heap 𝓤) (A : Atoms 𝓤) (W : Given
   abbrev vals : Vals next.signature (κ, tt)
   vals = (mach ∷ [], (vint w8 n ∷ [], (vint w8 i ∷ [], tt)))
 
-  abbrev found : Reach
-  found = reachOf (d .at) (readReach n i (dropped (d .at) (now (d .file))))
+  -- what the callee says of its result
+  abbrev Found : ReachRead → Type 0
+  Found = YieldsReach (d .at) (readReach n i (dropped (d .at) (now (d .file))))
 
   abbrev Post : Val → SProp 𝓤
   Post = walkOf 𝓤 H A next.ended stayed (next.clauses 𝓤 H A mem run) .post (((κ, tt), (q, tt), tt, a, vals), tt)
@@ -129,10 +130,10 @@ module _ {M : Type 1} (𝓤 : URA M) (H : Heap 𝓤) (A : Atoms 𝓤) (W : Given
       move ! (2 ∷ 0 ∷ []) $ use2 W (raw (ReadReach 𝓤 H A mem run .pre to)) asked $ frame ! $ done !)
 
   -- of the callee's `ensured`, the clause alone: it has no `&mut`, so what is said of last values is dropped
-  said : (r : Reach) → ent 𝓤 (ensured 𝓤 H A reach.ended (reach.clauses 𝓤 H A mem run) (κ, tt) (d .file, (d .at, (n, (i, tt)))) tt r) (fact 𝓤 (r ≡ found))
-  said r = exE 𝓤 _ (λ ws. snd∗ 𝓤 (sem 𝓤 H A (lasts reach.ended (κ, tt) (d .file, (d .at, (n, (i, tt)))) ws)) (fact 𝓤 (r ≡ found)))
+  said : (r : ReachRead) → ent 𝓤 (ensured 𝓤 H A reach.ended (reach.clauses 𝓤 H A mem run) (κ, tt) (d .file, (d .at, (n, (i, tt)))) tt r) (fact 𝓤 (Found r))
+  said r = exE 𝓤 _ (λ ws. snd∗ 𝓤 (sem 𝓤 H A (lasts reach.ended (κ, tt) (d .file, (d .at, (n, (i, tt)))) ws)) (fact 𝓤 (Found r)))
 
-  exits : (r : Reach) (u : Val) → r ≡ found → ent 𝓤 (⋆ 𝓤 H A (‵ (S.the-row .own r (u ∷ [])) ∷ (‵ (flft κ q) ⊛ ‵ ftrue) ∷ ‵ Own ∷ [])) (Post u)
+  exits : (r : ReachRead) (u : Val) → Found r → ent 𝓤 (⋆ 𝓤 H A (‵ (S.the-row .own r (u ∷ [])) ∷ (‵ (flft κ q) ⊛ ‵ ftrue) ∷ ‵ Own ∷ [])) (Post u)
   exits r u e =
       qed W (‵ (S.the-row .own r (u ∷ [])) ∷ (‵ (flft κ q) ⊛ ‵ ftrue) ∷ ‵ Own ∷ []) ∵
       suffices ! _ (ends-at 𝓤 H A next.ended stayed (next.clauses 𝓤 H A mem run) W (((κ, tt), (q, tt), tt, a, vals), tt) u r (tt, (tt, (tt, tt))) (tt, (tt, (tt, tt)))) $ says ! e $
@@ -147,11 +148,11 @@ module _ {M : Type 1} (𝓤 : URA M) (H : Heap 𝓤) (A : Atoms 𝓤) (W : Given
         assigns ! (of-opd ! (of-field ! 8 refl tt)) (from ! (stop !)) (init ! 0 refl (tt, wt .1 .1 .0)) $
         move ! (12 ∷ []) $ use1 W (raw (ReadReach 𝓤 H A mem run .pre to) ⊛ ‵ Own) (apart (wt .1 .1 .0 .fits)) $ split ! $
         calls-at ! fm (ReadReach 𝓤 H A mem run) known to (and-then ! (of-local ! 4 refl) (and-then ! (of-local ! 2 refl) (and-then ! (of-local ! 8 refl) (and-then ! (of-local ! 6 refl) (no-more !))))) (λ u.
-        use1 W (later (some (λ (r : Reach). ((‵ (flft κ q) ⊛ ‵ ftrue) ⊛ ‵ (S.the-row .own r (u ∷ []))) ⊛ raw (ensured 𝓤 H A reach.ended (reach.clauses 𝓤 H A mem run) (κ, tt) (d .file, (d .at, (n, (i, tt)))) tt r)))) (id⊢ 𝓤 _) $ await ! tt $ pick ! (λ r.
-        split ! $ move ! (1 ∷ []) $ use1 W (raw (fact 𝓤 (r ≡ found))) (said r) $ heard ! (r ≡ found) (λ e. split ! $ move ! (1 ∷ []) $
+        use1 W (later (some (λ (r : ReachRead). ((‵ (flft κ q) ⊛ ‵ ftrue) ⊛ ‵ (S.the-row .own r (u ∷ []))) ⊛ raw (ensured 𝓤 H A reach.ended (reach.clauses 𝓤 H A mem run) (κ, tt) (d .file, (d .at, (n, (i, tt)))) tt r)))) (id⊢ 𝓤 _) $ await ! tt $ pick ! (λ r.
+        split ! $ move ! (1 ∷ []) $ use1 W (raw (fact 𝓤 (Found r))) (said r) $ heard ! (Found r) (λ e. split ! $ move ! (1 ∷ []) $
         -- [the result; the token; what the struct owns; _5; …; _4; …; _3; …; _2; …; _1; …; room for _0; …]
         peeks ! S.the-row (Is S.the-row) (shows 𝓤 H A S.the-row) r (u ∷ []) (λ is.
-        land ! (from ! (stop !)) (init ! 13 refl (EL.lawful S.the-type S′.the-laws 𝓤 H A W tt .typed r _ is .0)) $
+        land ! (from ! (stop !)) (init ! 13 refl (LL.lawful S.the-type S′.the-laws 𝓤 H A W .typed r _ is .0)) $
         returns ! (look ! 13 refl) $ free ! 3 (holds u ∷ holds mach ∷ holds (vint w8 n) ∷ holds (vint w8 i) ∷ holds v ∷ holds (vint w64 (d .at)) ∷ []) refl $ by ! (exits r u e)))))))))))
 
 module _ {M : Type 1} (𝓤 : URA M) (H : Heap 𝓤) (A : Atoms 𝓤) (W : Given 𝓤 H A) (mem : Memory → SProp 𝓤) (run : Routine → Fun 𝓤) where
