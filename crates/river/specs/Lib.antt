@@ -10,6 +10,5 @@ pub mod Read
 pub mod Write
 pub mod Source
 pub mod File
-pub mod Reader
-pub mod Writer
 pub mod Rewrite
+pub mod held

@@ -1,6 +1,6 @@
 // Reading of a whole river file.
 ghost use Rattle.river.specs.Refusal.{Answer};
-ghost use Rattle.river.specs.Reader.{ReadingIsOver};
+ghost use Rattle.river.specs.held.Reader.{ReadingIsOver};
 ghost use Rattle.river.specs.File.{Yields, Reads};
 use crate::card::Cards;
 use crate::card::REACHES;

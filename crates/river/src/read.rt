@@ -12,7 +12,7 @@ ghost use Rattle.river.specs.Refusal.{accepted, after, outcomeOf, goOn};
 ghost use Rattle.river.specs.Fields.{numberAt};
 ghost use Rattle.river.specs.Records.{damRecord, nitrificationRecord, factorsRecord, widthOf, amountRecord};
 ghost use Rattle.river.specs.Read.{readHeader, cardAt, readReach};
-ghost use Rattle.river.specs.Reader.{YieldsReach};
+ghost use Rattle.river.specs.held.Reader.{YieldsReach};
 use crate::bytes::behind;
 use crate::bytes::byte_at;
 use crate::bytes::four_at;

@@ -4,7 +4,7 @@ ghost use mathlib.Core.Path.{_≡_};
 ghost use Prim.Native.Nat.{_<_, _≤_};
 ghost use lib.ListN.{drop};
 ghost use Rattle.river.specs.Read.{readReach};
-ghost use Rattle.river.specs.Reader.{YieldsReach, haltedAt, ReadingGoesOn, ReadingIsOver, Advances};
+ghost use Rattle.river.specs.held.Reader.{YieldsReach, haltedAt, ReadingGoesOn, ReadingIsOver, Advances};
 use crate::bytes::behind;
 use crate::card::Card;
 use crate::card::HEADER_BYTES;

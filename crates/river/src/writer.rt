@@ -4,7 +4,7 @@ ghost use mathlib.Core.Path.{_≡_};
 ghost use Prim.Native.Nat.{_+_, _*_, _≤_, _<_};
 ghost use lib.ListN.{length, take};
 ghost use Rattle.river.specs.Write.{checkCard, Writes};
-ghost use Rattle.river.specs.Writer.{stoppedAt, startChecking, nextChecking, ChecksAll, PutsStart, PutsNext};
+ghost use Rattle.river.specs.held.Writer.{stoppedAt, startChecking, nextChecking, ChecksAll, PutsStart, PutsNext};
 ghost use Rattle.river.specs.Card.{longestCard, sizeOf, cardList};
 ghost use Rattle.river.specs.River.{riverOf, openingSize, longestOpening};
 use crate::card::Card;

@@ -13,7 +13,7 @@ use Rattle.river.specs.Bytes.{AreBytes, byteAt}
 use Rattle.river.specs.Card.{RatesInRange, LawfulCard, RE, reachBytes, optional, optionalOf, withValues, inRange, outletOk, sizeOf}
 use Rattle.river.specs.Optional.{Values, absent, readOptionals, encodeOptionals}
 use Rattle.river.specs.Read.{cardAt, readReach}
-use Rattle.river.specs.Reader.{YieldsReach}
+use Rattle.river.specs.held.Reader.{YieldsReach}
 use Rattle.river.specs.Records.{rateMost}
 use Rattle.river.specs.Refusal.{accepted, after}
 use Rattle.river.specs.Write.{encodeReach, encodeCard}

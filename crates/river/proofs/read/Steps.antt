@@ -8,7 +8,7 @@ use Rattle.river.specs.Bytes.{twoAt}
 use Rattle.river.specs.Card.{headerBytes}
 use Rattle.river.specs.Optional.{readOptional}
 use Rattle.river.specs.Read.{readHeader, readReaches, readRest, readFile}
-use Rattle.river.specs.Reader.{YieldsReach}
+use Rattle.river.specs.held.Reader.{YieldsReach}
 use Rattle.river.specs.Refusal.{Answer, accepted, refused, after, outcomeOf}
 use Rattle.river.specs.River.{riverOf}
 use Rattle.river.specs.Records.{factorsRecord}

@@ -10,7 +10,7 @@ use lib.Seq.{take-suc-set, drop-drop, append-snoc}
 use borrow.Author.Tests.{eq-eqb, ne-eqb}
 use Rattle.river.specs.Optional.{readOptional}
 use Rattle.river.specs.Read.{readHeader, readReach, readReaches, readFile}
-use Rattle.river.specs.Reader.{haltedAt, withCards, continued, ReadingGoesOn}
+use Rattle.river.specs.held.Reader.{haltedAt, withCards, continued, ReadingGoesOn}
 use Rattle.river.specs.Refusal.{Answer, accepted, refused, refuse, after}
 use Rattle.river.specs.River.{River, riverOf}
 use Rattle.river.specs.Records.{factorsRecord}

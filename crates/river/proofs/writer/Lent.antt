@@ -17,7 +17,7 @@ use Rattle.river.specs.Refusal.{Answer, accepted, refused, need}
 use Rattle.river.specs.River.{River, openingSize, longestOpening}
 use Rattle.river.specs.Records.{factorsRecord}
 use Rattle.river.specs.Write.{encode, encodeOpening, checkCard, checkFrom, checkRiver, checkOf, writeAnswer, bufferWritten, Writes}
-use Rattle.river.specs.Writer.{stoppedAt, startFrom, startChecking, nextChecking, ChecksAll, Unput, PutsStart, PutsNext}
+use Rattle.river.specs.held.Writer.{stoppedAt, startFrom, startChecking, nextChecking, ChecksAll, Unput, PutsStart, PutsNext}
 use Rattle.river.specs.declared.card.Card.{Card}
 use Rattle.river.specs.declared.refusal.Refusal.{Refusal}
 use Rattle.river.specs.declared.refusal.Outcome.{Outcome}

@@ -46,7 +46,7 @@ use denote.Triple.Walked.{says, needs, Stays, stay-none-slice, stay-dropped, wal
 use denote.Exit.{yes}
 use denote.Triple.Clauses.{ensured, lasts}
 use Rattle.river.specs.Read.{readReach}
-use Rattle.river.specs.Reader.{YieldsReach, ReadingGoesOn, ReadingIsOver, Advances}
+use Rattle.river.specs.held.Reader.{YieldsReach, ReadingGoesOn, ReadingIsOver, Advances}
 use Rattle.river.specs.declared.read.ReachRead.{ReachRead}
 use Rattle.river.specs.declared.reader.Progress.{Progress}
 use Rattle.river.specs.declared.reader.Reader.{Reader}

@@ -46,7 +46,7 @@ use denote.Triple.Clauses.{ensured, lasts}
 use Rattle.river.specs.Card.{longestCard}
 use Rattle.river.specs.River.{River, riverOf, longestOpening}
 use Rattle.river.specs.Write.{checkCard}
-use Rattle.river.specs.Writer.{startChecking, nextChecking, ChecksAll}
+use Rattle.river.specs.held.Writer.{startChecking, nextChecking, ChecksAll}
 use Rattle.river.specs.declared.card.Card.{Card}
 use Rattle.river.specs.declared.card.RateFactors.{RateFactors}
 use Rattle.river.specs.declared.writer.Checking.{Checking}

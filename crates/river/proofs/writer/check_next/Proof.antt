@@ -5,7 +5,7 @@ use mathlib.Core.Path.{sym, ap, _∙_}
 use native.Mathlib.Omega.{arith}
 use Rattle.river.specs.Refusal.{Answer}
 use Rattle.river.specs.Write.{checkCard}
-use Rattle.river.specs.Writer.{nextChecking}
+use Rattle.river.specs.held.Writer.{nextChecking}
 use Rattle.river.specs.declared.refusal.Outcome.{Outcome}
 use Rattle.river.specs.declared.writer.Checking.{Checking}
 use Rattle.river.proofs.write.Passes.{passed-check, refused-check}

@@ -45,7 +45,7 @@ use denote.Triple.Walked.{says, Stays, stay-none-slice, stay-slice, stay-dropped
 use denote.Exit.{yes}
 use denote.Triple.Clauses.{ensured, lasts}
 use Rattle.river.specs.Write.{Writes}
-use Rattle.river.specs.Writer.{ChecksAll, PutsStart, PutsNext}
+use Rattle.river.specs.held.Writer.{ChecksAll, PutsStart, PutsNext}
 use Rattle.river.specs.declared.card.Card.{Card}
 use Rattle.river.specs.declared.card.RateFactors.{RateFactors}
 use Rattle.river.specs.declared.write.Written.{Written}

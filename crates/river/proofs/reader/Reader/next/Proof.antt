@@ -42,7 +42,7 @@ use denote.Triple.Walked.{says, Stays, stay-none, walkOf, goes-none, Walks, ends
 use denote.Exit.{yes}
 use denote.Triple.Clauses.{ensured, lasts}
 use Rattle.river.specs.Read.{readReach}
-use Rattle.river.specs.Reader.{YieldsReach}
+use Rattle.river.specs.held.Reader.{YieldsReach}
 use Rattle.river.specs.declared.read.ReachRead.{ReachRead}
 use Rattle.river.specs.declared.reader.Reader.{Reader}
 use Rattle.river.proofs.read.ReachRead as S

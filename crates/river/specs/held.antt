@@ -1,0 +1,3 @@
+-- What the program holds on the way. Nothing here has to be believed: laws tie it to the definitions above this folder.
+pub mod Reader
+pub mod Writer
