@@ -44,7 +44,7 @@ const NITRIFICATION: usize = 50;
 // The rate factors of a case.
 pub fn factors_in(case: &[u8]) -> RateFactors {
     if byte_at(case, HAS_FACTORS) == 0 {
-        return RateFactors::AsGiven;
+        return RateFactors::Absent;
     }
     RateFactors::PerDegree {
         decay: two_at(case, DECAY),
@@ -67,14 +67,14 @@ fn amount_in(card: &[u8], at: usize) -> Amount
     requires { ⌜ at < 61 ⌝ }
 {
     if byte_at(card, at) == 0 {
-        return Amount::Without;
+        return Amount::Absent;
     }
     Amount::Given(four_at(card, at + 1))
 }
 
 fn nitrification_in(card: &[u8]) -> Nitrification {
     if byte_at(card, NITRIFICATION) == 0 {
-        return Nitrification::Idle;
+        return Nitrification::Absent;
     }
     Nitrification::Nitrifying {
         rate: four_at(card, NITRIFICATION + 1),

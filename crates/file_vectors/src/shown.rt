@@ -61,14 +61,14 @@ fn dam(d: Dam) {
 // An optional record of one number.
 fn amount(name: &[u8], a: Amount) {
     match a {
-        Amount::Without => {}
+        Amount::Absent => {}
         Amount::Given(n) => numbers(name, &[n as u64]),
     }
 }
 
 fn nitrification(n: Nitrification) {
     match n {
-        Nitrification::Idle => {}
+        Nitrification::Absent => {}
         Nitrification::Nitrifying {
             rate,
             concentration,
@@ -116,7 +116,7 @@ fn card(c: Card) {
 // The rate factors of a river, on a line where there are some.
 fn rate_factors(f: RateFactors) {
     match f {
-        RateFactors::AsGiven => {}
+        RateFactors::Absent => {}
         RateFactors::PerDegree { decay, aeration } => {
             numbers(b"factors", &[decay as u64, aeration as u64]);
             end();

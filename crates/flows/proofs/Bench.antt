@@ -3,9 +3,9 @@ use mathlib.Core.Path.{_≡_, refl}
 use mathlib.Core.List.{List, [], _∷_}
 use Prim.Native.Nat.{ℕ, _*_}
 use lib.IntN.{pos}
-use Rattle.river.specs.declared.card.Dam.the-variants.{Absent}
+use Rattle.river.specs.declared.card.Dam.{Dam}
 use Rattle.river.specs.declared.card.Amount.{Amount}
-use Rattle.river.specs.declared.card.Amount.the-variants.{Without, Given}
+use Rattle.river.specs.declared.card.Amount.the-variants.{Given}
 use Rattle.river.specs.declared.card.Nitrification.{Nitrification}
 use Rattle.river.specs.declared.card.Nitrification.the-variants.{Nitrifying}
 use Rattle.river.specs.declared.card.Card.{Card}
@@ -29,74 +29,74 @@ use Rattle.flows.proofs.rates.Rows.{Rows as RateRows, rows as rate-rows
 use Rattle.flows.proofs.head.SaturationRows.{Rows as SaturationRows, rows as saturation-rows}
 
 abbrev pub drawn : (take-1 take-2 : Amount) → List Card
-drawn take-1 take-2 = first take-1 ∷ second Absent take-2 Without ∷ []
+drawn take-1 take-2 = first take-1 ∷ second Dam.Absent take-2 Amount.Absent ∷ []
 
 -- one reach with a nitrification, by its volume, inflow and inflow BOD
 abbrev ammonia : (volume inflow bod : ℕ) → Nitrification → List Card
-ammonia volume inflow bod nitrification = reach 0 0 volume inflow bod 0 0 Absent (withNitrification nitrification noOptionals) ∷ []
+ammonia volume inflow bod nitrification = reach 0 0 volume inflow bod 0 0 Dam.Absent (withNitrification nitrification noOptionals) ∷ []
 
 -- one reach with a sludge bed of 1,000 by its volume and take
 abbrev bed : (volume : ℕ) → Amount → List Card
-bed volume take = reach 0 0 volume 10000 0 0 0 Absent (withTake take (withSludge (Given 1000) noOptionals)) ∷ []
+bed volume take = reach 0 0 volume 10000 0 0 0 Dam.Absent (withTake take (withSludge (Given 1000) noOptionals)) ∷ []
 
 -- one reach by its k1, volume, inflow and take
 abbrev one : (k1 volume inflow : ℕ) → Amount → List Card
-one k1 volume inflow take = reach 0 k1 volume inflow 0 0 0 Absent (withTake take noOptionals) ∷ []
+one k1 volume inflow take = reach 0 k1 volume inflow 0 0 0 Dam.Absent (withTake take noOptionals) ∷ []
 
 -- one reach of 10,000 litres a second by its temperature, rates and volume, in a river with rate factors
 abbrev warm : (temperature k1 k2 volume : ℕ) → River
-warm temperature k1 k2 volume = riverOf (PerDegree 1_047 1_024) (reach-at temperature k2 0 k1 volume 10000 0 0 0 Absent noOptionals ∷ [])
+warm temperature k1 k2 volume = riverOf (PerDegree 1_047 1_024) (reach-at temperature k2 0 k1 volume 10000 0 0 0 Dam.Absent noOptionals ∷ [])
 
 -- one reach with Qm 3 and Mm 2,999,999
 abbrev full : Amount → List Card
-full take = reach 0 0 0 3 999_333 0 2 Absent (withTake take noOptionals) ∷ []
+full take = reach 0 0 0 3 999_333 0 2 Dam.Absent (withTake take noOptionals) ∷ []
 
 pub record Rows : Type 0 where
   pub saturation-rows : SaturationRows
-  pub accepted-two : flowCheck (two Absent) ≡ accepted (two Absent)
-  pub depth-1 : depthAt (two Absent) 1 ≡ 1
-  pub flow-1 : flowAt (two Absent) 1 ≡ 3000
-  pub bod-1 : headDemand (sourceOf Bod (first Without)) (fed (above (two Absent) 1)) (flowOf (above (two Absent) 1)) 0 ≡ 2000000
-  pub oxygen-1 : headOxygen (first Without) (fed (above (two Absent) 1)) (flowOf (above (two Absent) 1)) (pos 0) ≡ pos 8000000
-  pub depth-2 : depthAt (two Absent) 2 ≡ 2
-  pub flow-2 : flowAt (two Absent) 2 ≡ 4000
-  pub bod-2 : headDemand (sourceOf Bod (second Absent Without Without)) (fed (above (two Absent) 2)) (flowOf (above (two Absent) 2)) (3000 * 2000000) ≡ 9000000
-  pub oxygen-2 : headOxygen (second Absent Without Without) (fed (above (two Absent) 2)) (flowOf (above (two Absent) 2)) (pos (3000 * 8000000)) ≡ pos 6500000
+  pub accepted-two : flowCheck (two Dam.Absent) ≡ accepted (two Dam.Absent)
+  pub depth-1 : depthAt (two Dam.Absent) 1 ≡ 1
+  pub flow-1 : flowAt (two Dam.Absent) 1 ≡ 3000
+  pub bod-1 : headDemand (sourceOf Bod (first Amount.Absent)) (fed (above (two Dam.Absent) 1)) (flowOf (above (two Dam.Absent) 1)) 0 ≡ 2000000
+  pub oxygen-1 : headOxygen (first Amount.Absent) (fed (above (two Dam.Absent) 1)) (flowOf (above (two Dam.Absent) 1)) (pos 0) ≡ pos 8000000
+  pub depth-2 : depthAt (two Dam.Absent) 2 ≡ 2
+  pub flow-2 : flowAt (two Dam.Absent) 2 ≡ 4000
+  pub bod-2 : headDemand (sourceOf Bod (second Dam.Absent Amount.Absent Amount.Absent)) (fed (above (two Dam.Absent) 2)) (flowOf (above (two Dam.Absent) 2)) (3000 * 2000000) ≡ 9000000
+  pub oxygen-2 : headOxygen (second Dam.Absent Amount.Absent Amount.Absent) (fed (above (two Dam.Absent) 2)) (flowOf (above (two Dam.Absent) 2)) (pos (3000 * 8000000)) ≡ pos 6500000
   -- what comes down of a demand that reach 2 does not add to
-  pub nitrogenous-2 : headDemand (sourceOf Nitrogenous (second Absent Without Without)) (fed (above (two Absent) 2)) (flowOf (above (two Absent) 2)) (3000 * 2000000) ≡ 1500000
+  pub nitrogenous-2 : headDemand (sourceOf Nitrogenous (second Dam.Absent Amount.Absent Amount.Absent)) (fed (above (two Dam.Absent) 2)) (flowOf (above (two Dam.Absent) 2)) (3000 * 2000000) ≡ 1500000
   pub accepted-dam : flowCheck (two weir) ≡ accepted (two weir)
-  pub below-dam : belowDam (second weir Without Without) (fed (above (two weir) 2)) (flowOf (above (two weir) 2)) (pos 8000000) ≡ pos 8340602
-  pub oxygen-dam : headOxygen (second weir Without Without) (fed (above (two weir) 2)) (flowOf (above (two weir) 2)) (pos (3000 * 8000000)) ≡ pos 6755451
-  pub volume-passes : flowCheck (one 1000 3456000 10000 Without) ≡ accepted (one 1000 3456000 10000 Without)
-  pub volume-refused : flowCheck (one 1000 3456001 10000 Without) ≡ refused (refuse 11 1)
-  pub inflow-zero : flowCheck (one 0 0 0 Without) ≡ refused (refuse 7 1)
+  pub below-dam : belowDam (second weir Amount.Absent Amount.Absent) (fed (above (two weir) 2)) (flowOf (above (two weir) 2)) (pos 8000000) ≡ pos 8340602
+  pub oxygen-dam : headOxygen (second weir Amount.Absent Amount.Absent) (fed (above (two weir) 2)) (flowOf (above (two weir) 2)) (pos (3000 * 8000000)) ≡ pos 6755451
+  pub volume-passes : flowCheck (one 1000 3456000 10000 Amount.Absent) ≡ accepted (one 1000 3456000 10000 Amount.Absent)
+  pub volume-refused : flowCheck (one 1000 3456001 10000 Amount.Absent) ≡ refused (refuse 11 1)
+  pub inflow-zero : flowCheck (one 0 0 0 Amount.Absent) ≡ refused (refuse 7 1)
   pub empty-file : acceptFile [] ≡ refused (refuse 1 0)
   -- a take of 1,000 at reach 1
-  pub drawn-1-passes : flowCheck (drawn (Given 1000) Without) ≡ accepted (drawn (Given 1000) Without)
-  pub drawn-1-flow-1 : flowAt (drawn (Given 1000) Without) 1 ≡ 2000
-  pub drawn-1-flow-2 : flowAt (drawn (Given 1000) Without) 2 ≡ 3000
+  pub drawn-1-passes : flowCheck (drawn (Given 1000) Amount.Absent) ≡ accepted (drawn (Given 1000) Amount.Absent)
+  pub drawn-1-flow-1 : flowAt (drawn (Given 1000) Amount.Absent) 1 ≡ 2000
+  pub drawn-1-flow-2 : flowAt (drawn (Given 1000) Amount.Absent) 2 ≡ 3000
   -- a take of 1,000 at reach 2
-  pub drawn-2-passes : flowCheck (drawn Without (Given 1000)) ≡ accepted (drawn Without (Given 1000))
-  pub drawn-2-flow-2 : flowAt (drawn Without (Given 1000)) 2 ≡ 3000
+  pub drawn-2-passes : flowCheck (drawn Amount.Absent (Given 1000)) ≡ accepted (drawn Amount.Absent (Given 1000))
+  pub drawn-2-flow-2 : flowAt (drawn Amount.Absent (Given 1000)) 2 ≡ 3000
   -- 13 at all of the flow, and one below
-  pub all-drawn : flowCheck (drawn (Given 3000) Without) ≡ refused (refuse 13 1)
-  pub nearly-drawn : flowCheck (drawn (Given 2999) Without) ≡ accepted (drawn (Given 2999) Without)
+  pub all-drawn : flowCheck (drawn (Given 3000) Amount.Absent) ≡ refused (refuse 13 1)
+  pub nearly-drawn : flowCheck (drawn (Given 2999) Amount.Absent) ≡ accepted (drawn (Given 2999) Amount.Absent)
   -- 11 by the flow after the take
   pub rate-after-take : flowCheck (one 1000 3456000 10000 (Given 1)) ≡ refused (refuse 11 1)
   -- M without a take, and cut after one
-  pub mass-full : massAt (full Without) 1 ≡ 2_999_999
+  pub mass-full : massAt (full Amount.Absent) 1 ≡ 2_999_999
   pub mass-cut : massAt (full (Given 2)) 1 ≡ 1_000_000
   -- saturation of a card: 760 mm without a record, and with one of 760
-  pub standard : saturationOf (second Absent Without Without) ≡ 9021808
-  pub written-out : saturationOf (second Absent Without (Given 760)) ≡ 9021808
-  pub own-pressure : saturationOf (second Absent Without (Given 700)) ≡ 8309560
+  pub standard : saturationOf (second Dam.Absent Amount.Absent Amount.Absent) ≡ 9021808
+  pub written-out : saturationOf (second Dam.Absent Amount.Absent (Given 760)) ≡ 9021808
+  pub own-pressure : saturationOf (second Dam.Absent Amount.Absent (Given 700)) ≡ 8309560
   -- the dam of reach 2 at 700 mm
   pub accepted-hilly : flowCheck (hilly (Given 700)) ≡ accepted (hilly (Given 700))
-  pub below-dam-700 : belowDam (second weir Without (Given 700)) (fed (above (hilly (Given 700)) 2)) (flowOf (above (hilly (Given 700)) 2)) (pos 8000000) ≡ pos 8103186
-  pub oxygen-dam-700 : headOxygen (second weir Without (Given 700)) (fed (above (hilly (Given 700)) 2)) (flowOf (above (hilly (Given 700)) 2)) (pos (3000 * 8000000)) ≡ pos 6577389
+  pub below-dam-700 : belowDam (second weir Amount.Absent (Given 700)) (fed (above (hilly (Given 700)) 2)) (flowOf (above (hilly (Given 700)) 2)) (pos 8000000) ≡ pos 8103186
+  pub oxygen-dam-700 : headOxygen (second weir Amount.Absent (Given 700)) (fed (above (hilly (Given 700)) 2)) (flowOf (above (hilly (Given 700)) 2)) (pos (3000 * 8000000)) ≡ pos 6577389
   -- 14 on its limit and past it, by the flow after the take
-  pub bed-passes : flowCheck (bed 4_320_000 Without) ≡ accepted (bed 4_320_000 Without)
-  pub bed-refused : flowCheck (bed 4_320_001 Without) ≡ refused (refuse 14 1)
+  pub bed-passes : flowCheck (bed 4_320_000 Amount.Absent) ≡ accepted (bed 4_320_000 Amount.Absent)
+  pub bed-refused : flowCheck (bed 4_320_001 Amount.Absent) ≡ refused (refuse 14 1)
   pub bed-after-take : flowCheck (bed 4_320_000 (Given 1)) ≡ refused (refuse 14 1)
   -- 11 of the nitrogenous rate on its limit and past it
   pub nitrogenous-rate-passes : flowCheck (ammonia 3_456_000 10_000 0 (Nitrifying 1_000 0 0)) ≡ accepted (ammonia 3_456_000 10_000 0 (Nitrifying 1_000 0 0))
@@ -117,7 +117,7 @@ pub record Rows : Type 0 where
   pub warm-volume-passes : flowCheck (inForce (warm 25 1_000 0 2_747_217)) ≡ accepted (inForce (warm 25 1_000 0 2_747_217))
   pub warm-volume-refused : flowCheck (inForce (warm 25 1_000 0 2_747_218)) ≡ refused (refuse 11 1)
   -- the two reaches with factors of 1,000, which change no rate (`rates/InForce.nothing-corrected`)
-  pub thousands : acceptFile (by-factors 1_000 1_000) ≡ accepted (two Absent)
+  pub thousands : acceptFile (by-factors 1_000 1_000) ≡ accepted (two Dam.Absent)
 
 -- THEOREM: the bench values of the paper for rates in force, flows and heads, a row each
 pub bench : Rows

@@ -7,7 +7,7 @@ use Prim.Native.Nat.{ℕ, zero, suc, _+_, _*_, _-_, _/_, _<_, _≤_, min, max}
 use lib.ListN.{length, getD}
 use lib.Dec.{leb, ltb, eqb}
 use Rattle.river.specs.declared.card.Dam.{Dam}
-use Rattle.river.specs.declared.card.Dam.the-variants.{Absent, Aerating}
+use Rattle.river.specs.declared.card.Dam.the-variants.{Aerating}
 use Rattle.river.specs.declared.card.Card.{Card}
 use Rattle.river.specs.Refusal.{Answer, accepted, need}
 use Rattle.river.specs.Card.{blank, amountOr, RatesInRange, ratesInRange}
@@ -124,7 +124,7 @@ fed (more card up rest) = true
 
 -- a dam has feeders above it and a generating flow of at most Qu
 unfoldable pub damFits : Dam → Bool → ℕ → Bool
-damFits Absent fed Qu = true
+damFits Dam.Absent fed Qu = true
 damFits (Aerating share generating) fed Qu = fed && leb generating Qu
 
 -- a rate times volume is at most 345,600 × Q
@@ -190,7 +190,7 @@ flowCheck cards = checksFrom cards 1 (length cards)
 
 -- the rule of check 9 as a fact
 unfoldable pub DamRule : Dam → Feeders → Type 0
-DamRule Absent up = Unit
+DamRule Dam.Absent up = Unit
 DamRule (Aerating share generating) up = (fed up ≡ true) × (generating ≤ flowOf up)
 
 -- what checks 7 to 11 and 13 to 15 ask of a reach with this card, with what flows into it

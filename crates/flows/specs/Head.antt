@@ -5,7 +5,7 @@ use mathlib.Core.Bool.{Bool, true, false}
 use Prim.Native.Nat.{ℕ, _+_, _*_, _-_, _/_}
 use lib.IntN.{ℤ, pos, negsuc, _+ℤ_, _-ℤ_, _*ℤ_}
 use Rattle.river.specs.declared.card.Dam.{Dam}
-use Rattle.river.specs.declared.card.Dam.the-variants.{Absent, Aerating}
+use Rattle.river.specs.declared.card.Dam.the-variants.{Aerating}
 use Rattle.river.specs.declared.card.Card.{Card}
 use Rattle.river.specs.declared.source.Source.{Source}
 use Rattle.flows.specs.Saturation.{saturationOf}
@@ -27,7 +27,7 @@ upstreamOxygen true Qu sum = floor sum Qu
 
 -- 2. oxygen C below a dam; only the water that does not go through the turbines is aerated
 unfoldable pub aerated : Dam → (saturated Qu : ℕ) → ℤ → ℤ
-aerated Absent saturated Qu C = C
+aerated Dam.Absent saturated Qu C = C
 aerated (Aerating share generating) saturated Qu C =
     C +ℤ floor ((pos saturated -ℤ C) *ℤ pos (share * (Qu - generating))) (1_000 * Qu)
 

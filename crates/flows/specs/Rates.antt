@@ -4,10 +4,10 @@ use mathlib.Core.List.{List, map}
 use Prim.Native.Nat.{ℕ, zero, suc, _*_, _-_, _/_, _≤_}
 use Rattle.river.specs.declared.card.Card.{Card}
 use Rattle.river.specs.declared.card.Nitrification.{Nitrification}
-use Rattle.river.specs.declared.card.Nitrification.the-variants.{Idle, Nitrifying}
+use Rattle.river.specs.declared.card.Nitrification.the-variants.{Nitrifying}
 use Rattle.river.specs.declared.card.Optionals.{Optionals}
 use Rattle.river.specs.declared.card.RateFactors.{RateFactors}
-use Rattle.river.specs.declared.card.RateFactors.the-variants.{AsGiven, PerDegree}
+use Rattle.river.specs.declared.card.RateFactors.the-variants.{PerDegree}
 use Rattle.river.specs.Card.{withNitrification, RatesInRange}
 use Rattle.river.specs.Records.{rateMost}
 use Rattle.river.specs.River.{River}
@@ -28,16 +28,16 @@ correctedRate factor T rate = warmed factor (T - 20) (cooled factor (20 - T) (ra
 
 -- the rate of a demand, and that of surface aeration, in force at T degrees: the card's without factors
 unfoldable pub decayInForce : RateFactors → (T rate : ℕ) → ℕ
-decayInForce AsGiven T rate = rate
+decayInForce RateFactors.Absent T rate = rate
 decayInForce (PerDegree decay aeration) T rate = correctedRate decay T rate
 
 unfoldable pub aerationInForce : RateFactors → (T rate : ℕ) → ℕ
-aerationInForce AsGiven T rate = rate
+aerationInForce RateFactors.Absent T rate = rate
 aerationInForce (PerDegree decay aeration) T rate = correctedRate aeration T rate
 
 -- a nitrification with its rate changed
 abbrev pub withRate : (ℕ → ℕ) → Nitrification → Nitrification
-withRate change Idle = Idle
+withRate change Nitrification.Absent = Nitrification.Absent
 withRate change (Nitrifying rate concentration load) = Nitrifying (change rate) concentration load
 
 -- optional fields with their one rate changed

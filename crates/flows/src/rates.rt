@@ -75,7 +75,7 @@ fn corrected_nitrification(
     ensures { λ r. ⌜ r ≡ withRate (correctedRate factor temperature) nitrification ⌝ }
 {
     match nitrification {
-        Nitrification::Idle => nitrification,
+        Nitrification::Absent => nitrification,
         Nitrification::Nitrifying {
             rate,
             concentration,

@@ -9,11 +9,11 @@ use lib.Dec.{leb·suc-zero}
 use lib.IntN.{ℤ, pos, _+ℤ_, _*ℤ_}
 use lib.ListN.{take}
 use Rattle.river.specs.declared.card.Dam.{Dam}
-use Rattle.river.specs.declared.card.Dam.the-variants.{Absent, Aerating}
+use Rattle.river.specs.declared.card.Dam.the-variants.{Aerating}
 use Rattle.river.specs.declared.card.Amount.{Amount}
-use Rattle.river.specs.declared.card.Amount.the-variants.{Without, Given}
+use Rattle.river.specs.declared.card.Amount.the-variants.{Given}
 use Rattle.river.specs.declared.card.Nitrification.{Nitrification}
-use Rattle.river.specs.declared.card.Nitrification.the-variants.{Idle, Nitrifying}
+use Rattle.river.specs.declared.card.Nitrification.the-variants.{Nitrifying}
 use Rattle.river.specs.declared.card.Card.{Card}
 use Rattle.river.specs.declared.source.Demand.{Demand}
 use Rattle.river.specs.declared.source.Demand.the-variants.{Bod, Nitrogenous}
@@ -49,7 +49,7 @@ weir = Aerating 500 1000
 
 -- reach 1 by its take and its nitrification, and what flows into reach 2
 abbrev upper : Amount → Nitrification → Card
-upper take nitrification = reach 2 0 1000 3000 2000 8000 0 Absent (withTake take (withNitrification nitrification noOptionals))
+upper take nitrification = reach 2 0 1000 3000 2000 8000 0 Dam.Absent (withTake take (withNitrification nitrification noOptionals))
 
 abbrev feeders : Amount → Nitrification → Feeders
 feeders take nitrification = more (upper take nitrification) none none
@@ -59,7 +59,7 @@ record Still (nitrification : Nitrification) : Type 0 where
   rate : nitrogenousRate nitrification ≡ 0
   few : sourceMass (nitrogenousSource 3000 nitrification) ≤ 1000000000
 
-idle : Still Idle
+idle : Still Nitrification.Absent
 idle = record { rate = refl; few = omega arith }
 
 zeros : Still (Nitrifying 0 0 0)
@@ -123,18 +123,18 @@ accepted-second dam take pressure conditions h k few within drawn-few some =
     }
 
 -- reach 2: plain below any reach 1, with a take, and with a dam at any pressure
-accepted-open : (take : Amount) (nitrification : Nitrification) → Still nitrification → amountOr 0 take < 3000 → AcceptedReach (second Absent Without Without) (feeders take nitrification)
+accepted-open : (take : Amount) (nitrification : Nitrification) → Still nitrification → amountOr 0 take < 3000 → AcceptedReach (second Dam.Absent Amount.Absent Amount.Absent) (feeders take nitrification)
 unfolding DamRule flowOf massOf
 accepted-open take nitrification still h =
-    accepted-second Absent Without Without (omega arith) tt tt (omega arith) (omega (arith, mass-within (accepted-first take nitrification still h .flows))) (omega arith) (omega arith)
+    accepted-second Dam.Absent Amount.Absent Amount.Absent (omega arith) tt tt (omega arith) (omega (arith, mass-within (accepted-first take nitrification still h .flows))) (omega arith) (omega arith)
 
-accepted-drawn : AcceptedReach (second Absent (Given 1000) Without) (feeders Without Idle)
+accepted-drawn : AcceptedReach (second Dam.Absent (Given 1000) Amount.Absent) (feeders Amount.Absent Nitrification.Absent)
 unfolding DamRule flowOf massOf
-accepted-drawn = accepted-second Absent (Given 1000) Without (omega arith) tt tt (omega arith) (omega arith) (omega arith) (omega arith)
+accepted-drawn = accepted-second Dam.Absent (Given 1000) Amount.Absent (omega arith) tt tt (omega arith) (omega arith) (omega arith) (omega arith)
 
-accepted-weir : (pressure : Amount) → SaturationInRange (second weir Without pressure) → AcceptedReach (second weir Without pressure) (feeders Without Idle)
+accepted-weir : (pressure : Amount) → SaturationInRange (second weir Amount.Absent pressure) → AcceptedReach (second weir Amount.Absent pressure) (feeders Amount.Absent Nitrification.Absent)
 unfolding DamRule fed flowOf massOf
-accepted-weir pressure conditions = accepted-second weir Without pressure conditions (omega arith) (refl, omega arith) (omega arith) (omega arith) (omega arith) (omega arith)
+accepted-weir pressure conditions = accepted-second weir Amount.Absent pressure conditions (omega arith) (refl, omega arith) (omega arith) (omega arith) (omega arith) (omega arith)
 
 -- the figures of a line where nothing changes along the reach, and oxygen is not used up there or above
 abbrev line : (depth flow bod oxygen nitrogenous : ℕ) → Figures
@@ -212,51 +212,51 @@ still-line {oxygen} own h k s ordinary is =
     ap reported (still-figures own h k s ∙ rw (ordinary, is .bod-is, is .nitrogenous-is, is .oxygen-is, leb·suc-zero oxygen))
 
 -- the first line, with no take there, by its nitrification
-first-line : (nitrification : Nitrification) → Still nitrification → reported (figuresOf (upper Without nitrification) none) ≡ line 1 3000 2000000 8000000 (brought nitrification)
+first-line : (nitrification : Nitrification) → Still nitrification → reported (figuresOf (upper Amount.Absent nitrification) none) ≡ line 1 3000 2000000 8000000 (brought nitrification)
 unfolding flowOf deepest usedBy
 first-line nitrification still =
-    still-line (accepted-first Without nitrification still (omega arith)) (upper-keeps Without nitrification still) refl refl refl (head-1 Without nitrification)
+    still-line (accepted-first Amount.Absent nitrification still (omega arith)) (upper-keeps Amount.Absent nitrification still) refl refl refl (head-1 Amount.Absent nitrification)
 
 -- the second line, with no take or dam, by the nitrification of reach 1
-second-line : (nitrification : Nitrification) {nitrogenous : ℕ} → Still nitrification → headDemand (sourceOf Nitrogenous (second Absent Without Without)) true 3000 (3000 * brought nitrification + 0) ≡ nitrogenous → reported (figuresOf (second Absent Without Without) (feeders Without nitrification)) ≡ line 2 4000 9000000 6500000 nitrogenous
+second-line : (nitrification : Nitrification) {nitrogenous : ℕ} → Still nitrification → headDemand (sourceOf Nitrogenous (second Dam.Absent Amount.Absent Amount.Absent)) true 3000 (3000 * brought nitrification + 0) ≡ nitrogenous → reported (figuresOf (second Dam.Absent Amount.Absent Amount.Absent) (feeders Amount.Absent nitrification)) ≡ line 2 4000 9000000 6500000 nitrogenous
 unfolding fed flowOf deepest headDemand headOxygen upstreamDemand upstreamOxygen belowDam aerated floor
 second-line nitrification still e =
-    still-line (accepted-open Without nitrification still (omega arith)) (second-keeps Absent Without Without) refl refl (ordinary-1 Without nitrification still (omega arith))
-    (head-2 Absent Without Without Without nitrification still (omega arith) {oxygen = 6500000} refl e refl)
+    still-line (accepted-open Amount.Absent nitrification still (omega arith)) (second-keeps Dam.Absent Amount.Absent Amount.Absent) refl refl (ordinary-1 Amount.Absent nitrification still (omega arith))
+    (head-2 Dam.Absent Amount.Absent Amount.Absent Amount.Absent nitrification still (omega arith) {oxygen = 6500000} refl e refl)
 
 -- the line below the dam, by the pressure there
-weir-line : (pressure : Amount) {oxygen : ℕ} → SaturationInRange (second weir Without pressure) → headOxygen (second weir Without pressure) true 3000 (pos 3000 *ℤ pos 8000000 +ℤ pos 0) ≡ pos oxygen → reported (figuresOf (second weir Without pressure) (feeders Without Idle)) ≡ line 2 4000 9000000 oxygen 0
+weir-line : (pressure : Amount) {oxygen : ℕ} → SaturationInRange (second weir Amount.Absent pressure) → headOxygen (second weir Amount.Absent pressure) true 3000 (pos 3000 *ℤ pos 8000000 +ℤ pos 0) ≡ pos oxygen → reported (figuresOf (second weir Amount.Absent pressure) (feeders Amount.Absent Nitrification.Absent)) ≡ line 2 4000 9000000 oxygen 0
 unfolding flowOf deepest headDemand upstreamDemand
 weir-line pressure conditions e =
-    still-line (accepted-weir pressure conditions) (second-keeps weir Without pressure) refl refl (ordinary-1 Without Idle idle (omega arith))
-    (head-2 weir Without pressure Without Idle idle (omega arith) refl refl e)
+    still-line (accepted-weir pressure conditions) (second-keeps weir Amount.Absent pressure) refl refl (ordinary-1 Amount.Absent Nitrification.Absent idle (omega arith))
+    (head-2 weir Amount.Absent pressure Amount.Absent Nitrification.Absent idle (omega arith) refl refl e)
 
 -- the second line below a take of reach 1, and with one of its own
-below-take : reported (figuresOf (second Absent Without Without) (feeders (Given 1000) Idle)) ≡ line 2 3000 11333333 6000000 0
+below-take : reported (figuresOf (second Dam.Absent Amount.Absent Amount.Absent) (feeders (Given 1000) Nitrification.Absent)) ≡ line 2 3000 11333333 6000000 0
 unfolding fed flowOf deepest headDemand headOxygen upstreamDemand upstreamOxygen belowDam aerated floor
 below-take =
-    still-line (accepted-open (Given 1000) Idle idle (omega arith)) (second-keeps Absent Without Without) refl refl (ordinary-1 (Given 1000) Idle idle (omega arith))
-    (head-2 Absent Without Without (Given 1000) Idle idle (omega arith) {oxygen = 6000000} refl refl refl)
+    still-line (accepted-open (Given 1000) Nitrification.Absent idle (omega arith)) (second-keeps Dam.Absent Amount.Absent Amount.Absent) refl refl (ordinary-1 (Given 1000) Nitrification.Absent idle (omega arith))
+    (head-2 Dam.Absent Amount.Absent Amount.Absent (Given 1000) Nitrification.Absent idle (omega arith) {oxygen = 6000000} refl refl refl)
 
-own-take : reported (figuresOf (second Absent (Given 1000) Without) (feeders Without Idle)) ≡ line 2 3000 9000000 6500000 0
+own-take : reported (figuresOf (second Dam.Absent (Given 1000) Amount.Absent) (feeders Amount.Absent Nitrification.Absent)) ≡ line 2 3000 9000000 6500000 0
 unfolding fed flowOf deepest headDemand headOxygen upstreamDemand upstreamOxygen belowDam aerated floor
 own-take =
-    still-line accepted-drawn (second-keeps Absent (Given 1000) Without) refl refl (ordinary-1 Without Idle idle (omega arith))
-    (head-2 Absent (Given 1000) Without Without Idle idle (omega arith) {oxygen = 6500000} refl refl refl)
+    still-line accepted-drawn (second-keeps Dam.Absent (Given 1000) Amount.Absent) refl refl (ordinary-1 Amount.Absent Nitrification.Absent idle (omega arith))
+    (head-2 Dam.Absent (Given 1000) Amount.Absent Amount.Absent Nitrification.Absent idle (omega arith) {oxygen = 6500000} refl refl refl)
 
 -- upstream oxygen of the second reach
 abbrev upstream : Feeders → ℤ
 upstream up = upstreamOxygen (fed up) (flowOf up) (oxygenSum up)
 
 -- oxygen below the dam, by the pressure there
-below-weir : (pressure : Amount) {oxygen : ℕ} → belowDam (second weir Without pressure) true 3000 (upstreamOxygen true 3000 (pos 3000 *ℤ pos 8000000 +ℤ pos 0)) ≡ pos oxygen → belowDam (second weir Without pressure) (fed (feeders Without Idle)) (flowOf (feeders Without Idle)) (upstream (feeders Without Idle)) ≡ pos oxygen
+below-weir : (pressure : Amount) {oxygen : ℕ} → belowDam (second weir Amount.Absent pressure) true 3000 (upstreamOxygen true 3000 (pos 3000 *ℤ pos 8000000 +ℤ pos 0)) ≡ pos oxygen → belowDam (second weir Amount.Absent pressure) (fed (feeders Amount.Absent Nitrification.Absent)) (flowOf (feeders Amount.Absent Nitrification.Absent)) (upstream (feeders Amount.Absent Nitrification.Absent)) ≡ pos oxygen
 unfolding fed flowOf
 below-weir pressure e =
-    ap (λ (sum : ℤ). belowDam (second weir Without pressure) true 3000 (upstreamOxygen true 3000 sum)) (foot-1 Without Idle idle (omega arith) .oxygen-is) ∙ e
+    ap (λ (sum : ℤ). belowDam (second weir Amount.Absent pressure) true 3000 (upstreamOxygen true 3000 sum)) (foot-1 Amount.Absent Nitrification.Absent idle (omega arith) .oxygen-is) ∙ e
 
 -- the two reaches with a nitrification at the first
 abbrev pub laden : Nitrification → List Card
-laden nitrification = upper Without nitrification ∷ second Absent Without Without ∷ []
+laden nitrification = upper Amount.Absent nitrification ∷ second Dam.Absent Amount.Absent Amount.Absent ∷ []
 
 -- the `RP` record of a record with an `RN` record is the record without
 plain-bytes : {f g : Figures} → f ≡ g → take plainBytes (encodeRecord true f) ≡ encodeRecord false g
@@ -276,27 +276,27 @@ pub record Rows : Type 0 where
   pub own-mean : meanAt equal 1 ≡ pos 12009589
   pub near-the-exact : distance (ofℤ (meanAt equal 1)) (exactMeanOxygen 40 (cardOf equal 1) (above equal 1)) ≼ ofℕ 1
   pub mean-of-values-strays : distance (ofℤ (floor allValues 1_025)) (exactMeanOxygen 40 (cardOf equal 1) (above equal 1)) ≼ allowanceAt equal 1 → ⊥
-  pub line-1 : reportedAt (two Absent) 1 ≡ line 1 3000 2000000 8000000 0
-  pub line-2 : reportedAt (two Absent) 2 ≡ line 2 4000 9000000 6500000 0
-  pub below-dam : belowDam (second weir Without Without) (fed (above (two weir) 2)) (flowOf (above (two weir) 2)) (upstream (above (two weir) 2)) ≡ pos 8340602
+  pub line-1 : reportedAt (two Dam.Absent) 1 ≡ line 1 3000 2000000 8000000 0
+  pub line-2 : reportedAt (two Dam.Absent) 2 ≡ line 2 4000 9000000 6500000 0
+  pub below-dam : belowDam (second weir Amount.Absent Amount.Absent) (fed (above (two weir) 2)) (flowOf (above (two weir) 2)) (upstream (above (two weir) 2)) ≡ pos 8340602
   pub line-dam : reportedAt (two weir) 2 ≡ line 2 4000 9000000 6755451 0
   -- the dam at 700 mm
-  pub hilly-below-dam : belowDam (second weir Without (Given 700)) (fed (above (hilly (Given 700)) 2)) (flowOf (above (hilly (Given 700)) 2)) (upstream (above (hilly (Given 700)) 2)) ≡ pos 8103186
+  pub hilly-below-dam : belowDam (second weir Amount.Absent (Given 700)) (fed (above (hilly (Given 700)) 2)) (flowOf (above (hilly (Given 700)) 2)) (upstream (above (hilly (Given 700)) 2)) ≡ pos 8103186
   pub hilly-line-1 : reportedAt (hilly (Given 700)) 1 ≡ line 1 3000 2000000 8000000 0
   pub hilly-line-2 : reportedAt (hilly (Given 700)) 2 ≡ line 2 4000 9000000 6577389 0
   -- with a take of 1,000 at reach 1, and at reach 2 instead
-  pub drawn-1-line-1 : reportedAt (drawn (Given 1000) Without) 1 ≡ line 1 2000 2000000 8000000 0
-  pub drawn-1-line-2 : reportedAt (drawn (Given 1000) Without) 2 ≡ line 2 3000 11333333 6000000 0
-  pub drawn-2-line-1 : reportedAt (drawn Without (Given 1000)) 1 ≡ line 1 3000 2000000 8000000 0
-  pub drawn-2-line-2 : reportedAt (drawn Without (Given 1000)) 2 ≡ line 2 3000 9000000 6500000 0
+  pub drawn-1-line-1 : reportedAt (drawn (Given 1000) Amount.Absent) 1 ≡ line 1 2000 2000000 8000000 0
+  pub drawn-1-line-2 : reportedAt (drawn (Given 1000) Amount.Absent) 2 ≡ line 2 3000 11333333 6000000 0
+  pub drawn-2-line-1 : reportedAt (drawn Amount.Absent (Given 1000)) 1 ≡ line 1 3000 2000000 8000000 0
+  pub drawn-2-line-2 : reportedAt (drawn Amount.Absent (Given 1000)) 2 ≡ line 2 3000 9000000 6500000 0
   -- with nitrogenous BOD of 4 mg/L at reach 1, which reach 2 carries and adds none to; each line is that without and two numbers more
   pub laden-line-1 : reportedAt (laden (Nitrifying 0 4000 0)) 1 ≡ line 1 3000 2000000 8000000 4000000
   pub laden-line-2 : reportedAt (laden (Nitrifying 0 4000 0)) 2 ≡ line 2 4000 9000000 6500000 3000000
   -- a nitrification of zeros makes the records longer, and leaves their `RP` records as they are
-  pub plain-size : recordSize (two Absent) ≡ 30
+  pub plain-size : recordSize (two Dam.Absent) ≡ 30
   pub zeros-size : recordSize (laden (Nitrifying 0 0 0)) ≡ 40
-  pub zeros-1 : take plainBytes (recordOf (laden (Nitrifying 0 0 0)) 0) ≡ recordOf (two Absent) 0
-  pub zeros-2 : take plainBytes (recordOf (laden (Nitrifying 0 0 0)) 1) ≡ recordOf (two Absent) 1
+  pub zeros-1 : take plainBytes (recordOf (laden (Nitrifying 0 0 0)) 0) ≡ recordOf (two Dam.Absent) 0
+  pub zeros-2 : take plainBytes (recordOf (laden (Nitrifying 0 0 0)) 1) ≡ recordOf (two Dam.Absent) 1
 
 -- THEOREM: the bench values of the paper that are to be proved, a row each
 pub bench : Rows
@@ -312,21 +312,21 @@ bench =
       own-mean = own-mean;
       near-the-exact = own-mean-near;
       mean-of-values-strays = rounded-mean-strays;
-      line-1 = first-line Idle idle;
-      line-2 = second-line Idle idle refl;
-      below-dam = below-weir Without refl;
-      line-dam = weir-line Without (omega arith) refl;
+      line-1 = first-line Nitrification.Absent idle;
+      line-2 = second-line Nitrification.Absent idle refl;
+      below-dam = below-weir Amount.Absent refl;
+      line-dam = weir-line Amount.Absent (omega arith) refl;
       hilly-below-dam = below-weir (Given 700) refl;
-      hilly-line-1 = first-line Idle idle;
+      hilly-line-1 = first-line Nitrification.Absent idle;
       hilly-line-2 = weir-line (Given 700) (omega arith) refl;
-      drawn-1-line-1 = still-line (accepted-first (Given 1000) Idle idle (omega arith)) (upper-keeps (Given 1000) Idle idle) refl refl refl (head-1 (Given 1000) Idle);
+      drawn-1-line-1 = still-line (accepted-first (Given 1000) Nitrification.Absent idle (omega arith)) (upper-keeps (Given 1000) Nitrification.Absent idle) refl refl refl (head-1 (Given 1000) Nitrification.Absent);
       drawn-1-line-2 = below-take;
-      drawn-2-line-1 = first-line Idle idle;
+      drawn-2-line-1 = first-line Nitrification.Absent idle;
       drawn-2-line-2 = own-take;
       laden-line-1 = first-line (Nitrifying 0 4000 0) laden-still;
       laden-line-2 = second-line (Nitrifying 0 4000 0) laden-still refl;
       plain-size = refl;
       zeros-size = refl;
-      zeros-1 = plain-bytes (first-line (Nitrifying 0 0 0) zeros ∙ sym (first-line Idle idle));
-      zeros-2 = plain-bytes (second-line (Nitrifying 0 0 0) zeros refl ∙ sym (second-line Idle idle refl));
+      zeros-1 = plain-bytes (first-line (Nitrifying 0 0 0) zeros ∙ sym (first-line Nitrification.Absent idle));
+      zeros-2 = plain-bytes (second-line (Nitrifying 0 0 0) zeros refl ∙ sym (second-line Nitrification.Absent idle refl));
     }

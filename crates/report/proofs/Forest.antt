@@ -8,7 +8,7 @@ use lib.Dec.{eqb}
 use Rattle.decay.specs.held.Step.{RatesPass}
 use Rattle.river.specs.declared.card.Card.{Card}
 use Rattle.river.specs.declared.card.Amount.{Amount}
-use Rattle.river.specs.declared.card.Amount.the-variants.{Without, Given}
+use Rattle.river.specs.declared.card.Amount.the-variants.{Given}
 use Rattle.river.specs.Described.{InRange}
 use Rattle.river.specs.Records.{DM, SD}
 use Rattle.river.specs.Card.{FieldsInRange, amountOr, Lawful, blank}
@@ -66,7 +66,7 @@ joined-accepted false card up rest own water others = others
 
 -- a lawful bed's demand has two bytes
 demand-small : (a : Amount) → InRange SD a → amountOr 0 a ≤ 65_535
-demand-small Without h = zero-le
+demand-small Amount.Absent h = zero-le
 demand-small (Given n) h = h .0 .most
 
 -- a river: lawful cards whose flows pass

@@ -11,9 +11,9 @@ use Rattle.decay.specs.held.Step.{exponentOf, stepOf}
 use Rattle.decay.specs.Series.{termOf, nextTerms, termsAt, termAt, withTerm, sumOf, countFrom, seriesOf}
 use Rattle.decay.specs.held.Factors.{demandFrom, headFactors, nextFactors, factorsAt}
 use Rattle.river.specs.declared.card.Card.{Card}
-use Rattle.river.specs.declared.card.Dam.the-variants.{Absent}
+use Rattle.river.specs.declared.card.Dam.{Dam}
 use Rattle.river.specs.declared.card.Nitrification.{Nitrification}
-use Rattle.river.specs.declared.card.Nitrification.the-variants.{Idle, Nitrifying}
+use Rattle.river.specs.declared.card.Nitrification.the-variants.{Nitrifying}
 use Rattle.river.specs.declared.source.Demand.the-variants.{Bod, Nitrogenous}
 use Rattle.river.specs.Card.{noOptionals, withNitrification}
 use Rattle.flows.specs.Flow.{Feeders, none, more, fed, flowOf}
@@ -37,7 +37,7 @@ reach nitrification =
       «inflow_bod» = 0;
       «inflow_oxygen» = 14_000;
       load = 0;
-      dam = Absent;
+      dam = Dam.Absent;
       optionals = withNitrification nitrification noOptionals;
     }
 
@@ -45,7 +45,7 @@ abbrev upper : Card
 upper = reach (Nitrifying 1_000 10_000 0)
 
 abbrev lower : Card
-lower = reach Idle
+lower = reach Nitrification.Absent
 
 -- what flows into the lower reach
 abbrev above : Feeders

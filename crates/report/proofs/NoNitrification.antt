@@ -12,7 +12,7 @@ use Rattle.decay.specs.held.Factors.{demandFrom}
 use Rattle.decay.specs.declared.step.Step.{Step}
 use Rattle.river.specs.declared.card.Card.{Card}
 use Rattle.river.specs.declared.card.Nitrification.{Nitrification}
-use Rattle.river.specs.declared.card.Nitrification.the-variants.{Idle, Nitrifying}
+use Rattle.river.specs.declared.card.Nitrification.the-variants.{Nitrifying}
 use Rattle.river.specs.declared.source.Demand.the-variants.{Nitrogenous}
 use Rattle.river.specs.Card.{blank}
 use Rattle.river.specs.Source.{nitrogenousSource, sourceOf, rateOf}
@@ -27,8 +27,8 @@ use Rattle.report.proofs.record.Nitrified.{at-no-reach}
 -- where nothing comes down and nothing comes in, nothing is mixed
 nothing-mixed : (nitrification : Nitrification) (inflow : ℕ) (t : Bool) (Qu : ℕ) → nitrifies nitrification ≡ false → headDemand (nitrogenousSource inflow nitrification) t Qu 0 ≡ 0
 unfolding nitrifies headDemand upstreamDemand
-nothing-mixed Idle inflow true Qu e = rw (zero-div Qu, mul-zero, mul-zero) (zero-div (Qu + inflow))
-nothing-mixed Idle inflow false Qu e = rw (mul-zero, mul-zero) (zero-div (Qu + inflow))
+nothing-mixed Nitrification.Absent inflow true Qu e = rw (zero-div Qu, mul-zero, mul-zero) (zero-div (Qu + inflow))
+nothing-mixed Nitrification.Absent inflow false Qu e = rw (mul-zero, mul-zero) (zero-div (Qu + inflow))
 nothing-mixed (Nitrifying r c l) inflow t Qu e = clash cc
 
 nothing-at-head : (card : Card) (t : Bool) (Qu : ℕ) → isNitrified card ≡ false → headDemand (sourceOf Nitrogenous card) t Qu 0 ≡ 0

@@ -3,7 +3,7 @@
 use mathlib.Core.Path.{_≡_, refl}
 use mathlib.Core.List.{[], _∷_}
 use Rattle.river.specs.Refusal.{refused, refuse, need, choose, after}
-use Rattle.river.specs.declared.card.RateFactors.the-variants.{AsGiven}
+use Rattle.river.specs.declared.card.RateFactors.{RateFactors}
 use Rattle.river.specs.Card.{blank, countOk, inRange, outletOk}
 use Rattle.river.specs.River.{riverOf}
 use Rattle.river.specs.Optional.{readOptional, readOptionals}
@@ -18,10 +18,10 @@ pub record Reporting : Type 0 where
   -- an empty file
   pub file-and-room : reportAnswer [] 0 ≡ refused (refuse 1 0)
   -- a reach without water
-  pub flow-and-room : reportAnswer (encode (riverOf AsGiven (blank ∷ []))) 0 ≡ refused (refuse 7 1)
+  pub flow-and-room : reportAnswer (encode (riverOf RateFactors.Absent (blank ∷ []))) 0 ≡ refused (refuse 7 1)
   -- the same for means
   pub file-and-means : meanAnswer [] 0 ≡ refused (refuse 1 0)
-  pub flow-and-means : meanAnswer (encode (riverOf AsGiven (blank ∷ []))) 0 ≡ refused (refuse 7 1)
+  pub flow-and-means : meanAnswer (encode (riverOf RateFactors.Absent (blank ∷ []))) 0 ≡ refused (refuse 7 1)
 
 -- THEOREM: who breaks a rule of reading or of the flow check gets its number, not 12 or 16
 pub reporting-order : Reporting

@@ -7,8 +7,8 @@ use Rattle.decay.specs.Fraction.{Fraction, _≼_, ofℤ, _+ᶠ_, -ᶠ_, _-ᶠ_,
 use Rattle.decay.specs.Exact.{foot, exponent, power, factorial, term, sum, S, F}
 use Rattle.decay.proofs.Algebra.{Within, within-sym, within-trans}
 use Rattle.river.specs.declared.card.Card.{Card}
-use Rattle.river.specs.declared.card.Dam.the-variants.{Absent}
-use Rattle.river.specs.declared.card.RateFactors.the-variants.{AsGiven}
+use Rattle.river.specs.declared.card.Dam.{Dam}
+use Rattle.river.specs.declared.card.RateFactors.{RateFactors}
 use Rattle.river.specs.Refusal.{accepted, need, after, choose}
 use Rattle.river.specs.Card.{noOptionals, countOk, inRange, outletOk, ratesInRange}
 use Rattle.river.specs.River.{riverOf}
@@ -38,7 +38,7 @@ reach outlet inflow =
       «inflow_bod» = 10000;
       «inflow_oxygen» = 14652;
       load = 0;
-      dam = Absent;
+      dam = Dam.Absent;
       optionals = noOptionals;
     }
 
@@ -46,7 +46,7 @@ reach outlet inflow =
 abbrev pub two : List Card
 two = reach 2 10000 ∷ reach 0 0 ∷ []
 
-accepted-two : acceptFile (encode (riverOf AsGiven two)) ≡ accepted two
+accepted-two : acceptFile (encode (riverOf RateFactors.Absent two)) ≡ accepted two
 unfolding decayInForce aerationInForce ratesInRange acceptFile encode readFile readRest readHeader readReaches readReach readOptionals readOptional cardAt countOk inRange outletOk need after choose flowCheck checksFrom reachChecks damFits feedersAmong joinedIf fed flowOf massOf
 accepted-two = refl
 

@@ -7,7 +7,7 @@ use Prim.Native.Nat.{ℕ}
 use native.Mathlib.Omega.{arith}
 use Rattle.river.specs.declared.card.Card.{Card}
 use Rattle.river.specs.declared.card.Nitrification.{Nitrification}
-use Rattle.river.specs.declared.card.Nitrification.the-variants.{Idle, Nitrifying}
+use Rattle.river.specs.declared.card.Nitrification.the-variants.{Nitrifying}
 use Rattle.river.specs.declared.card.RateFactors.{RateFactors}
 use Rattle.river.specs.declared.file.Reading.{Reading}
 use Rattle.river.specs.declared.refusal.Outcome.{Outcome}
@@ -24,7 +24,7 @@ use Rattle.report.proofs.record.Encoding.{record-bounds}
 -- rates in force leave it whether there is nitrification
 nitrifies-in-force : (change : ℕ → ℕ) (n : Nitrification) → nitrifies (withRate change n) ≡ nitrifies n
 unfolding nitrifies
-nitrifies-in-force change Idle = refl
+nitrifies-in-force change Nitrification.Absent = refl
 nitrifies-in-force change (Nitrifying rate concentration load) = refl
 
 pub nitrification-in-force : (f : RateFactors) (cs : List Card) → hasNitrification (map (cardInForce f) cs) ≡ hasNitrification cs

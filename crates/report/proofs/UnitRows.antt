@@ -3,11 +3,11 @@
 use mathlib.Core.Path.{_≡_, refl}
 use mathlib.Core.List.{[], _∷_}
 use Rattle.river.specs.declared.card.Card.{Card}
-use Rattle.river.specs.declared.card.Dam.the-variants.{Absent}
+use Rattle.river.specs.declared.card.Dam.{Dam}
 use Rattle.river.specs.declared.card.Nitrification.{Nitrification}
-use Rattle.river.specs.declared.card.Nitrification.the-variants.{Idle, Nitrifying}
+use Rattle.river.specs.declared.card.Nitrification.the-variants.{Nitrifying}
 use Rattle.river.specs.declared.card.Amount.{Amount}
-use Rattle.river.specs.declared.card.Amount.the-variants.{Without, Given}
+use Rattle.river.specs.declared.card.Amount.the-variants.{Given}
 use Rattle.river.specs.Card.{noOptionals, withTake, withPressure, withSludge, withNitrification}
 use Rattle.report.specs.Record.{nitrifies, isNitrified, hasNitrification}
 use Rattle.report.specs.Distance.{isGiven, hasBed, stepUnits}
@@ -25,20 +25,20 @@ reach sludge nitrification =
       «inflow_bod» = 0;
       «inflow_oxygen» = 0;
       load = 0;
-      dam = Absent;
+      dam = Dam.Absent;
       optionals = withTake (Given 0) (withPressure (Given 760) (withSludge sludge (withNitrification nitrification noOptionals)));
     }
 
 pub record Rows : Type 0 where
   -- neither
-  pub plain : stepUnits (reach Without Idle ∷ reach Without Idle ∷ []) ≡ 100
+  pub plain : stepUnits (reach Amount.Absent Nitrification.Absent ∷ reach Amount.Absent Nitrification.Absent ∷ []) ≡ 100
   -- a bed, also one that takes nothing, at the only reach, the first or the last
-  pub bed : stepUnits (reach (Given 1) Idle ∷ []) ≡ 150
-  pub first : stepUnits (reach (Given 0) Idle ∷ reach Without Idle ∷ []) ≡ 150
-  pub last : stepUnits (reach Without Idle ∷ reach (Given 0) Idle ∷ []) ≡ 150
+  pub bed : stepUnits (reach (Given 1) Nitrification.Absent ∷ []) ≡ 150
+  pub first : stepUnits (reach (Given 0) Nitrification.Absent ∷ reach Amount.Absent Nitrification.Absent ∷ []) ≡ 150
+  pub last : stepUnits (reach Amount.Absent Nitrification.Absent ∷ reach (Given 0) Nitrification.Absent ∷ []) ≡ 150
   -- nitrification, also of zeros, with a bed or none
-  pub nitrified : stepUnits (reach Without Idle ∷ reach Without (Nitrifying 0 0 0) ∷ []) ≡ 200
-  pub nitrified-bed : stepUnits (reach Without (Nitrifying 1 2 3) ∷ reach (Given 1) Idle ∷ []) ≡ 200
+  pub nitrified : stepUnits (reach Amount.Absent Nitrification.Absent ∷ reach Amount.Absent (Nitrifying 0 0 0) ∷ []) ≡ 200
+  pub nitrified-bed : stepUnits (reach Amount.Absent (Nitrifying 1 2 3) ∷ reach (Given 1) Nitrification.Absent ∷ []) ≡ 200
 
 -- THEOREM: these units, a row each
 pub rows : Rows

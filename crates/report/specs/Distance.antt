@@ -7,14 +7,14 @@ use Rattle.decay.specs.Exact.{foot}
 use Rattle.river.specs.declared.card.Card.{Card}
 use Rattle.river.specs.declared.source.Demand.the-variants.{Bod, Nitrogenous}
 use Rattle.river.specs.declared.card.Amount.{Amount}
-use Rattle.river.specs.declared.card.Amount.the-variants.{Without, Given}
+use Rattle.river.specs.declared.card.Amount.the-variants.{Given}
 use Rattle.flows.specs.Flow.{Feeders, reachDepth, above}
 use Rattle.report.specs.Recurrence.{exactDemandAtHead, exactOxygenAtHead, exactDemandAt, exactOxygenAt}
 use Rattle.report.specs.Record.{Figures, hasNitrification}
 
 -- whether an amount stands on a card, 0 too
 unfoldable pub isGiven : Amount → Bool
-isGiven Without = false
+isGiven Amount.Absent = false
 isGiven (Given n) = true
 
 -- whether a river has a sludge bed: an `SD` record at any of its reaches

@@ -9,12 +9,12 @@ use lib.IntN.{ℤ, pos, negsuc}
 use lib.ListN.{drop}
 use Rattle.river.specs.declared.card.Card.{Card}
 use Rattle.river.specs.declared.card.Nitrification.{Nitrification}
-use Rattle.river.specs.declared.card.Nitrification.the-variants.{Idle, Nitrifying}
+use Rattle.river.specs.declared.card.Nitrification.the-variants.{Nitrifying}
 use Rattle.river.specs.Bytes.{Mark, mark, markBytes, twoBytes, fourBytes, byteAt, twoAt, fourAt}
 
 -- whether a reach has an `NT` record, of zeros too
 unfoldable pub nitrifies : Nitrification → Bool
-nitrifies Idle = false
+nitrifies Nitrification.Absent = false
 nitrifies (Nitrifying rate concentration load) = true
 
 unfoldable pub isNitrified : Card → Bool

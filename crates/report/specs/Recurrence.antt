@@ -7,7 +7,7 @@ use lib.Dec.{eqb}
 use Rattle.decay.specs.Fraction.{Fraction, ofℕ, _+ᶠ_, _-ᶠ_, _*ᶠ_, _÷_}
 use Rattle.decay.specs.Exact.{foot, exponent, S, F}
 use Rattle.river.specs.declared.card.Dam.{Dam}
-use Rattle.river.specs.declared.card.Dam.the-variants.{Absent, Aerating}
+use Rattle.river.specs.declared.card.Dam.the-variants.{Aerating}
 use Rattle.river.specs.declared.card.Card.{Card}
 use Rattle.river.specs.declared.source.Source.{Source}
 use Rattle.flows.specs.Flow.{Feeders, none, more, fed, flowOf, reachFlow, sludgeOf}
@@ -27,7 +27,7 @@ exactMean true Qu sum = sum ÷ ofℕ Qu
 
 -- 2. oxygen C below a dam
 unfoldable pub exactAerated : Dam → (Cs : Fraction) (Qu : ℕ) (C : Fraction) → Fraction
-exactAerated Absent Cs Qu C = C
+exactAerated Dam.Absent Cs Qu C = C
 exactAerated (Aerating share generating) Cs Qu C =
     C +ᶠ (Cs -ᶠ C) *ᶠ ofℕ (share * (Qu - generating)) ÷ ofℕ (1_000 * Qu)
 

@@ -42,7 +42,7 @@ fn is_nitrified(card: Card) -> bool
     let optionals = card.optionals;
     let nitrification = optionals.nitrification;
     match nitrification {
-        Nitrification::Idle => false,
+        Nitrification::Absent => false,
         Nitrification::Nitrifying {
             rate: _,
             concentration: _,

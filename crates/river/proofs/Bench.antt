@@ -3,14 +3,15 @@ use mathlib.Core.Path.{_≡_, refl}
 use mathlib.Core.List.{List, [], _∷_, map}
 use Prim.Native.Nat.{ℕ, _+_}
 use lib.ListN.{length, take, set, replicate}
+use Rattle.river.specs.declared.card.RateFactors.{RateFactors}
 use Rattle.river.specs.declared.card.Dam.{Dam}
-use Rattle.river.specs.declared.card.Dam.the-variants.{Absent, Aerating}
+use Rattle.river.specs.declared.card.Dam.the-variants.{Aerating}
 use Rattle.river.specs.declared.card.Amount.{Amount}
-use Rattle.river.specs.declared.card.Amount.the-variants.{Without, Given}
+use Rattle.river.specs.declared.card.Amount.the-variants.{Given}
 use Rattle.river.specs.declared.card.Nitrification.the-variants.{Nitrifying}
 use Rattle.river.specs.declared.card.Card.{Card}
 use Rattle.river.specs.declared.card.Optionals.{Optionals}
-use Rattle.river.specs.declared.card.RateFactors.the-variants.{AsGiven, PerDegree}
+use Rattle.river.specs.declared.card.RateFactors.the-variants.{PerDegree}
 use Rattle.river.specs.Refusal.{accepted, refused, refuse, need, choose, after}
 use Rattle.river.specs.Card.{noOptionals, withTake, withPressure, withSludge, withNitrification, countOk, inRange, outletOk}
 use Rattle.river.specs.River.{River, riverOf, longestFile}
@@ -41,39 +42,39 @@ reach = reach-at 20 0
 
 -- a river without rate factors
 abbrev pub given : List Card → River
-given = riverOf AsGiven
+given = riverOf RateFactors.Absent
 
 -- the two reaches of the printing program's example, with a dam on reach 2 or without, and with takes or without
 abbrev pub first : Amount → Card
-first take = reach 2 0 1000 3000 2000 8000 0 Absent (withTake take noOptionals)
+first take = reach 2 0 1000 3000 2000 8000 0 Dam.Absent (withTake take noOptionals)
 
 abbrev pub second : Dam → (take pressure : Amount) → Card
 second dam take pressure = reach 0 0 1000 1000 30000 2000 0 dam (withTake take (withPressure pressure noOptionals))
 
 abbrev pub two : Dam → List Card
-two dam = first Without ∷ second dam Without Without ∷ []
+two dam = first Amount.Absent ∷ second dam Amount.Absent Amount.Absent ∷ []
 
 abbrev pub weir : Dam
 weir = Aerating 500 1000
 
 -- reach 2 below a dam and at a pressure
 abbrev pub hilly : (pressure : Amount) → List Card
-hilly pressure = first Without ∷ second weir Without pressure ∷ []
+hilly pressure = first Amount.Absent ∷ second weir Amount.Absent pressure ∷ []
 
 -- reach 2 with a sludge bed
 abbrev pub bedded : (sludge : Amount) → List Card
-bedded sludge = first Without ∷ reach 0 0 1000 1000 30000 2000 0 Absent (withSludge sludge noOptionals) ∷ []
+bedded sludge = first Amount.Absent ∷ reach 0 0 1000 1000 30000 2000 0 Dam.Absent (withSludge sludge noOptionals) ∷ []
 
 -- reach 2 with a nitrification, and its file, whose last 16 bytes are the `NT` record
 abbrev pub nitrified : (rate concentration load : ℕ) → List Card
-nitrified rate concentration load = first Without ∷ reach 0 0 1000 1000 30000 2000 0 Absent (withNitrification (Nitrifying rate concentration load) noOptionals) ∷ []
+nitrified rate concentration load = first Amount.Absent ∷ reach 0 0 1000 1000 30000 2000 0 Dam.Absent (withNitrification (Nitrifying rate concentration load) noOptionals) ∷ []
 
 abbrev pub nitrified-file : List ℕ
 nitrified-file = encode (given (nitrified 300 4_000 5))
 
 -- the file of the two reaches with rate factors
 abbrev pub by-factors : (decay aeration : ℕ) → List ℕ
-by-factors decay aeration = encode (riverOf (PerDegree decay aeration) (two Absent))
+by-factors decay aeration = encode (riverOf (PerDegree decay aeration) (two Dam.Absent))
 
 pub record Rows : Type 0 where
   pub empty-file : readFile [] ≡ refused (refuse 1 0)
@@ -94,15 +95,15 @@ pub record Rows : Type 0 where
   pub ends-in-zeros : map (λ (k : ℕ). readFile (set nitrified-file k 1)) (68 ∷ 69 ∷ 70 ∷ 71 ∷ []) ≡ replicate 4 (refused (refuse 4 2))
   pub cut-nitrified : readFile (take 71 nitrified-file) ≡ refused (refuse 1 2)
   -- factors at either end of their range, and past it, and their record cut
-  pub least-factors-read : readFile (by-factors 1_000 1_000) ≡ accepted (riverOf (PerDegree 1_000 1_000) (two Absent))
-  pub most-factors-read : readFile (by-factors 1_100 1_100) ≡ accepted (riverOf (PerDegree 1_100 1_100) (two Absent))
+  pub least-factors-read : readFile (by-factors 1_000 1_000) ≡ accepted (riverOf (PerDegree 1_000 1_000) (two Dam.Absent))
+  pub most-factors-read : readFile (by-factors 1_100 1_100) ≡ accepted (riverOf (PerDegree 1_100 1_100) (two Dam.Absent))
   pub decay-too-low : readFile (by-factors 999 1_000) ≡ refused (refuse 4 0)
   pub decay-too-high : readFile (by-factors 1_101 1_000) ≡ refused (refuse 4 0)
   pub aeration-too-low : readFile (by-factors 1_000 999) ≡ refused (refuse 4 0)
   pub aeration-too-high : readFile (by-factors 1_000 1_101) ≡ refused (refuse 4 0)
   pub cut-factors : readFile (take 9 (by-factors 1_047 1_024)) ≡ refused (refuse 1 0)
   -- a file with factors is 6 bytes longer
-  pub thousands-longer : length (by-factors 1_000 1_000) ≡ length (encode (given (two Absent))) + 6
+  pub thousands-longer : length (by-factors 1_000 1_000) ≡ length (encode (given (two Dam.Absent))) + 6
   -- the longest file
   pub longest : longestFile ≡ 8_202
 

@@ -19,11 +19,15 @@ use Rattle.river.specs.Refusal.{accepted}
 use Rattle.river.specs.River.{River, riverOf, LawfulRiver, longestFile}
 use Rattle.river.specs.Records.{TH, factorsRecord}
 use Rattle.river.specs.Write.{encode, encodeCard, encodeCards, encodeHeader}
-use Rattle.river.specs.declared.card.Amount.the-variants.{Without, Given}
+use Rattle.river.specs.declared.card.RateFactors.{RateFactors}
+use Rattle.river.specs.declared.card.Nitrification.{Nitrification}
+use Rattle.river.specs.declared.card.Dam.{Dam}
+use Rattle.river.specs.declared.card.Amount.{Amount}
+use Rattle.river.specs.declared.card.Amount.the-variants.{Given}
 use Rattle.river.specs.declared.card.Card.{Card}
-use Rattle.river.specs.declared.card.Dam.the-variants.{Absent, Aerating}
-use Rattle.river.specs.declared.card.Nitrification.the-variants.{Idle, Nitrifying}
-use Rattle.river.specs.declared.card.RateFactors.the-variants.{AsGiven, PerDegree}
+use Rattle.river.specs.declared.card.Dam.the-variants.{Aerating}
+use Rattle.river.specs.declared.card.Nitrification.the-variants.{Nitrifying}
+use Rattle.river.specs.declared.card.RateFactors.the-variants.{PerDegree}
 use Rattle.river.proofs.Answers.{need-true, after-accepted, passed, went}
 use Rattle.river.proofs.bytes.Numbers.{are-bytes-drop, true-marked, twoBytes-twoAt, leads-spelled}
 use Rattle.river.proofs.range.Ranges.{countOk-true, true-countOk}
@@ -192,31 +196,31 @@ one-river x y p q e =
     cc
 
 -- THEOREM: rate factors make another river than none, whatever their numbers, 1,000 too
-pub factors-or-none : {decay aeration : ℕ} (x y : River) → x .factors ≡ AsGiven → y .factors ≡ PerDegree decay aeration → x ≡ y → ⊥
+pub factors-or-none : {decay aeration : ℕ} (x y : River) → x .factors ≡ RateFactors.Absent → y .factors ≡ PerDegree decay aeration → x ≡ y → ⊥
 factors-or-none x y p q e = let z : _≡_ {A = ℕ} 0 1 = cc (ap (λ (r : River). r .factors) e) in omega arith
 
 -- THEOREM: and another file
-pub factors-in-file : {decay aeration : ℕ} (x y : River) → LawfulRiver x → LawfulRiver y → x .factors ≡ AsGiven → y .factors ≡ PerDegree decay aeration → encode x ≡ encode y → ⊥
+pub factors-in-file : {decay aeration : ℕ} (x y : River) → LawfulRiver x → LawfulRiver y → x .factors ≡ RateFactors.Absent → y .factors ≡ PerDegree decay aeration → encode x ≡ encode y → ⊥
 factors-in-file x y l k p q e = factors-or-none x y p q (one-river x y l k e)
 
 -- THEOREM: a dam makes another card than no dam, whatever its numbers
-pub dam-or-none : {share generating : ℕ} (c d : Card) → c .dam ≡ Absent → d .dam ≡ Aerating share generating → c ≡ d → ⊥
+pub dam-or-none : {share generating : ℕ} (c d : Card) → c .dam ≡ Dam.Absent → d .dam ≡ Aerating share generating → c ≡ d → ⊥
 dam-or-none c d p q e = let z : _≡_ {A = ℕ} 0 1 = cc (ap (λ (x : Card). x .dam) e) in omega arith
 
 -- THEOREM: a take makes another card than no take, whatever its number, 0 too; and so, by `one-river`, another file
-pub take-or-none : {n : ℕ} (c d : Card) → c .optionals .take ≡ Without → d .optionals .take ≡ Given n → c ≡ d → ⊥
+pub take-or-none : {n : ℕ} (c d : Card) → c .optionals .take ≡ Amount.Absent → d .optionals .take ≡ Given n → c ≡ d → ⊥
 take-or-none c d p q e = let z : _≡_ {A = ℕ} 0 1 = cc (ap (λ (x : Card). x .optionals .take) e) in omega arith
 
 -- THEOREM: a pressure likewise, 760 too
-pub pressure-or-none : {n : ℕ} (c d : Card) → c .optionals .pressure ≡ Without → d .optionals .pressure ≡ Given n → c ≡ d → ⊥
+pub pressure-or-none : {n : ℕ} (c d : Card) → c .optionals .pressure ≡ Amount.Absent → d .optionals .pressure ≡ Given n → c ≡ d → ⊥
 pressure-or-none c d p q e = let z : _≡_ {A = ℕ} 0 1 = cc (ap (λ (x : Card). x .optionals .pressure) e) in omega arith
 
 -- THEOREM: a sludge bed likewise, one of demand 0 too
-pub sludge-or-none : {n : ℕ} (c d : Card) → c .optionals .sludge ≡ Without → d .optionals .sludge ≡ Given n → c ≡ d → ⊥
+pub sludge-or-none : {n : ℕ} (c d : Card) → c .optionals .sludge ≡ Amount.Absent → d .optionals .sludge ≡ Given n → c ≡ d → ⊥
 sludge-or-none c d p q e = let z : _≡_ {A = ℕ} 0 1 = cc (ap (λ (x : Card). x .optionals .sludge) e) in omega arith
 
 -- THEOREM: a nitrification likewise, one of zeros too
-pub nitrification-or-none : {rate concentration load : ℕ} (c d : Card) → c .optionals .nitrification ≡ Idle → d .optionals .nitrification ≡ Nitrifying rate concentration load → c ≡ d → ⊥
+pub nitrification-or-none : {rate concentration load : ℕ} (c d : Card) → c .optionals .nitrification ≡ Nitrification.Absent → d .optionals .nitrification ≡ Nitrifying rate concentration load → c ≡ d → ⊥
 nitrification-or-none c d p q e = let z : _≡_ {A = ℕ} 0 1 = cc (ap (λ (x : Card). x .optionals .nitrification) e) in omega arith
 
 -- each card's records are at most as long as the longest card's

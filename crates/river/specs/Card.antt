@@ -10,11 +10,10 @@ use Rattle.river.specs.declared.card.Card.{Card}
 use Rattle.river.specs.declared.card.Cards.{Cards}
 use Rattle.river.specs.declared.card.Optionals.{Optionals}
 use Rattle.river.specs.declared.card.Dam.{Dam}
-use Rattle.river.specs.declared.card.Dam.the-variants.{Absent}
 use Rattle.river.specs.declared.card.Amount.{Amount}
-use Rattle.river.specs.declared.card.Amount.the-variants.{Without, Given}
+use Rattle.river.specs.declared.card.Amount.the-variants.{Given}
 use Rattle.river.specs.declared.card.Nitrification.{Nitrification}
-use Rattle.river.specs.declared.card.Nitrification.the-variants.{Idle, Nitrifying}
+use Rattle.river.specs.declared.card.Nitrification.the-variants.{Nitrifying}
 use Rattle.river.specs.declared.source.Demand.the-variants.{Nitrogenous}
 use Rattle.river.specs.Bytes.{Mark, mark}
 use Rattle.river.specs.Described.{InRange}
@@ -28,12 +27,12 @@ cardList cs = take (cs .count) (cs .at)
 
 -- an amount, or what stands for none
 abbrev pub amountOr : ℕ → Amount → ℕ
-amountOr none Without = none
+amountOr none Amount.Absent = none
 amountOr none (Given n) = n
 
 -- none of a card's optional fields
 abbrev pub noOptionals : Optionals
-noOptionals = record { take = Without; pressure = Without; sludge = Without; nitrification = Idle }
+noOptionals = record { take = Amount.Absent; pressure = Amount.Absent; sludge = Amount.Absent; nitrification = Nitrification.Absent }
 
 -- optional fields with another take, pressure, sludge bed or nitrification
 abbrev pub withTake : Amount → Optionals → Optionals
@@ -78,7 +77,7 @@ blank =
       «inflow_bod» = 0;
       «inflow_oxygen» = 0;
       load = 0;
-      dam = Absent;
+      dam = Dam.Absent;
       optionals = noOptionals;
     }
 
@@ -92,7 +91,7 @@ pub record FieldsInRange (c : Card) : Type 0 where
 
 -- a nitrification with its rate left out, and one whose numbers are in range, its rate aside
 abbrev pub withoutRate : Nitrification → Nitrification
-withoutRate Idle = Idle
+withoutRate Nitrification.Absent = Nitrification.Absent
 withoutRate (Nitrifying rate concentration load) = Nitrifying 0 concentration load
 
 abbrev pub RegularNitrification : Nitrification → Type 0

@@ -1,21 +1,19 @@
 -- The optional records, each by its description: the tables of "The river file".
-use mathlib.Core.Bool.{Bool, true, false}
 use mathlib.Core.List.{[], _∷_}
 use mathlib.Core.Option.{none, some}
 use Prim.Native.Char.{code}
 use Prim.Native.Nat.{ℕ}
 use Rattle.river.specs.declared.card.Amount.{Amount}
-use Rattle.river.specs.declared.card.Amount.the-variants.{Without, Given}
-use Rattle.river.specs.declared.card.Layout.{Layout}
+use Rattle.river.specs.declared.card.Amount.the-variants.{Given}
 use Rattle.river.specs.declared.card.Dam.{Dam}
-use Rattle.river.specs.declared.card.Dam.the-variants.{Absent, Aerating}
+use Rattle.river.specs.declared.card.Dam.the-variants.{Aerating}
 use Rattle.river.specs.declared.card.Nitrification.{Nitrification}
-use Rattle.river.specs.declared.card.Nitrification.the-variants.{Idle, Nitrifying}
+use Rattle.river.specs.declared.card.Nitrification.the-variants.{Nitrifying}
 use Rattle.river.specs.declared.card.RateFactors.{RateFactors}
-use Rattle.river.specs.declared.card.RateFactors.the-variants.{AsGiven, PerDegree}
+use Rattle.river.specs.declared.card.RateFactors.the-variants.{PerDegree}
 use Rattle.river.specs.Bytes.{Mark, mark}
 use Rattle.river.specs.Described.{Described, kindOf}
-use Rattle.river.specs.Fields.{Width, Field, two, four, between, upTo, any}
+use Rattle.river.specs.Fields.{Field, two, four, between, upTo, any}
 use Rattle.river.specs.Optional.{Kind}
 
 -- the range of a rate factor, in thousandths
@@ -27,11 +25,11 @@ abbrev pub TH : Described
 TH =
     record {
       Value = RateFactors;
-      absent = AsGiven;
+      absent = RateFactors.Absent;
       mark = mark (code "T") (code "H");
       fields = rateFactor ∷ rateFactor ∷ [];
       make = PerDegree;
-      numbers = λ factors. elim factors [ AsGiven ↦ none | PerDegree decay aeration ↦ some (decay, (aeration, tt)) ];
+      numbers = λ factors. elim factors [ RateFactors.Absent ↦ none | PerDegree decay aeration ↦ some (decay, (aeration, tt)) ];
     }
 
 abbrev pub factorsRecord : Kind
@@ -42,11 +40,11 @@ abbrev pub DM : Described
 DM =
     record {
       Value = Dam;
-      absent = Absent;
+      absent = Dam.Absent;
       mark = mark (code "D") (code "M");
       fields = upTo two 1_000 ∷ upTo four 100_000_000 ∷ [];
       make = Aerating;
-      numbers = λ dam. elim dam [ Absent ↦ none | Aerating share generating ↦ some (share, (generating, tt)) ];
+      numbers = λ dam. elim dam [ Dam.Absent ↦ none | Aerating share generating ↦ some (share, (generating, tt)) ];
     }
 
 abbrev pub damRecord : Kind
@@ -57,11 +55,11 @@ abbrev pub amount : Mark → Field → Described
 amount m f =
     record {
       Value = Amount;
-      absent = Without;
+      absent = Amount.Absent;
       mark = m;
       fields = f ∷ [];
       make = Given;
-      numbers = λ a. elim a [ Without ↦ none | Given n ↦ some (n, tt) ];
+      numbers = λ a. elim a [ Amount.Absent ↦ none | Given n ↦ some (n, tt) ];
     }
 
 -- the `WD` record: mark; take (4; to 100,000,000)
@@ -85,17 +83,6 @@ SD = amount (mark (code "S") (code "D")) (any two)
 abbrev pub sludgeRecord : Kind
 sludgeRecord = kindOf SD
 
--- the width of a layout's number, and what a layout of the program describes
-abbrev pub widthOf : (wide : Bool) → Width
-widthOf true = four
-widthOf false = two
-
-abbrev pub described : Layout → Described
-described l = amount (mark (l .first) (l .second)) (between (widthOf (l .wide)) (l .least) (l .most))
-
-abbrev pub amountRecord : Layout → Kind
-amountRecord l = kindOf (described l)
-
 -- the most that a rate may be, on a card as in force
 abbrev pub rateMost : ℕ
 rateMost = 20_000
@@ -106,11 +93,11 @@ abbrev pub NT : Described
 NT =
     record {
       Value = Nitrification;
-      absent = Idle;
+      absent = Nitrification.Absent;
       mark = mark (code "N") (code "T");
       fields = upTo two rateMost ∷ upTo four 1_000_000 ∷ any four ∷ upTo four 0 ∷ [];
       make = λ rate concentration load zeros. Nitrifying rate concentration load;
-      numbers = λ n. elim n [ Idle ↦ none | Nitrifying rate concentration load ↦ some (rate, (concentration, (load, (0, tt)))) ];
+      numbers = λ n. elim n [ Nitrification.Absent ↦ none | Nitrifying rate concentration load ↦ some (rate, (concentration, (load, (0, tt)))) ];
     }
 
 abbrev pub nitrificationRecord : Kind

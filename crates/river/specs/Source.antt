@@ -3,18 +3,18 @@
 use Prim.Native.Nat.{ℕ, _+_, _*_, _<_, _≤_}
 use Rattle.river.specs.declared.card.Card.{Card}
 use Rattle.river.specs.declared.card.Nitrification.{Nitrification}
-use Rattle.river.specs.declared.card.Nitrification.the-variants.{Idle, Nitrifying}
+use Rattle.river.specs.declared.card.Nitrification.the-variants.{Nitrifying}
 use Rattle.river.specs.declared.source.Demand.{Demand}
 use Rattle.river.specs.declared.source.Demand.the-variants.{Bod, Nitrogenous}
 use Rattle.river.specs.declared.source.Source.{Source}
 
 -- the source and the rate of nitrogenous BOD; a reach without nitrification adds none, and its rate is 0
 abbrev pub nitrogenousSource : (inflow : ℕ) → Nitrification → Source
-nitrogenousSource inflow Idle = record { inflow = inflow; concentration = 0; load = 0 }
+nitrogenousSource inflow Nitrification.Absent = record { inflow = inflow; concentration = 0; load = 0 }
 nitrogenousSource inflow (Nitrifying rate concentration load) = record { inflow = inflow; concentration = concentration; load = load }
 
 abbrev pub nitrogenousRate : Nitrification → ℕ
-nitrogenousRate Idle = 0
+nitrogenousRate Nitrification.Absent = 0
 nitrogenousRate (Nitrifying rate concentration load) = rate
 
 -- the source of a demand of a reach

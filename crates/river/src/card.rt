@@ -2,7 +2,8 @@
 ghost use mathlib.Core.Path.{_≡_};
 ghost use lib.ListN.{length};
 ghost use Rattle.river.specs.Card.{noOptionals, withNitrification, withOptionals, blank, amountOr, sizeOf};
-ghost use Rattle.river.specs.Records.{damRecord, nitrificationRecord, factorsRecord, amountRecord};
+ghost use Rattle.river.specs.Records.{damRecord, nitrificationRecord, factorsRecord};
+ghost use Rattle.river.specs.held.Layouts.{amountRecord};
 ghost use Rattle.river.specs.River.{longestFile};
 
 // The lengths of the records `RV`, `TH`, `RE`, `DM`, `WD`, `BP`, `SD` and `NT`.
@@ -52,7 +53,7 @@ pub enum Dam {
 // The nitrification of a reach is either none or a rate, in thousandths per day, with the nitrogenous BOD of the inflow, in thousandths of
 // mg/L, and a load of it, in milligrams a second.
 pub enum Nitrification {
-    Idle,
+    Absent,
     Nitrifying {
         rate: u32,
         concentration: u32,
@@ -63,13 +64,13 @@ pub enum Nitrification {
 // The rate factors of a river are either none, and its rates are in force as its cards give them, or two, in thousandths for each degree: one
 // for the decay of both demands and one for surface aeration.
 pub enum RateFactors {
-    AsGiven,
+    Absent,
     PerDegree { decay: u16, aeration: u16 },
 }
 
 // A number that a card has or has not.
 pub enum Amount {
-    Without,
+    Absent,
     Given(u32),
 }
 
@@ -145,10 +146,10 @@ pub fn no_optionals() -> Optionals
     ensures { λ r. ⌜ r ≡ noOptionals ⌝ }
 {
     Optionals {
-        take: Amount::Without,
-        pressure: Amount::Without,
-        sludge: Amount::Without,
-        nitrification: Nitrification::Idle,
+        take: Amount::Absent,
+        pressure: Amount::Absent,
+        sludge: Amount::Absent,
+        nitrification: Nitrification::Absent,
     }
 }
 
@@ -224,7 +225,7 @@ pub(crate) fn nitrification_size(nitrification: Nitrification) -> usize
     ensures { λ r. ⌜ r ≡ length (nitrificationRecord .encode nitrification) ⌝ }
 {
     match nitrification {
-        Nitrification::Idle => 0,
+        Nitrification::Absent => 0,
         Nitrification::Nitrifying {
             rate: _,
             concentration: _,
@@ -238,7 +239,7 @@ pub(crate) fn factors_size(factors: RateFactors) -> usize
     ensures { λ r. ⌜ r ≡ length (factorsRecord .encode factors) ⌝ }
 {
     match factors {
-        RateFactors::AsGiven => 0,
+        RateFactors::Absent => 0,
         RateFactors::PerDegree {
             decay: _,
             aeration: _,
@@ -262,7 +263,7 @@ pub fn amount_or(none: u32, amount: Amount) -> u32
     ensures { λ r. ⌜ r ≡ amountOr none amount ⌝ }
 {
     match amount {
-        Amount::Without => none,
+        Amount::Absent => none,
         Amount::Given(n) => n,
     }
 }
@@ -272,7 +273,7 @@ pub(crate) fn amount_size(layout: Layout, amount: Amount) -> usize
     ensures { λ r. ⌜ r ≡ length (amountRecord layout .encode amount) ⌝ }
 {
     match amount {
-        Amount::Without => 0,
+        Amount::Absent => 0,
         Amount::Given(_) => layout_size(layout),
     }
 }

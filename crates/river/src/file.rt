@@ -28,7 +28,7 @@ pub fn refused(r: Refusal) -> Reading
     let at = [none; REACHES];
     Reading {
         outcome: Outcome::Refused(r),
-        factors: RateFactors::AsGiven,
+        factors: RateFactors::Absent,
         cards: Cards { at, count: 0 },
     }
 }

@@ -2,15 +2,12 @@
 ghost use mathlib.Core.Path.{_≡_};
 ghost use Prim.Native.Nat.{_<_, _^_};
 ghost use lib.ListN.{drop};
-ghost use Rattle.river.specs.declared.card.Amount.the-variants.{Without};
-ghost use Rattle.river.specs.declared.card.Dam.the-variants.{Absent};
-ghost use Rattle.river.specs.declared.card.Nitrification.the-variants.{Idle};
-ghost use Rattle.river.specs.declared.card.RateFactors.the-variants.{AsGiven};
 ghost use Rattle.river.specs.Card.{optional, valuesOf, withValues};
 ghost use Rattle.river.specs.Optional.{absent, readOptional, readOptionals};
 ghost use Rattle.river.specs.Refusal.{accepted, after, outcomeOf, goOn};
 ghost use Rattle.river.specs.Fields.{numberAt};
-ghost use Rattle.river.specs.Records.{damRecord, nitrificationRecord, factorsRecord, widthOf, amountRecord};
+ghost use Rattle.river.specs.Records.{damRecord, nitrificationRecord, factorsRecord};
+ghost use Rattle.river.specs.held.Layouts.{widthOf, amountRecord};
 ghost use Rattle.river.specs.Read.{readHeader, cardAt, readReach};
 ghost use Rattle.river.specs.held.Reader.{YieldsReach};
 use crate::bytes::behind;
@@ -123,11 +120,11 @@ pub fn read_header(file: &[u8]) -> HeaderRead
 
 // An outcome, and no rate factors.
 fn no_factors(outcome: Outcome) -> FactorsRead
-    ensures { λ r. ⌜ outcomeOf (r .outcome) (r .factors) ≡ outcomeOf outcome AsGiven ⌝ }
+    ensures { λ r. ⌜ outcomeOf (r .outcome) (r .factors) ≡ outcomeOf outcome RateFactors.Absent ⌝ }
 {
     FactorsRead {
         outcome,
-        factors: RateFactors::AsGiven,
+        factors: RateFactors::Absent,
     }
 }
 
@@ -176,7 +173,7 @@ fn card_at(s: &[u8]) -> Card
 
 // An outcome, and no dam.
 fn no_dam(outcome: Outcome) -> DamRead
-    ensures { λ r. ⌜ outcomeOf (r .outcome) (r .dam) ≡ outcomeOf outcome Absent ⌝ }
+    ensures { λ r. ⌜ outcomeOf (r .outcome) (r .dam) ≡ outcomeOf outcome Dam.Absent ⌝ }
 {
     DamRead {
         outcome,
@@ -220,11 +217,11 @@ fn number_at(s: &[u8], wide: bool) -> u32
 
 // An outcome, and no amount.
 fn no_amount(outcome: Outcome) -> AmountRead
-    ensures { λ r. ⌜ outcomeOf (r .outcome) (r .amount) ≡ outcomeOf outcome Without ⌝ }
+    ensures { λ r. ⌜ outcomeOf (r .outcome) (r .amount) ≡ outcomeOf outcome Amount.Absent ⌝ }
 {
     AmountRead {
         outcome,
-        amount: Amount::Without,
+        amount: Amount::Absent,
     }
 }
 
@@ -253,11 +250,11 @@ pub(crate) fn read_amount(before: Outcome, s: &[u8], reach: u8, layout: Layout) 
 
 // An outcome, and no nitrification.
 fn no_nitrification(outcome: Outcome) -> NitrificationRead
-    ensures { λ r. ⌜ outcomeOf (r .outcome) (r .nitrification) ≡ outcomeOf outcome Idle ⌝ }
+    ensures { λ r. ⌜ outcomeOf (r .outcome) (r .nitrification) ≡ outcomeOf outcome Nitrification.Absent ⌝ }
 {
     NitrificationRead {
         outcome,
-        nitrification: Nitrification::Idle,
+        nitrification: Nitrification::Absent,
     }
 }
 

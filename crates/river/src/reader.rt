@@ -70,7 +70,7 @@ fn halted(at: [Card; REACHES], outcome: Outcome) -> Progress
         count: 0,
         read: 0,
         next: 0,
-        factors: RateFactors::AsGiven,
+        factors: RateFactors::Absent,
     }
 }
 

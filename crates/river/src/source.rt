@@ -22,7 +22,7 @@ fn nitrogenous_source(inflow: u32, nitrification: Nitrification) -> Source
     ensures { λ r. ⌜ r ≡ nitrogenousSource inflow nitrification ⌝ }
 {
     match nitrification {
-        Nitrification::Idle => Source {
+        Nitrification::Absent => Source {
             inflow,
             concentration: 0,
             load: 0,
@@ -44,7 +44,7 @@ fn nitrogenous_rate(nitrification: Nitrification) -> u32
     ensures { λ r. ⌜ r ≡ nitrogenousRate nitrification ⌝ }
 {
     match nitrification {
-        Nitrification::Idle => 0,
+        Nitrification::Absent => 0,
         Nitrification::Nitrifying {
             rate,
             concentration: _,

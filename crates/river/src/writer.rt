@@ -51,7 +51,7 @@ fn stopped(r: Refusal) -> Checking
         due: 0,
         passed: 0,
         length: HEADER_BYTES,
-        factors: RateFactors::AsGiven,
+        factors: RateFactors::Absent,
     }
 }
 

@@ -6,8 +6,9 @@ use mathlib.Core.Bool.{Bool, true, false}
 use mathlib.Core.List.{List, [], _++_}
 use Prim.Native.Nat.{ℕ}
 use lib.IntN.{pos, negsuc}
-use Rattle.river.specs.declared.card.Dam.the-variants.{Absent}
-use Rattle.river.specs.declared.card.Amount.the-variants.{Without, Given}
+use Rattle.river.specs.declared.card.Amount.{Amount}
+use Rattle.river.specs.declared.card.Dam.{Dam}
+use Rattle.river.specs.declared.card.Amount.the-variants.{Given}
 use Rattle.river.specs.declared.card.Nitrification.the-variants.{Nitrifying}
 use Rattle.river.specs.Refusal.{accepted, refused, refuse}
 use Rattle.river.proofs.Bench.{two, hilly}
@@ -21,11 +22,11 @@ use Rattle.text.specs.MeanText.{meanLine, riverLine, meanTextOf}
 
 pub record Rows : Type 0 where
   pub example :
-      textOf (accepted (two Absent)) ≡ ascii "1 1 3000 2000000 2000000 8000000 0 8000000 8000000 0\n2 2 4000 9000000 9000000 6500000 0 6500000 6500000 0\n"
+      textOf (accepted (two Dam.Absent)) ≡ ascii "1 1 3000 2000000 2000000 8000000 0 8000000 8000000 0\n2 2 4000 9000000 9000000 6500000 0 6500000 6500000 0\n"
   pub drawn-1 :
-      textOf (accepted (drawn (Given 1000) Without)) ≡ ascii "1 1 2000 2000000 2000000 8000000 0 8000000 8000000 0\n2 2 3000 11333333 11333333 6000000 0 6000000 6000000 0\n"
+      textOf (accepted (drawn (Given 1000) Amount.Absent)) ≡ ascii "1 1 2000 2000000 2000000 8000000 0 8000000 8000000 0\n2 2 3000 11333333 11333333 6000000 0 6000000 6000000 0\n"
   pub drawn-2 :
-      textOf (accepted (drawn Without (Given 1000))) ≡ ascii "1 1 3000 2000000 2000000 8000000 0 8000000 8000000 0\n2 2 3000 9000000 9000000 6500000 0 6500000 6500000 0\n"
+      textOf (accepted (drawn Amount.Absent (Given 1000))) ≡ ascii "1 1 3000 2000000 2000000 8000000 0 8000000 8000000 0\n2 2 3000 9000000 9000000 6500000 0 6500000 6500000 0\n"
   pub hilly-700 :
       textOf (accepted (hilly (Given 700))) ≡ ascii "1 1 3000 2000000 2000000 8000000 0 8000000 8000000 0\n2 2 4000 9000000 9000000 6577389 0 6577389 6577389 0\n"
   pub laden-4000 :

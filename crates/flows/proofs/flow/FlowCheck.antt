@@ -11,7 +11,7 @@ use lib.ListN.{length}
 use borrow.Author.Tests.{leb-true, le-leb}
 use Rattle.river.specs.declared.card.Card.{Card}
 use Rattle.river.specs.declared.card.Dam.{Dam}
-use Rattle.river.specs.declared.card.Dam.the-variants.{Absent, Aerating}
+use Rattle.river.specs.declared.card.Dam.the-variants.{Aerating}
 use Rattle.river.specs.declared.refusal.Outcome.{Outcome}
 use Rattle.river.specs.declared.refusal.Refusal.{Refusal}
 use Rattle.flows.specs.declared.flow.FlowTable.{FlowTable}
@@ -27,12 +27,12 @@ use Rattle.flows.proofs.flow.Checks.{Full, withReach, next-table}
 -- the test of check 9 and its rule
 dam-rule-true : (dam : Dam) (up : Feeders) → DamRule dam up → damFits dam (fed up) (flowOf up) ≡ true
 unfolding damFits DamRule
-dam-rule-true Absent up h = refl
+dam-rule-true Dam.Absent up h = refl
 dam-rule-true (Aerating share generating) up h = both (h .0) (le-leb generating (flowOf up) (h .1))
 
 true-dam-rule : (dam : Dam) (up : Feeders) → damFits dam (fed up) (flowOf up) ≡ true → DamRule dam up
 unfolding damFits DamRule
-true-dam-rule Absent up e = tt
+true-dam-rule Dam.Absent up e = tt
 true-dam-rule (Aerating share generating) up e =
     let b = both-true e in (b .left, leb-true generating (flowOf up) (b .right))
 

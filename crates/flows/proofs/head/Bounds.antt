@@ -8,7 +8,7 @@ use lib.Dec.{lit<}
 use Rattle.river.specs.declared.card.Dam.{Dam}
 use Rattle.river.specs.declared.card.Dam.the-variants.{Aerating}
 use Rattle.river.specs.declared.card.Amount.{Amount}
-use Rattle.river.specs.declared.card.Amount.the-variants.{Without, Given}
+use Rattle.river.specs.declared.card.Amount.the-variants.{Given}
 use Rattle.river.specs.declared.card.Card.{Card}
 use Rattle.river.specs.declared.source.Source.{Source}
 use Rattle.river.specs.Card.{amountOr, RegularCard}
@@ -49,7 +49,7 @@ standard-saturation card e = rw e (mul-div-mul-right (saturationThousandths (car
 
 -- a regular card has what saturation asks
 pressure-small : (a : Amount) → InRange BP a → amountOr standardPressure a ≤ 800
-pressure-small Without h = omega arith
+pressure-small Amount.Absent h = omega arith
 pressure-small (Given p) h = h .0 .most
 
 pub conditions-in-range : {n i : ℕ} {c : Card} → RegularCard n i c → SaturationInRange c

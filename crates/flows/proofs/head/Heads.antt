@@ -10,7 +10,7 @@ use lib.ListN.{getD}
 use lib.Dec.{ltb, eqb, leb·suc-suc}
 use Rattle.river.specs.declared.card.Card.{Card}
 use Rattle.river.specs.declared.card.Dam.{Dam}
-use Rattle.river.specs.declared.card.Dam.the-variants.{Absent, Aerating}
+use Rattle.river.specs.declared.card.Dam.the-variants.{Aerating}
 use Rattle.river.specs.declared.source.Demand.{Demand}
 use Rattle.river.specs.declared.source.Demand.the-variants.{Bod, Nitrogenous}
 use Rattle.river.specs.declared.source.Source.{Source}
@@ -47,7 +47,7 @@ flow-of-fed cards (suc n) i s e =
 
 dam-within : (dam : Dam) (up : Feeders) → InRange DM dam → DamRule dam up → DamWithin dam (flowOf up)
 unfolding DamRule
-dam-within Absent up l r = tt
+dam-within Dam.Absent up l r = tt
 dam-within (Aerating share generating) up l r = (l .0 .most, r .1)
 
 -- flow × two demands at a head is at most what comes down and comes in of both

@@ -7,9 +7,9 @@ use native.Mathlib.Omega.{arith}
 use lib.ListN.{length, getD, length-map}
 use Rattle.river.specs.declared.card.Card.{Card}
 use Rattle.river.specs.declared.card.Nitrification.{Nitrification}
-use Rattle.river.specs.declared.card.Nitrification.the-variants.{Idle, Nitrifying}
+use Rattle.river.specs.declared.card.Nitrification.the-variants.{Nitrifying}
 use Rattle.river.specs.declared.card.RateFactors.{RateFactors}
-use Rattle.river.specs.declared.card.RateFactors.the-variants.{AsGiven, PerDegree}
+use Rattle.river.specs.declared.card.RateFactors.the-variants.{PerDegree}
 use Rattle.river.specs.Card.{RegularNitrification, RegularCard, LawfulCard, RatesInRange, EachFrom, Lawful, Regular, blank}
 use Rattle.river.specs.River.{River}
 use Rattle.flows.specs.Rates.{decayInForce, aerationInForce, withRate, cardInForce, inForce, CorrectableCard}
@@ -25,7 +25,7 @@ record ChangesNothing (f : RateFactors) : Type 0 where
 
 module _ (f : RateFactors) (still : ChangesNothing f) where
   nitrification-stays : (T : ℕ) (n : Nitrification) → withRate (decayInForce f T) n ≡ n
-  nitrification-stays T Idle = refl
+  nitrification-stays T Nitrification.Absent = refl
   nitrification-stays T (Nitrifying rate concentration load) = rw (still .decay)
 
   card-stays : (c : Card) → cardInForce f c ≡ c
@@ -36,9 +36,9 @@ module _ (f : RateFactors) (still : ChangesNothing f) where
   cards-stay (c ∷ cs) = λ j. card-stays c j ∷ cards-stay cs j
 
 -- no factors
-pub as-given : (cs : List Card) → map (cardInForce AsGiven) cs ≡ cs
+pub as-given : (cs : List Card) → map (cardInForce RateFactors.Absent) cs ≡ cs
 unfolding decayInForce aerationInForce
-as-given = cards-stay AsGiven (record { decay = λ T rate. refl; aeration = λ T rate. refl })
+as-given = cards-stay RateFactors.Absent (record { decay = λ T rate. refl; aeration = λ T rate. refl })
 
 -- THEOREM: and factors of 1,000, at any temperature
 pub nothing-corrected : (cs : List Card) → map (cardInForce (PerDegree 1_000 1_000)) cs ≡ cs
@@ -53,7 +53,7 @@ card-in-force f (c ∷ cs) (suc j) l = card-in-force f cs j (le-of-suc-le-suc l)
 
 -- cards that were lawful stay regular
 nitrification-regular : (change : ℕ → ℕ) (n : Nitrification) → RegularNitrification n → RegularNitrification (withRate change n)
-nitrification-regular change Idle h = tt
+nitrification-regular change Nitrification.Absent h = tt
 nitrification-regular change (Nitrifying rate concentration load) h = h
 
 card-regular : (f : RateFactors) (n i : ℕ) (c : Card) → RegularCard n i c → RegularCard n i (cardInForce f c)

@@ -2,7 +2,7 @@
 -- They are named by the laws of the correction and of the cards with the rates in force, so that these rows are checked first.
 use mathlib.Core.Path.{_≡_, refl}
 use Rattle.river.specs.declared.card.Card.{Card}
-use Rattle.river.specs.declared.card.Dam.the-variants.{Absent}
+use Rattle.river.specs.declared.card.Dam.{Dam}
 use Rattle.river.specs.declared.card.Nitrification.the-variants.{Nitrifying}
 use Rattle.river.specs.declared.card.RateFactors.the-variants.{PerDegree}
 use Rattle.river.specs.declared.source.Demand.the-variants.{Nitrogenous}
@@ -24,7 +24,7 @@ warm =
       «inflow_bod» = 0;
       «inflow_oxygen» = 0;
       load = 0;
-      dam = Absent;
+      dam = Dam.Absent;
       optionals = withNitrification (Nitrifying 1_000 0 0) noOptionals;
     })
 

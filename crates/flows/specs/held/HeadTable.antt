@@ -6,7 +6,7 @@ use mathlib.Core.List.{List}
 use Prim.Native.Nat.{ℕ, suc, _+_, _*_, _<_, _≤_, _^_}
 use lib.ListN.{length, getD, set, replicate}
 use Rattle.river.specs.declared.card.Dam.{Dam}
-use Rattle.river.specs.declared.card.Dam.the-variants.{Absent, Aerating}
+use Rattle.river.specs.declared.card.Dam.the-variants.{Aerating}
 use Rattle.river.specs.declared.card.Card.{Card}
 use Rattle.river.specs.declared.source.Demand.the-variants.{Bod, Nitrogenous}
 use Rattle.river.specs.declared.source.Source.{Source}
@@ -24,7 +24,7 @@ use Rattle.flows.specs.held.Stored.{storedLimit, oxygenOf, oxygenSumOf}
 
 -- a dam's share is at most 1,000, and its generating flow at most Qu
 abbrev pub DamWithin : Dam → (Qu : ℕ) → Type 0
-DamWithin Absent Qu = Unit
+DamWithin Dam.Absent Qu = Unit
 DamWithin (Aerating share generating) Qu = (share ≤ 1_000) × (generating ≤ Qu)
 
 -- a part of a whole that is small enough for a product with 16 bits

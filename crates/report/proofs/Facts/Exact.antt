@@ -7,7 +7,7 @@ use lib.Dec.{lit<}
 use Rattle.decay.specs.Fraction.{Fraction, _≈_, _≼_, ofℕ, _+ᶠ_, -ᶠ_, _-ᶠ_, _*ᶠ_, _÷_}
 use Rattle.decay.proofs.Algebra.{ring, ring-by, quote, _⋅_, _&_, none as no-equations, ≈-refl, ≈-trans, +ᶠ-cong, *ᶠ-comm, positive-whole, ÷-cancel-pos, ÷-reciprocal, floor-low, floor-high}
 use Rattle.river.specs.declared.card.Dam.{Dam}
-use Rattle.river.specs.declared.card.Dam.the-variants.{Absent, Aerating}
+use Rattle.river.specs.declared.card.Dam.the-variants.{Aerating}
 use Rattle.river.specs.declared.card.Card.{Card}
 use Rattle.river.specs.declared.source.Demand.{Demand}
 use Rattle.river.specs.declared.source.Source.{Source}
@@ -56,7 +56,7 @@ over-product a b d =
 -- a dam takes its part of the way to saturation
 exact-aerated : (dam : Dam) (Cs : Fraction) (Qu : ℕ) (C : Fraction) → exactAerated dam Cs Qu C ≈ C +ᶠ (Cs -ᶠ C) *ᶠ damPart true dam Qu
 unfolding exactAerated damPart
-exact-aerated Absent Cs Qu C = ring (Cs ∷ C ∷ []) (search quote depth 40 fits 9999) tt
+exact-aerated Dam.Absent Cs Qu C = ring (Cs ∷ C ∷ []) (search quote depth 40 fits 9999) tt
 exact-aerated (Aerating share generating) Cs Qu C =
     +ᶠ-cong (≈-refl C) (over-product (Cs -ᶠ C) (ofℕ (share * (Qu - generating))) (ofℕ (1000 * Qu)))
 

@@ -9,7 +9,7 @@ use lib.IntN.{ℤ, pos, _+ℤ_, _-ℤ_, _*ℤ_}
 use Rattle.decay.specs.Fraction.{Fraction, _≈_, _≼_, ofℕ, ofℤ, _+ᶠ_, -ᶠ_, _-ᶠ_, _*ᶠ_, _÷_}
 use Rattle.decay.proofs.Algebra.{Nonneg, quote, slack, number, _⊞_, multiple, certify, ≈-refl, ≈-sym, ≈-trans, ≼-trans, ≼-of-≈, ofℤ-+, ofℤ-*, +ᶠ-cong, *ᶠ-cong, Positive, positive-whole, certify-over, ÷-cancel-pos, none as no-equations, ofℕ-mono, ofℕ-*, ofℕ-+}
 use Rattle.river.specs.declared.card.Dam.{Dam}
-use Rattle.river.specs.declared.card.Dam.the-variants.{Absent, Aerating}
+use Rattle.river.specs.declared.card.Dam.the-variants.{Aerating}
 use Rattle.river.specs.declared.card.Card.{Card}
 use Rattle.river.specs.declared.source.Demand.{Demand}
 use Rattle.river.specs.declared.source.Source.{Source}
@@ -68,7 +68,7 @@ oxygen-mean (one-more {card} {up} {rest} own above others) =
 -- the part of the way to saturation that a dam takes: share × (Qu − generating flow) of 1,000 × Qu, and none without feeders
 unfoldable pub damPart : (fed : Bool) → Dam → (Qu : ℕ) → Fraction
 damPart false dam Qu = ofℕ 0
-damPart true Absent Qu = ofℕ 0
+damPart true Dam.Absent Qu = ofℕ 0
 damPart true (Aerating share generating) Qu = ofℕ (share * (Qu - generating)) ÷ ofℕ (1000 * Qu)
 
 -- no dam changes nothing
@@ -117,7 +117,7 @@ part-dammed saturated n d C p h =
 
 aerated-dammed : (dam : Dam) (saturated Qu : ℕ) (C : ℤ) → 0 < Qu → InRange DM dam → Dammed (ofℤ C) (ofℕ saturated) (damPart true dam Qu) (ofℤ (aerated dam saturated Qu C))
 unfolding aerated damPart
-aerated-dammed Absent saturated Qu C p h = unchanged (ofℤ C) (ofℕ saturated)
+aerated-dammed Dam.Absent saturated Qu C p h = unchanged (ofℤ C) (ofℕ saturated)
 aerated-dammed (Aerating share generating) saturated Qu C p h =
     part-dammed saturated (share * (Qu - generating)) (1000 * Qu) C (omega arith) (mul-le-mul (h .0 .most) (omega arith))
 

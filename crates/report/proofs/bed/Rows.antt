@@ -12,7 +12,7 @@ use Rattle.decay.specs.Series.{termOf, nextTerms, termsAt, termAt, withTerm, su
 use Rattle.decay.specs.held.Factors.{demandFrom, headFactors, nextFactors, factorsAt}
 use Rattle.decay.specs.declared.factors.Factors.{Factors}
 use Rattle.river.specs.declared.card.Card.{Card}
-use Rattle.river.specs.declared.card.Dam.the-variants.{Absent}
+use Rattle.river.specs.declared.card.Dam.{Dam}
 use Rattle.river.specs.declared.card.Amount.the-variants.{Given}
 use Rattle.river.specs.Card.{noOptionals, withTake, withSludge}
 use Rattle.flows.specs.Flow.{none, fed, flowOf, reachFlow}
@@ -36,7 +36,7 @@ reach k2 =
       «inflow_bod» = 0;
       «inflow_oxygen» = 14_000;
       load = 0;
-      dam = Absent;
+      dam = Dam.Absent;
       optionals = withTake (Given 10_000) (withSludge (Given 2_000) noOptionals);
     }
 

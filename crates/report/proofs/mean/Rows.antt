@@ -13,7 +13,7 @@ use Rattle.decay.specs.held.Step.{exponentOf, stepOf, meanSumOf, meanStepOf}
 use Rattle.decay.specs.Series.{termOf, nextTerms, termsAt, termAt, withTerm, sumOf, countFrom, seriesOf}
 use Rattle.decay.specs.held.Factors.{demandFrom, headFactors, nextFactors, factorsAt}
 use Rattle.river.specs.declared.card.Card.{Card}
-use Rattle.river.specs.declared.card.Dam.the-variants.{Absent}
+use Rattle.river.specs.declared.card.Dam.{Dam}
 use Rattle.river.specs.declared.source.Demand.{Demand}
 use Rattle.river.specs.declared.source.Demand.the-variants.{Bod, Nitrogenous}
 use Rattle.river.specs.Card.{noOptionals}
@@ -55,7 +55,7 @@ pool volume =
       «inflow_bod» = 0;
       «inflow_oxygen» = 0;
       load = 0;
-      dam = Absent;
+      dam = Dam.Absent;
       optionals = noOptionals;
     }
 
@@ -93,11 +93,11 @@ rows =
 
 -- ---- oxygen that does not change: the two reaches of the printing program's example, whose rates are 0
 
-first-is : meanBySums (cardOf (two Absent) 1) (above (two Absent) 1) ≡ pos 8_000_000
+first-is : meanBySums (cardOf (two Dam.Absent) 1) (above (two Dam.Absent) 1) ≡ pos 8_000_000
 unfolding feedersAmong joinedIf fed flowOf factorSums demandSums factorsBySums demandBySums meanBySums headFactors nextFactors stepOf meanSumOf meanStepOf exponentOf quotient product termOf nextTerms termsAt termAt withTerm sumOf countFrom seriesOf bedBy bedOf lossWith oxygenWith demandAtHead oxygenAtHead headDemand headOxygen upstreamDemand upstreamOxygen belowDam aerated floor demandSum oxygenSum saturationOf saturation saturationThousandths
 first-is = refl
 
-second-is : meanBySums (cardOf (two Absent) 2) (above (two Absent) 2) ≡ pos 6_500_000
+second-is : meanBySums (cardOf (two Dam.Absent) 2) (above (two Dam.Absent) 2) ≡ pos 6_500_000
 unfolding feedersAmong joinedIf fed flowOf factorSums demandSums factorsBySums demandBySums meanBySums headFactors nextFactors factorsAt demandFrom factorsAlong partsAlong demandAlong turnedAlong lossAlong oxygenAlong stepOf meanSumOf meanStepOf exponentOf quotient product termOf nextTerms termsAt termAt withTerm sumOf countFrom seriesOf bedBy bedOf lossWith oxygenWith demandAtHead oxygenAtHead headDemand headOxygen upstreamDemand upstreamOxygen belowDam aerated floor demandSum oxygenSum saturationOf saturation saturationThousandths
 second-is = refl
 
@@ -107,7 +107,7 @@ unfolding feedersAmong usedBy
 none-above cards = refl
 
 -- critical oxygen of reach 1 of the example is its head oxygen, so that oxygen is not used up above reach 2
-first-accepted : AcceptedReach (cardOf (two Absent) 1) (above (two Absent) 1)
+first-accepted : AcceptedReach (cardOf (two Dam.Absent) 1) (above (two Dam.Absent) 1)
 first-accepted =
     record {
       fields = omega arith;
@@ -117,42 +117,42 @@ first-accepted =
       flows = flows-of-accepted (flow-bench .accepted-two) .each 0 (omega arith);
     }
 
-first-keeps : (d : Demand) → rateOf d (cardOf (two Absent) 1) * 1_000 ≡ 0
+first-keeps : (d : Demand) → rateOf d (cardOf (two Dam.Absent) 1) * 1_000 ≡ 0
 first-keeps Bod = refl
 first-keeps Nitrogenous = refl
 
-first-critical : criticalOxygen (cardOf (two Absent) 1) (above (two Absent) 1) ≡ pos 8_000_000
+first-critical : criticalOxygen (cardOf (two Dam.Absent) 1) (above (two Dam.Absent) 1) ≡ pos 8_000_000
 unfolding oxygenAtHead oxygenSum feedersAmong fed flowOf headOxygen upstreamOxygen belowDam aerated floor
 first-critical = reach-critical-stays first-accepted first-keeps refl refl
 
-second-ordinary : usedAbove (above (two Absent) 2) ≡ false
+second-ordinary : usedAbove (above (two Dam.Absent) 2) ≡ false
 unfolding feedersAmong joinedIf usedBy statusBy isUsed
 second-ordinary = ap (λ (c : ℤ). isUsed (statusBy false c) || (false || false)) first-critical
 
 pub record Constant : Type 0 where
   -- each has its head oxygen for its mean, to the unit, and the volumes are equal
-  pub first : meanAt (two Absent) 1 ≡ pos 8_000_000
-  pub second : meanAt (two Absent) 2 ≡ pos 6_500_000
-  pub river : riverMean (two Absent) ≡ record { units = pos 7_250_000; remainder = 0 }
+  pub first : meanAt (two Dam.Absent) 1 ≡ pos 8_000_000
+  pub second : meanAt (two Dam.Absent) 2 ≡ pos 6_500_000
+  pub river : riverMean (two Dam.Absent) ≡ record { units = pos 7_250_000; remainder = 0 }
 
 -- THEOREM: these means, a row each
 pub constant : Constant
 unfolding riverMean weightedSum restOf dividedBy floor volumeSum
 constant =
-    let first = mean-by-sums (cardOf (two Absent) 1) (above (two Absent) 1) ∙ first-is in
-    let second = mean-by-sums (cardOf (two Absent) 2) (above (two Absent) 2) ∙ second-is in
+    let first = mean-by-sums (cardOf (two Dam.Absent) 1) (above (two Dam.Absent) 1) ∙ first-is in
+    let second = mean-by-sums (cardOf (two Dam.Absent) 2) (above (two Dam.Absent) 2) ∙ second-is in
     record {
-      first = rw (none-above (two Absent), first);
+      first = rw (none-above (two Dam.Absent), first);
       second = rw (second-ordinary, second);
-      river = rw (none-above (two Absent), second-ordinary, first, second);
+      river = rw (none-above (two Dam.Absent), second-ordinary, first, second);
     }
 
 -- ---- oxygen used up: waste uses it up in reach 1, and nothing changes it in reach 2
 
 abbrev polluted : List Card
 polluted =
-    reach 2 400 1_500_000 5_000 3_000 8_000 250_000 Absent noOptionals
-    ∷ reach 0 0 1_000_000 1_000 1_000 9_000 0 Absent noOptionals
+    reach 2 400 1_500_000 5_000 3_000 8_000 250_000 Dam.Absent noOptionals
+    ∷ reach 0 0 1_000_000 1_000 1_000 9_000 0 Dam.Absent noOptionals
     ∷ []
 
 -- oxygen of reach 1 is below zero at the foot, and on average

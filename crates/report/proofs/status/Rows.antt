@@ -6,7 +6,7 @@ use mathlib.Core.List.{List, [], _∷_}
 use Prim.Native.Nat.{ℕ}
 use lib.IntN.{ℤ, pos, negsuc, _-ℤ_}
 use Rattle.river.specs.declared.card.Card.{Card}
-use Rattle.river.specs.declared.card.Dam.the-variants.{Absent}
+use Rattle.river.specs.declared.card.Dam.{Dam}
 use Rattle.river.specs.Card.{noOptionals}
 use Rattle.flows.specs.Flow.{Feeders, none, more, joinedIf, feedersAmong, cardOf, above}
 use Rattle.report.specs.Record.{Figures}
@@ -25,7 +25,7 @@ poolTo outlet oxygen =
       «inflow_bod» = 0;
       «inflow_oxygen» = oxygen;
       load = 0;
-      dam = Absent;
+      dam = Dam.Absent;
       optionals = noOptionals;
     }
 

@@ -13,14 +13,14 @@ use Rattle.river.specs.Bytes.{Mark}
 use Rattle.river.specs.Card.{optional, optionalOf, sizeOf, longestCard}
 use Rattle.river.specs.Write.{encodeCard}
 use Rattle.river.specs.declared.card.Amount.{Amount}
-use Rattle.river.specs.declared.card.Amount.the-variants.{Without, Given}
+use Rattle.river.specs.declared.card.Amount.the-variants.{Given}
 use Rattle.river.specs.declared.card.Card.{Card}
 use Rattle.river.specs.declared.card.Dam.{Dam}
-use Rattle.river.specs.declared.card.Dam.the-variants.{Absent, Aerating}
+use Rattle.river.specs.declared.card.Dam.the-variants.{Aerating}
 use Rattle.river.specs.declared.card.Nitrification.{Nitrification}
-use Rattle.river.specs.declared.card.Nitrification.the-variants.{Idle, Nitrifying}
+use Rattle.river.specs.declared.card.Nitrification.the-variants.{Nitrifying}
 use Rattle.river.specs.declared.card.RateFactors.{RateFactors}
-use Rattle.river.specs.declared.card.RateFactors.the-variants.{AsGiven, PerDegree}
+use Rattle.river.specs.declared.card.RateFactors.the-variants.{PerDegree}
 use Rattle.river.specs.Fields.{Field, two, four, upTo, any, within, allWithin}
 use Rattle.river.specs.Records.{TH, factorsRecord, DM, damRecord, rateMost, NT, nitrificationRecord, amount}
 use Rattle.river.proofs.card.Described.{Made, sound}
@@ -30,8 +30,8 @@ use Rattle.river.proofs.card.Optional.{Sound, AllSound, optionals-small
 
 -- Dams.
 
-cases-dam : (d : Dam) → (d ≡ Absent) ⊎ Made DM d
-cases-dam Absent = inl refl
+cases-dam : (d : Dam) → (d ≡ Dam.Absent) ⊎ Made DM d
+cases-dam Dam.Absent = inl refl
 cases-dam (Aerating s g) = inr (record { from = (s, (g, tt)); numbers = refl; value = refl })
 
 sound-dam : Sound damRecord
@@ -39,8 +39,8 @@ sound-dam = sound DM (record { fits = refl; absent = refl; cases = cases-dam; nu
 
 -- Rate factors.
 
-cases-factors : (f : RateFactors) → (f ≡ AsGiven) ⊎ Made TH f
-cases-factors AsGiven = inl refl
+cases-factors : (f : RateFactors) → (f ≡ RateFactors.Absent) ⊎ Made TH f
+cases-factors RateFactors.Absent = inl refl
 cases-factors (PerDegree d a) = inr (record { from = (d, (a, tt)); numbers = refl; value = refl })
 
 pub sound-factors : Sound factorsRecord
@@ -48,8 +48,8 @@ sound-factors = sound TH (record { fits = refl; absent = refl; cases = cases-fac
 
 -- Records of one number.
 
-cases-amount : (m : Mark) (f : Field) (a : Amount) → (a ≡ Without) ⊎ Made (amount m f) a
-cases-amount m f Without = inl refl
+cases-amount : (m : Mark) (f : Field) (a : Amount) → (a ≡ Amount.Absent) ⊎ Made (amount m f) a
+cases-amount m f Amount.Absent = inl refl
 cases-amount m f (Given n) = inr (record { from = (n, tt); numbers = refl; value = refl })
 
 sound-amount : (m : Mark) (f : Field) → fits (f ∷ []) ≡ true → Sound (kindOf (amount m f))
@@ -57,8 +57,8 @@ sound-amount m f fit = sound (amount m f) (record { fits = fit; absent = refl; c
 
 -- Nitrifications.
 
-cases-nitrification : (n : Nitrification) → (n ≡ Idle) ⊎ Made NT n
-cases-nitrification Idle = inl refl
+cases-nitrification : (n : Nitrification) → (n ≡ Nitrification.Absent) ⊎ Made NT n
+cases-nitrification Nitrification.Absent = inl refl
 cases-nitrification (Nitrifying r c l) = inr (record { from = (r, (c, (l, (0, tt)))); numbers = refl; value = refl })
 
 sound-nitrification : Sound nitrificationRecord

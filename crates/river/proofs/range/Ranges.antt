@@ -14,7 +14,7 @@ use Rattle.river.specs.Optional.{optionalsInRange}
 use Rattle.river.specs.Source.{nitrogenousRate}
 use Rattle.river.specs.declared.card.Card.{Card}
 use Rattle.river.specs.declared.card.Nitrification.{Nitrification}
-use Rattle.river.specs.declared.card.Nitrification.the-variants.{Idle, Nitrifying}
+use Rattle.river.specs.declared.card.Nitrification.the-variants.{Nitrifying}
 use Rattle.river.specs.declared.card.Optionals.{Optionals}
 use Rattle.river.specs.Described.{InRange}
 use Rattle.river.specs.Records.{DM, rateMost, NT, WD, BP, SD}
@@ -72,11 +72,11 @@ true-ratesInRange c e =
 
 -- a nitrification is in range exactly where it is regular and its rate is in range
 regular-in-range : (n : Nitrification) → RegularNitrification n → nitrogenousRate n ≤ rateMost → InRange NT n
-regular-in-range Idle h r = tt
+regular-in-range Nitrification.Absent h r = tt
 regular-in-range (Nitrifying rate c l) h r = (record { least = zero-le; most = r }, h .1)
 
 in-range-regular : (n : Nitrification) → InRange NT n → RegularNitrification n × (nitrogenousRate n ≤ rateMost)
-in-range-regular Idle h = (tt, zero-le)
+in-range-regular Nitrification.Absent h = (tt, zero-le)
 in-range-regular (Nitrifying rate c l) h = ((record { least = zero-le; most = zero-le }, h .1), h .0 .most)
 
 -- the tests of a card hold exactly where it is lawful

@@ -6,7 +6,7 @@ use native.Mathlib.Omega.{arith}
 use lib.Dec.{lit<}
 use Rattle.river.specs.declared.card.Card.{Card}
 use Rattle.river.specs.declared.card.Nitrification.{Nitrification}
-use Rattle.river.specs.declared.card.Nitrification.the-variants.{Idle, Nitrifying}
+use Rattle.river.specs.declared.card.Nitrification.the-variants.{Nitrifying}
 use Rattle.river.specs.declared.source.Demand.{Demand}
 use Rattle.river.specs.declared.source.Demand.the-variants.{Bod, Nitrogenous}
 use Rattle.river.specs.declared.source.Source.{Source}
@@ -16,7 +16,7 @@ use Rattle.river.specs.Source.{nitrogenousSource, sourceOf, rateOf, sour
 
 -- every demand comes in with the inflow of the reach
 nitrogenous-inflow : (inflow : ℕ) (n : Nitrification) → nitrogenousSource inflow n .inflow ≡ inflow
-nitrogenous-inflow inflow Idle = refl
+nitrogenous-inflow inflow Nitrification.Absent = refl
 nitrogenous-inflow inflow (Nitrifying rate concentration load) = refl
 
 pub source-inflow : (d : Demand) (c : Card) → sourceOf d c .inflow ≡ c .inflow
@@ -25,7 +25,7 @@ source-inflow Nitrogenous c = nitrogenous-inflow (c .inflow) (c .optionals .nitr
 
 -- the source of nitrogenous BOD is in range
 nitrogenous-in-range : (inflow : ℕ) (n : Nitrification) → inflow ≤ 100_000_000 → RegularNitrification n → SourceInRange (nitrogenousSource inflow n)
-nitrogenous-in-range inflow Idle i h = record { inflow = i; concentration = zero-le; load = lit< tt }
+nitrogenous-in-range inflow Nitrification.Absent i h = record { inflow = i; concentration = zero-le; load = lit< tt }
 nitrogenous-in-range inflow (Nitrifying rate concentration load) i h = record { inflow = i; concentration = h .1 .0 .most; load = omega (arith, h .1 .1 .0 .most) }
 
 pub sources-in-range : {n i : ℕ} {c : Card} → RegularCard n i c → SourcesInRange c

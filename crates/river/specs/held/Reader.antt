@@ -5,7 +5,6 @@ use Prim.Native.Nat.{ℕ, _+_, _-_, _≤_, _<_}
 use lib.ListN.{take, drop}
 use Rattle.river.specs.declared.card.Card.{Card}
 use Rattle.river.specs.declared.card.RateFactors.{RateFactors}
-use Rattle.river.specs.declared.card.RateFactors.the-variants.{AsGiven}
 use Rattle.river.specs.declared.refusal.Outcome.{Outcome}
 use Rattle.river.specs.declared.read.ReachRead.{ReachRead}
 use Rattle.river.specs.declared.reader.Progress.{Progress}
@@ -21,7 +20,7 @@ pub record YieldsReach (at : ℕ) (a : Answer Card) (r : ReachRead) : Type 0 whe
 
 -- a refusal, after which no reach is due
 abbrev pub haltedAt : List Card → Outcome → Progress
-haltedAt at outcome = record { outcome = outcome; at = at; count = 0; read = 0; next = 0; factors = AsGiven }
+haltedAt at outcome = record { outcome = outcome; at = at; count = 0; read = 0; next = 0; factors = RateFactors.Absent }
 
 -- the river of some factors, some cards and then those of an answer
 abbrev pub withCards : RateFactors → List Card → Answer (List Card) → Answer River

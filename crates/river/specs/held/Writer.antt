@@ -5,7 +5,6 @@ use Prim.Native.Nat.{ℕ, _+_, _≤_, _<_}
 use lib.ListN.{length}
 use Rattle.river.specs.declared.card.Card.{Card}
 use Rattle.river.specs.declared.card.RateFactors.{RateFactors}
-use Rattle.river.specs.declared.card.RateFactors.the-variants.{AsGiven}
 use Rattle.river.specs.declared.refusal.Refusal.{Refusal}
 use Rattle.river.specs.declared.refusal.Outcome.{Outcome}
 use Rattle.river.specs.declared.write.Written.{Written}
@@ -20,7 +19,7 @@ use Rattle.river.specs.Write.{encode, encodeCard, encodeOpening, checkRi
 
 -- a refusal, after which no card is due
 abbrev pub stoppedAt : Refusal → Checking
-stoppedAt r = record { check = Outcome.Refused r; due = 0; passed = 0; length = headerBytes; factors = AsGiven }
+stoppedAt r = record { check = Outcome.Refused r; due = 0; passed = 0; length = headerBytes; factors = RateFactors.Absent }
 
 -- a card that is checked: one more has passed, or a refusal
 abbrev pub nextChecking : Answer Unit → Checking → Card → Checking

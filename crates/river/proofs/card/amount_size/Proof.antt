@@ -2,7 +2,7 @@
 -- Assumes nothing.
 use borrow.Author.Needs.{needs}
 use mathlib.Core.Path.{sym, _∙_}
-use Rattle.river.specs.Records.{described}
+use Rattle.river.specs.held.Layouts.{described}
 use Rattle.river.proofs.card.Described.{record-long}
 use Rattle.river.proofs.card.amount_size.Statement.{statement}
 use Rattle.river.proofs.card.amount_size.Tie as tie

@@ -3,7 +3,7 @@
 use mathlib.Core.Path.{sym, ap}
 use borrow.Author.Needs.{needs}
 use Rattle.river.specs.Fields.{within, allWithin}
-use Rattle.river.specs.Records.{amountRecord}
+use Rattle.river.specs.held.Layouts.{amountRecord}
 use Rattle.river.proofs.Tests.{ranges}
 use Rattle.river.proofs.range.amount_in_range.Statement.{statement}
 use Rattle.river.proofs.range.amount_in_range.Tie as tie
