@@ -26,7 +26,7 @@ use Rattle.flows.specs.Head.{floor, upstreamDemand, upstreamOxygen, aera
 use Rattle.flows.specs.Rates.{warmed, cooled, correctedRate, decayInForce, aerationInForce, inForce}
 use Rattle.flows.specs.Accept.{acceptFile}
 use Rattle.flows.proofs.rates.Rows.{Rows as RateRows, rows as rate-rows}
-use Rattle.flows.proofs.head.SaturationRows.{Rows as SaturationRows, rows as saturation-rows}
+use Rattle.flows.proofs.head.SaturationRows.{SaturationRows, saturation-rows}
 
 abbrev pub drawn : (take-1 take-2 : Amount) → List Card
 drawn take-1 take-2 = first take-1 ∷ second Dam.Absent take-2 Amount.Absent ∷ []
@@ -51,7 +51,7 @@ warm temperature k1 k2 volume = riverOf (PerDegree 1_047 1_024) (reach-at temper
 abbrev full : Amount → List Card
 full take = reach 0 0 0 3 999_333 0 2 Dam.Absent (withTake take noOptionals) ∷ []
 
-pub record Rows : Type 0 where
+pub record FlowRows : Type 0 where
   pub saturation-rows : SaturationRows
   pub accepted-two : flowCheck (two Dam.Absent) ≡ accepted (two Dam.Absent)
   pub depth-1 : depthAt (two Dam.Absent) 1 ≡ 1
@@ -120,7 +120,7 @@ pub record Rows : Type 0 where
   pub thousands : acceptFile (by-factors 1_000 1_000) ≡ accepted (two Dam.Absent)
 
 -- THEOREM: the bench values of the paper for rates in force, flows and heads, a row each
-pub bench : Rows
+pub bench : FlowRows
 unfolding saturation saturationThousandths saturationOf flowCheck checksFrom reachChecks need ratesInRange warmed cooled correctedRate decayInForce aerationInForce damFits fed flowOf massOf deepest feedersAmong joinedIf headDemand headOxygen upstreamDemand upstreamOxygen belowDam aerated floor acceptFile readFile readRest readHeader readReaches readReach readOptionals readOptional cardAt countOk inRange outletOk within allWithin choose after encode
 bench =
     record {

@@ -26,7 +26,7 @@ use Rattle.flows.specs.Saturation.{saturation, saturationThousandths, saturatio
 use Rattle.flows.specs.Head.{floor, upstreamDemand, upstreamOxygen, aerated, belowDam, mixedDemand, headDemand, headOxygen}
 use Rattle.flows.proofs.flow.Take.{mass-within}
 use Rattle.river.proofs.Bench.{reach, second, two, hilly, Rows as FileRows, bench as file-bench}
-use Rattle.flows.proofs.Bench.{drawn, Rows as FlowRows, bench as flow-bench}
+use Rattle.flows.proofs.Bench.{drawn, FlowRows, bench as flow-bench}
 use Rattle.report.specs.Status.{statusBy, isUsed, usedBy, shownNumber, shownOxygen, reported}
 use Rattle.report.specs.Program.{figuresOf, reportedAt, demandSum, oxygenSum, demandAtHead, oxygenAtHead, demandAt, oxygenAt, criticalOxygen, usedAbove, foot}
 use Rattle.report.specs.Record.{nitrifies, isNitrified, hasNitrification, plainBytes, encodePlain, encodeRecord, recordSize, Figures}
@@ -35,8 +35,8 @@ use Rattle.decay.specs.Fraction.{_≼_, ofℕ, ofℤ, distance}
 use Rattle.report.specs.Distance.{allowanceAt}
 use Rattle.report.specs.ExactMean.{exactMeanOxygen}
 use Rattle.report.specs.Mean.{meanAt}
-use Rattle.report.proofs.status.Rows.{Rows as StatusRows, rows as status-rows}
-use Rattle.report.proofs.mean.Rows.{Rows as MeanRows, rows as mean-rows, Constant, constant, UsedUp, used-up}
+use Rattle.report.proofs.status.Rows.{StatusRows, status-rows}
+use Rattle.report.proofs.mean.Rows.{MeanRows, mean-rows, Constant, constant, UsedUp, used-up}
 use Rattle.report.proofs.MeanRefutation.{allValues, own-mean, own-mean-near, rounded-mean-strays}
 use Rattle.report.proofs.Refutations.{two as equal}
 use Rattle.report.proofs.Forest.{AcceptedReach}
@@ -264,7 +264,7 @@ unfolding encodeRecord encodePlain
 plain-bytes {f} e = plain-first true f ∙ ap encodePlain e
 
 -- one theorem, a row each
-pub record Rows : Type 0 where
+pub record ReportRows : Type 0 where
   pub files : FileRows
   pub flows-and-heads : FlowRows
   -- statuses, and what is reported at each
@@ -299,7 +299,7 @@ pub record Rows : Type 0 where
   pub zeros-2 : take plainBytes (recordOf (laden (Nitrifying 0 0 0)) 1) ≡ recordOf (two Dam.Absent) 1
 
 -- THEOREM: the bench values of the paper that are to be proved, a row each
-pub bench : Rows
+pub bench : ReportRows
 unfolding feedersAmong joinedIf flowOf deepest headDemand headOxygen upstreamDemand upstreamOxygen belowDam aerated floor saturation saturationThousandths saturationOf nitrifies isNitrified hasNitrification usedBy
 bench =
     record {

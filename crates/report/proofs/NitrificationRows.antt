@@ -51,7 +51,7 @@ lower = reach Nitrification.Absent
 abbrev above : Feeders
 above = more upper none none
 
-pub record Rows : Type 0 where
+pub record NitrificationRows : Type 0 where
   -- the upper reach: what comes in, what is left of it at the foot, 10 / e mg/L, and head oxygen less what has turned to deficit
   pub head : demandAtHead Nitrogenous upper none ≡ 10_000_000
   pub left : demandAt Nitrogenous upper none foot ≡ 3_678_794
@@ -69,9 +69,9 @@ pub record Rows : Type 0 where
   pub no-bod : demandAt Bod lower above foot ≡ 0
 
 -- THEOREM: these figures, a row each
-pub rows : Rows
+pub nitrification-rows : NitrificationRows
 unfolding bedBy bedOf lossWith lossAlong factorsAlong factorsAt nextFactors headFactors demandFrom stepOf exponentOf quotient product termOf nextTerms termsAt termAt withTerm sumOf countFrom seriesOf demandAt demandAlong partsAlong oxygenAt oxygenAlong oxygenWith turnedAlong demandAtHead oxygenAtHead headDemand headOxygen upstreamDemand upstreamOxygen aerated belowDam floor demandSum oxygenSum saturationOf saturation saturationThousandths flowOf fed ofℤ _+ᶠ_ -ᶠ_ _*ᶠ_ _÷_ over exponent power factorial term sum S F exactLoss exactSaturation exactMean exactBelowDam exactMixedDemand exactMixedOxygen exactHeadDemand exactHeadOxygen exactDemandAlong exactTurnedAlong exactOxygenAlong exactDemandSum exactOxygenSum exactDemandAtHead exactOxygenAtHead exactDemandAt exactOxygenAt
-rows =
+nitrification-rows =
     record {
       head = refl;
       left = refl;

@@ -29,7 +29,7 @@ reach sludge nitrification =
       optionals = withTake (Given 0) (withPressure (Given 760) (withSludge sludge (withNitrification nitrification noOptionals)));
     }
 
-pub record Rows : Type 0 where
+pub record UnitRows : Type 0 where
   -- neither
   pub plain : stepUnits (reach Amount.Absent Nitrification.Absent ∷ reach Amount.Absent Nitrification.Absent ∷ []) ≡ 100
   -- a bed, also one that takes nothing, at the only reach, the first or the last
@@ -41,6 +41,6 @@ pub record Rows : Type 0 where
   pub nitrified-bed : stepUnits (reach Amount.Absent (Nitrifying 1 2 3) ∷ reach (Given 1) Nitrification.Absent ∷ []) ≡ 200
 
 -- THEOREM: these units, a row each
-pub rows : Rows
+pub unit-rows : UnitRows
 unfolding nitrifies isNitrified hasNitrification isGiven hasBed stepUnits
-rows = record { plain = refl; bed = refl; first = refl; last = refl; nitrified = refl; nitrified-bed = refl }
+unit-rows = record { plain = refl; bed = refl; first = refl; last = refl; nitrified = refl; nitrified-bed = refl }

@@ -20,7 +20,7 @@ use Rattle.report.specs.Status.{shownNumber, shownOxygen, reported}
 use Rattle.text.specs.Text.{ascii, digitsBy, decimal, number, signed, afterWord, line, numbersOf, reachLine, firstLines, refusalLine, textOf}
 use Rattle.text.specs.MeanText.{meanLine, riverLine, meanTextOf}
 
-pub record Rows : Type 0 where
+pub record TextRows : Type 0 where
   pub example :
       textOf (accepted (two Dam.Absent)) ≡ ascii "1 1 3000 2000000 2000000 8000000 0 8000000 8000000 0\n2 2 4000 9000000 9000000 6500000 0 6500000 6500000 0\n"
   pub drawn-1 :
@@ -48,7 +48,7 @@ abbrev twoLines : (nitrified : Bool) → Figures → Figures → List ℕ
 twoLines nitrified f g = ([] ++ reachLine nitrified 1 f) ++ reachLine nitrified 2 g
 
 -- THEOREM: the worked example, a refusal and some numbers as they are printed, a row each
-pub text-bench : Rows
+pub text-bench : TextRows
 unfolding nitrifies isNitrified hasNitrification shownNumber shownOxygen textOf firstLines meanLine riverLine meanTextOf refusalLine line afterWord numbersOf signed number decimal digitsBy
 text-bench =
     record {

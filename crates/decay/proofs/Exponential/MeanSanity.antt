@@ -11,7 +11,7 @@ use Rattle.decay.specs.Integral.{valueAt, integral, meanOf, constant, ti
 abbrev Decimal : Fraction → ℕ → Type 0
 Decimal a n = distance a (ofℕ n ÷ ofℕ (10 ^ 15)) ≼ ofℕ 1 ÷ ofℕ (10 ^ 12)
 
-pub record Rows : Type 0 where
+pub record MeanExponentialRows : Type 0 where
   -- of 1 at all times, and of the time itself, which is that of the middle
   pub of-one : Decimal (meanOf 3 (constant (ofℕ 1))) 1_000_000_000_000_000
   pub of-time : Decimal (meanOf 3 (timesTime (constant (ofℕ 1)))) 512_000_000_000_000_000
@@ -30,9 +30,9 @@ pub record Rows : Type 0 where
   pub still : Decimal (meanF 40 1728 0 100 2) 367_879_441_171_442
 
 -- THEOREM: the means of S and F, computed from their definitions, agree with those of e^-x to 10^-12
-pub rows : Rows
+pub mean-exponential-rows : MeanExponentialRows
 unfolding ofℤ _+ᶠ_ -ᶠ_ _*ᶠ_ _÷_ over ∣_∣ᶠ distance exponent power factorial term sum valueAt integral meanOf constant timesTime seriesTerms shareTerms
-rows =
+mean-exponential-rows =
     record {
       of-one = record { across = leZ-yes tt };
       of-time = record { across = leZ-yes tt };

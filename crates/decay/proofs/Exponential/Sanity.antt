@@ -9,7 +9,7 @@ use Rattle.decay.specs.Exact.{exponent, power, factorial, term, sum, S, 
 abbrev Decimal : Fraction → ℕ → Type 0
 Decimal a n = distance a (ofℕ n ÷ ofℕ (10 ^ 15)) ≼ ofℕ 1 ÷ ofℕ (10 ^ 12)
 
-pub record Rows : Type 0 where
+pub record ExponentialRows : Type 0 where
   -- e^0, e^-1, e^-4
   pub at-0 : Decimal (S 40 (ofℕ 0)) 1_000_000_000_000_000
   pub at-1 : Decimal (S 40 (ofℕ 1)) 367_879_441_171_442
@@ -24,9 +24,9 @@ pub record Rows : Type 0 where
   pub apart : Decimal (F 40 1728 5184 100 2 1024) 159_046_186_401_789
 
 -- THEOREM: S and F, computed from their definitions, agree with e^-x to 10^-12
-pub rows : Rows
+pub exponential-rows : ExponentialRows
 unfolding ofℤ _+ᶠ_ -ᶠ_ _*ᶠ_ _÷_ over ∣_∣ᶠ distance exponent power factorial term sum S F
-rows =
+exponential-rows =
     record {
       at-0 = record { across = leZ-yes tt };
       at-1 = record { across = leZ-yes tt };

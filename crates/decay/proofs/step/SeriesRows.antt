@@ -11,7 +11,7 @@ use Rattle.decay.specs.declared.step.SeriesSum.{SeriesSum}
 abbrev summed : ℕ → ℕ → SeriesSum
 summed sum count = record { sum = sum; count = count }
 
-pub record Rows : Type 0 where
+pub record SeriesRows : Type 0 where
   -- nothing is lost, and no term follows the leading one
   pub nothing : seriesOf 0 0 ≡ summed 0 1
   pub only-back : seriesOf 0 small ≡ summed 0 1
@@ -34,9 +34,9 @@ pub record Rows : Type 0 where
   pub longest-spent : seriesOf small small ≡ summed 68_451_564_886 4
 
 -- THEOREM: these series, a row each
-pub rows : Rows
+pub series-rows : SeriesRows
 unfolding product termOf nextTerms termsAt termAt withTerm sumOf countFrom seriesOf
-rows =
+series-rows =
     record {
       nothing = refl;
       only-back = refl;

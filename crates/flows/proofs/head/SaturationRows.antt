@@ -3,7 +3,7 @@
 use mathlib.Core.Path.{_≡_, refl}
 use Rattle.flows.specs.Saturation.{saturation, saturationThousandths, standardPressure}
 
-pub record Rows : Type 0 where
+pub record SaturationRows : Type 0 where
   -- at the standard pressure
   pub at-0 : saturation 0 standardPressure ≡ 14652000
   pub at-10 : saturation 10 standardPressure ≡ 11271126
@@ -21,9 +21,9 @@ pub record Rows : Type 0 where
   pub largest : saturation 0 800 ≡ 15423157
 
 -- THEOREM: these values, a row each
-pub rows : Rows
+pub saturation-rows : SaturationRows
 unfolding saturation saturationThousandths
-rows =
+saturation-rows =
     record {
       at-0 = refl;
       at-10 = refl;

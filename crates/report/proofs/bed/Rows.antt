@@ -47,7 +47,7 @@ flow k2 = reachFlow (reach k2) none
 abbrev quarter : Factors
 quarter = record { left = one; turned = 0; kept = one - one / 4 }
 
-pub record Rows : Type 0 where
+pub record BedRows : Type 0 where
   -- k2 = 0: 2 mg/L by the foot, half of it half way
   pub linear-bed : bedOf (reach 0) (flow 0) ≡ record { eventual = 0; linear = 2_000_000 }
   pub half-way : lossAlong (reach 0) (flow 0) 512 ≡ 1_000_000
@@ -64,9 +64,9 @@ pub record Rows : Type 0 where
   pub exact-high : exactLoss 40 (reach 1_000) (flow 1_000) foot ≼ ofℕ 1_264_242
 
 -- THEOREM: these losses, a row each
-pub rows : Rows
+pub bed-rows : BedRows
 unfolding bedBy bedOf lossWith lossAlong factorsAlong factorsAt nextFactors headFactors demandFrom stepOf exponentOf quotient product termOf nextTerms termsAt termAt withTerm sumOf countFrom seriesOf oxygenAt oxygenAlong oxygenWith turnedAlong partsAlong demandAtHead oxygenAtHead headDemand headOxygen upstreamDemand upstreamOxygen belowDam floor demandSum oxygenSum saturationOf saturation saturationThousandths flowOf fed exactLoss ofℤ _+ᶠ_ -ᶠ_ _*ᶠ_ _÷_ over exponent power factorial term sum S F exactSaturation exactMean exactBelowDam exactMixedDemand exactMixedOxygen exactHeadDemand exactHeadOxygen exactTurnedAlong exactOxygenAlong exactDemandSum exactOxygenSum exactDemandAtHead exactOxygenAtHead exactOxygenAt
-rows =
+bed-rows =
     record {
       linear-bed = refl;
       half-way = refl;

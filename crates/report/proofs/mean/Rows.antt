@@ -59,7 +59,7 @@ pool volume =
       optionals = noOptionals;
     }
 
-pub record Rows : Type 0 where
+pub record MeanRows : Type 0 where
   -- 0 and 10 with volumes 1 and 4: not 5, the mean without weights; 5 and 8 with volumes 2 and 3: 34 / 5
   pub by-volume : weightedMean (both 1 4) (both (pos 0) (pos 10)) 2 ≡ record { units = pos 8; remainder = 0 }
   pub above-zero : weightedMean (both 2 3) (both (pos 5) (pos 8)) 2 ≡ record { units = pos 6; remainder = 4 }
@@ -76,9 +76,9 @@ pub record Rows : Type 0 where
   pub held : meanRoomAnswer 12 (pool 0 ∷ pool 0 ∷ pool 1 ∷ []) ≡ accepted (pool 0 ∷ pool 0 ∷ pool 1 ∷ [])
 
 -- THEOREM: these means and answers, a row each
-pub rows : Rows
+pub mean-rows : MeanRows
 unfolding usedBy feedersAmong joinedIf weightedSum restOf dividedBy floor volumeSum need meanRoomAnswer
-rows =
+mean-rows =
     record {
       by-volume = refl;
       above-zero = refl;

@@ -37,13 +37,13 @@ plain status =
     255 ∷ 255 ∷ 255 ∷ 254 ∷
     status ∷ []
 
-pub record Rows : Type 0 where
+pub record RecordRows : Type 0 where
   pub without : (status : ℕ) → encodeRecord false (small status) ≡ plain status
   pub nitrified : (status : ℕ) → encodeRecord true (small status) ≡ plain status ++ code "R" ∷ code "N" ∷ 0 ∷ 1 ∷ 0 ∷ 5 ∷ 0 ∷ 0 ∷ 0 ∷ 6 ∷ []
   pub size-without : recordBytes false ≡ 30
   pub size-nitrified : recordBytes true ≡ 40
 
 -- THEOREM: these bytes and sizes, a row each
-pub rows : Rows
+pub record-rows : RecordRows
 unfolding encodeRecord encodePlain encodeNitrogenous complement
-rows = record { without = λ status. refl; nitrified = λ status. refl; size-without = refl; size-nitrified = refl }
+record-rows = record { without = λ status. refl; nitrified = λ status. refl; size-without = refl; size-nitrified = refl }

@@ -69,7 +69,7 @@ figures status head instant lowest foot =
       foot-nitrogenous = 6;
     }
 
-pub record Rows : Type 0 where
+pub record StatusRows : Type 0 where
   -- critical oxygen of 0 is ordinary and -1 is used up; used up above comes before both
   pub zero : statusBy false (pos 0) ≡ 0
   pub negative : statusBy false (negsuc 0) ≡ 1
@@ -100,9 +100,9 @@ pub record Rows : Type 0 where
   pub ordinary : reported (figures 0 (pos 9) 8 (pos 7) (pos 10)) ≡ figures 0 (pos 9) 8 (pos 7) (pos 10)
 
 -- THEOREM: these statuses and figures, a row each
-pub rows : Rows
+pub status-rows : StatusRows
 unfolding joinedIf feedersAmong statusBy isUsed usedBy shownNumber shownOxygen
-rows =
+status-rows =
     record {
       zero = refl;
       negative = refl;

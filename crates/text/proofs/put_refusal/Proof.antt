@@ -13,13 +13,26 @@ refusal-is : (n reach : ℕ) → ascii "refused " ++ number n ++ ascii " reach "
 unfolding refusalLine line afterWord
 refusal-is n reach = simp append-assoc
 
+-- the places where the words have been put
+abbrev refused-at : tie.After-put-number-arg → tie.After-put-word
+refused-at c = c .before .before .before
+
+abbrev number-at : tie.After-put-word-arg3 → tie.After-put-number
+number-at c = c .before .before .before
+
+abbrev reach-at : tie.After-put-number-arg2 → tie.After-put-word2
+reach-at c = c .before .before .before
+
+abbrev reach-number-at : tie.After-put-word-arg5 → tie.After-put-number2
+reach-number-at c = c .before .before .before
+
 returns : tie.Need-returns
 returns c =
     let e = c .before .before in
-    let d = e .before .before .before .before .before in
-    let w = d .before .before .before .before .before in
-    let b = w .before .before .before .before .before in
-    let a = b .before .before .before .before .before in
+    let d = reach-number-at (e .before .before) in
+    let w = reach-at (d .before .before) in
+    let b = number-at (w .before .before) in
+    let a = refused-at (b .before .before) in
     reworded (refusal-is _ _)
     (both (both (both (both (a .put-word .ensures) (b .put-number .ensures)) (w .put-word2 .ensures)) (d .put-number2 .ensures)) (e .put-word3 .ensures))
 

@@ -9,6 +9,16 @@ use Rattle.flows.proofs.flow.Groups.{flow-rules-ask, take-rule-asks, de
 use Rattle.flows.proofs.flow.check.Statement.{statement}
 use Rattle.flows.proofs.flow.check.Tie as tie
 
+-- the places of the rules that were asked, and the start
+abbrev start-of : tie.After-load-rule → tie.Start
+start-of c = c .before .before .before .before
+
+abbrev load-asked : tie.After-take-rule → tie.After-load-rule
+load-asked c = c .before .before .before .before
+
+abbrev take-asked : tie.After-range-rule → tie.After-take-rule
+take-asked c = c .before .before .before
+
 returns : tie.Need-returns
 unfolding checksOf
 returns c = stops (c .before .before .flow-rules .ensures) _ (c .enum-told2 .given .1)
@@ -29,7 +39,7 @@ returns-3 : tie.Need-returns-3
 unfolding checksOf
 returns-3 c =
     let take = c .before .before in
-    let load = take .before .before .before .before in
+    let load = load-asked take in
     let flow = load .before in
     leaves (flow .before .before .flow-rules .ensures) (flow .enum-told .given .1)
     (leaves (load .load-rule .ensures) (take .before .before .enum-told3 .given .1)
@@ -43,10 +53,10 @@ first-groups s later =
     loadRule (a .flow) (a .mass) (a .reach) then takeRule (takeOf (a .card)) (a .flow) (a .reach) then later
 
 -- where 13 has passed, and all before it, the others decide
-after-take : (c : tie.After-enum-told5) {g : Checks} {s : Outcome} → Decides s g → Decides s (first-groups (c .before .before .before .before .before .before .before .before .before .before) g)
+after-take : (c : tie.After-enum-told5) {g : Checks} {s : Outcome} → Decides s g → Decides s (first-groups (start-of (load-asked (c .before .before))) g)
 after-take c d =
     let take = c .before .before in
-    let load = take .before .before .before .before in
+    let load = load-asked take in
     let flow = load .before in
     leaves (flow .before .before .flow-rules .ensures) (flow .enum-told .given .1)
     (leaves (load .load-rule .ensures) (take .before .before .enum-told3 .given .1)
@@ -65,7 +75,7 @@ sub-left c =
 
 rate-rules-requires : tie.Need-rate-rules-requires
 rate-rules-requires c κs =
-    let flow = c .before .before .before .before .before .before .before .before .before .before in
+    let flow = load-asked (take-asked (c .before .before)) .before in
     omega (arith, decided (flow .before .before .flow-rules .ensures) (flow-rules-ask _ _ _ _ _) (flow .enum-told .given .1) .1 .0)
 
 returns-5 : tie.Need-returns-5
@@ -73,7 +83,7 @@ unfolding checksOf
 returns-5 c =
     let rates = c .before .before in
     let range = rates .before .before .before in
-    let take = range .before .before .before in
+    let take = take-asked range in
     after-take (range .before)
     (leaves (range .range-rule .ensures) (rates .before .enum-told7 .given .1)
     (stops (rw (take .before .take-of .ensures) at (rates .rate-rules .ensures)) _ (c .enum-told10 .given .1)))
@@ -86,7 +96,7 @@ unfolding checksOf
 returns-6 c =
     let rates = c .before .before .before in
     let range = rates .before .before .before in
-    let take = range .before .before .before in
+    let take = take-asked range in
     after-take (range .before)
     (leaves (range .range-rule .ensures) (rates .before .enum-told7 .given .1)
     (leaves (rw (take .before .take-of .ensures) at (rates .rate-rules .ensures)) (c .before .enum-told9 .given .1)

@@ -15,21 +15,37 @@ use Rattle.head_vectors.proofs.shown.reach.Tie as tie
 own : (s : tie.Start) → getD (s .args .t1 .at) (s .args .i) blank ≡ getD (cardList (s .args .t1)) (s .args .i) blank
 own s = card-of-river (s .args .t1) (s .args .i) (s .pre .within)
 
+-- the places before the demands that are brought were asked, and the head behind them
+abbrev feet-at : tie.After-brought-to-arg5 → tie.After-feet
+feet-at c = c .before .before .before .before
+
+abbrev depth-at : tie.After-feet → tie.After-depth
+depth-at c = c .before .before .before
+
+abbrev start-of : tie.After-brought-to-arg5 → tie.Start
+start-of c = depth-at (feet-at c) .before .before .before
+
+abbrev head-at : tie.After-less2 → tie.After-head-of
+head-at c = c .before .before .before .before
+
+abbrev start-of-head : tie.After-head-of → tie.Start
+start-of-head c = start-of (c .before .before .before)
+
 brought-to-requires : tie.Need-brought-to-requires
-brought-to-requires c κs = sums-fit (c .before .before .before .before .before .before .before .before .before .before .pre)
+brought-to-requires c κs = sums-fit (start-of c .pre)
 
 head-of-requires : tie.Need-head-of-requires
 head-of-requires c κs =
-    let s = c .before .before .before .before .before .before .before .before .before .before .before .before in
+    let s = start-of (c .before .before) in
     head-input (s .pre) (own s) refl (c .before .brought-to .ensures)
 
 foot-of-requires : tie.Need-foot-of-requires
-foot-of-requires c κs = flow-bounded (c .before .before .before .before .before .before .before .before .before .before .before .before .before .before .before .before .before .pre)
+foot-of-requires c κs = flow-bounded (start-of-head (head-at c) .pre)
 
 returns : tie.Need-returns
 returns c =
-    let head = c .before .before .before .before .before in
-    let s = head .before .before .before .before .before .before .before .before .before .before .before .before .before in
+    let head = head-at (c .before) in
+    let s = start-of-head head in
     let r = head .head-of .result in
     rw (c .foot-of .ensures)
     (foot-within (r .bod + r .nitrogenous) (c .before .before .less .result) (c .before .less2 .result) (s .pre .tabled .flow (s .args .i) (s .pre .within))

@@ -22,12 +22,15 @@ abbrev μ-loop : tie.MeasureT-loop
 loop-holds : tie.Need-loop-holds Inv-loop μ-loop
 loop-holds c = (reaches-counted (c .before .before .args .cards) (simp length-map at (c .before .before .good .0 .1 .1 .0 .1 .0 .1)) (c .before .reach-count .ensures), zero-le, rw (c .no-feet .ensures) (carried-none _))
 
+abbrev start-of : tie.At-loop Inv-loop μ-loop → tie.Start Inv-loop μ-loop
+start-of c = c .before .before .before
+
 foot-oxygen-requires : tie.Need-foot-oxygen-requires Inv-loop μ-loop
-foot-oxygen-requires c κs = omega (arith, c .before .loop .inv .0, c .before .before .before .before .pre .0 .few)
+foot-oxygen-requires c κs = omega (arith, c .before .loop .inv .0, start-of (c .before) .pre .0 .few)
 
 reach-requires : tie.Need-reach-requires Inv-loop μ-loop
 reach-requires c κs =
-    let s = c .before .before .before .before .before in
+    let s = start-of (c .before .before) in
     record {
       lawful = s .pre .0;
       sound = s .pre .1;
@@ -37,7 +40,9 @@ reach-requires c κs =
     }
 
 element-write-feet : tie.Need-element-write-feet Inv-loop μ-loop
-element-write-feet c = omega (arith, c .before .before .before .loop .inv .0, c .before .before .before .before .before .before .pre .0 .few)
+element-write-feet c =
+    let at = c .before .before .before in
+    omega (arith, at .loop .inv .0, start-of at .pre .0 .few)
 
 element-write-feet-2 : tie.Need-element-write-feet-2 Inv-loop μ-loop
 element-write-feet-2 c = element-write-feet c

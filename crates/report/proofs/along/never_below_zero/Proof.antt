@@ -8,6 +8,9 @@ use Rattle.report.proofs.along.NeverBelow.{bod-falls, nitrogenous-falls
 use Rattle.report.proofs.along.never_below_zero.Statement.{statement}
 use Rattle.report.proofs.along.never_below_zero.Tie as tie
 
+abbrev start-of : tie.After-struct-known4 → tie.Start
+start-of c = c .before .before .before .before
+
 sub-lost : tie.Need-sub-lost
 sub-lost c =
     let p = c .before .before .pre in
@@ -15,16 +18,16 @@ sub-lost c =
 
 sub-lost-2 : tie.Need-sub-lost-2
 sub-lost-2 c =
-    let p = c .before .before .before .before .pre in
+    let p = start-of c .pre in
     omega (arith, nitrogenous-falls (p .ready) (p .fits) (p .below))
 
 add-taken : tie.Need-add-taken
 add-taken c =
-    let p = c .before .before .before .before .before .pre in
+    let p = start-of (c .before) .pre in
     omega (arith, p .fits .demands, loss-few (p .ready) (p .fits) (p .below))
 
 saturation-of-requires : tie.Need-saturation-of-requires
-saturation-of-requires c κs = c .before .before .before .before .before .pre .ready .saturation
+saturation-of-requires c κs = start-of (c .before) .pre .ready .saturation
 
 -- false tells nothing
 returns : tie.Need-returns

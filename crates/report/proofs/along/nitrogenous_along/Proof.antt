@@ -17,20 +17,24 @@ step-of-requires c κs = rw (c .before .rate-of .ensures) (c .before .before .pr
 mean-step-of-requires : tie.Need-mean-step-of-requires
 mean-step-of-requires c κs = rw (c .before .before .rate-of .ensures) (c .before .before .before .pre .0)
 
+-- the place where the rate is known not to be 0
+abbrev decays-at : tie.After-mean-step-of → tie.Else1
+decays-at c = c .before .before
+
 demand-sums-requires : tie.Need-demand-sums-requires
 demand-sums-requires c κs =
-    let t = c .before .before in
+    let t = decays-at c in
     (sound (rw (t .before .rate-of .ensures) at (c .before .step-of .ensures)) (t .before .before .pre .0), t .before .before .pre .1)
 
 mean-demand-requires : tie.Need-mean-demand-requires
 mean-demand-requires c κs =
-    let t = c .before .before .before .before in
+    let t = decays-at (c .before .before) in
     let p = t .before .before .pre in
     (mean-sound (rw (t .before .rate-of .ensures) at (c .before .before .mean-step-of .ensures)) (p .0), demand-sums-few (sound (rw (t .before .rate-of .ensures) at (c .before .before .before .step-of .ensures)) (p .0)) (p .1) (c .before .demand-sums .ensures))
 
 returns-2 : tie.Need-returns-2
 returns-2 c =
-    let t = c .before .before .before .before .before in
+    let t = decays-at (c .before .before .before) in
     let a = t .before .before .args in
     rw (c .mean-demand .ensures)
     (demands-made (a .card) (a .flow) (a .start) (c .before .before .demand-sums .result) (rw (t .before .rate-of .ensures) at (c .before .before .before .before .step-of .ensures)) (rw (t .before .rate-of .ensures) at (c .before .before .before .mean-step-of .ensures)) (c .before .before .demand-sums .ensures))

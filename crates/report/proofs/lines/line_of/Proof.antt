@@ -21,40 +21,57 @@ bed-of-requires c κs =
 saturation-of-requires : tie.Need-saturation-of-requires
 saturation-of-requires c κs = c .before .before .before .pre .0 .saturation
 
+-- the places where the steps, what oxygen goes by, and the profile are known
+abbrev step-at : tie.After-saturation-of → tie.After-step-of
+step-at c = c .before .before .before
+
+abbrev saturation-at : tie.After-struct-known3 → tie.After-saturation-of
+saturation-at c = c .before .before .before
+
+abbrev profile-at : tie.After-struct-known6 → tie.After-profile-of
+profile-at c = c .before .before .before
+
 -- the shares of the steps, and the ranges of the start and of the bed
 profile-of-requires : tie.Need-profile-of-requires
 profile-of-requires c κs =
-    let s = c .before .before .before .before .before .before .before in
+    let s = step-at (saturation-at c) .before in
     let p = s .pre .0 in
-    let step = c .before .before .before .before .before .before .step-of .ensures in (
+    let step = step-at (saturation-at c) .step-of .ensures in (
       start-sound step (p .rates Bod),
-      start-sound (c .before .before .before .before .before .nitrogenous-step .ensures) (p .rates Nitrogenous),
-      start-range (s .args .card) (s .pre .1 .demands) (s .pre .1 .low) (omega arith) (p .saturation) (c .before .before .before .saturation-of .ensures),
-      start-bed (s .args .card) step (c .before .before .before .before .bed-of .ensures) (p .rates Bod) (p .bed),
+      start-sound (saturation-at c .before .before .nitrogenous-step .ensures) (p .rates Nitrogenous),
+      start-range (s .args .card) (s .pre .1 .demands) (s .pre .1 .low) (omega arith) (p .saturation) (saturation-at c .saturation-of .ensures),
+      start-bed (s .args .card) step (saturation-at c .before .bed-of .ensures) (p .rates Bod) (p .bed),
     )
 
 cast-t17 : tie.Need-cast-t17
 cast-t17 c =
-    let s = c .before .before .before .before .before .before .before .before .before .before in
-    record { fits = omega (arith, s .pre .1 .demands, foot-bod-below (c .before .before .profile-of .ensures) (start-sound (c .before .before .before .before .before .before .before .before .before .step-of .ensures) (s .pre .0 .rates Bod))) }
+    let profile = c .before .before in
+    let step-known = step-at (saturation-at (profile .before)) in
+    let s = step-known .before in
+    record { fits = omega (arith, s .pre .1 .demands, foot-bod-below (profile .profile-of .ensures) (start-sound (step-known .step-of .ensures) (s .pre .0 .rates Bod))) }
 
 cast-t18 : tie.Need-cast-t18
-cast-t18 c = omega (arith, critical-within (c .before .before .before .profile-of .ensures))
+cast-t18 c = omega (arith, critical-within (profile-at c .profile-of .ensures))
 
 cast-t21 : tie.Need-cast-t21
 cast-t21 c =
-    let s = c .before .before .before .before .before .before .before .before .before .before .before .before .before .before in
-    record { fits = omega (arith, s .pre .1 .demands, foot-nitrogenous-below (c .before .before .before .before .before .before .profile-of .ensures) (start-sound (c .before .before .before .before .before .before .before .before .before .before .before .before .nitrogenous-step .ensures) (s .pre .0 .rates Nitrogenous))) }
+    let profile = profile-at (c .before .before .before) in
+    let known = saturation-at (profile .before) in
+    let s = step-at known .before in
+    record { fits = omega (arith, s .pre .1 .demands, foot-nitrogenous-below (profile .profile-of .ensures) (start-sound (known .before .before .nitrogenous-step .ensures) (s .pre .0 .rates Nitrogenous))) }
 
 returns : tie.Need-returns
 returns c =
-    let s = c .before .before .before .before .before .before .before .before .before .before .before .before .before .before in
+    let profile = profile-at (c .before .before .before) in
+    let known = saturation-at (profile .before) in
+    let step-known = step-at known in
+    let s = step-known .before in
     line-figures (s .args .used) (s .args .card) (s .args .flow) (s .args .depth) (s .args .head .bod) (s .args .head .nitrogenous) (s .args .head .oxygen) _ _ _ _ _ _
-    (c .before .before .before .before .before .before .before .before .before .before .before .before .before .step-of .ensures)
-    (c .before .before .before .before .before .before .before .before .before .before .before .before .nitrogenous-step .ensures)
-    (c .before .before .before .before .before .before .before .before .before .before .saturation-of .ensures)
-    (c .before .before .before .before .before .before .before .before .before .before .before .bed-of .ensures)
-    (c .before .before .before .before .before .before .profile-of .ensures)
+    (step-known .step-of .ensures)
+    (known .before .before .nitrogenous-step .ensures)
+    (known .saturation-of .ensures)
+    (known .before .bed-of .ensures)
+    (profile .profile-of .ensures)
     (c .before .status-of .ensures)
 
 pub line-of-spec : {M : Type 1} → statement M

@@ -84,31 +84,44 @@ module _ {cs : Cards} {flows : FlowTable} {report₀ : List ℕ} {count : ℕ} {
             (fill-more (recordOf (cardList cs)) (recordSize (cardList cs)) (λ j. record-length (hasNitrification (cardList cs)) (reportedAt (cardList cs) (suc j))) (p .filled) (rw (p .sized) at room-for) (rw (p .sized) at (done .report)));
       }
 
+-- the places on the way to what is brought: the reach is one of the river, its card and its flows are read, and then the feet
+abbrev card-at : tie.After-flows Inv-loop μ-loop → tie.After-card Inv-loop μ-loop
+card-at c = c .before .before .before .before
+
+abbrev feet-at : tie.After-brought-to-arg5 Inv-loop μ-loop → tie.After-feet Inv-loop μ-loop
+feet-at c = c .before .before .before .before
+
+abbrev test-of : tie.After-brought-to-arg5 Inv-loop μ-loop → tie.In-loop Inv-loop μ-loop
+test-of c = card-at (feet-at c .before .before) .before
+
+abbrev brought-at : tie.After-slice-known2 Inv-loop μ-loop → tie.After-brought-to Inv-loop μ-loop
+brought-at c = c .before .before .before .before
+
 brought-to-requires : tie.Need-brought-to-requires Inv-loop μ-loop
 brought-to-requires c κs =
-    let test = c .before .before .before .before .before .before .before .before .before .before .before in
+    let test = test-of c in
     brought-asked (test .before .loop .inv .reaches) (test .loop-test .taken)
 
 mul-report-reach : tie.Need-mul-report-reach Inv-loop μ-loop
 mul-report-reach c =
-    let test = c .before .before .before .before .before .before .before .before .before .before .before .before .before in
+    let test = test-of (c .before .before) in
     omega (arith, place-small (test .before .loop .inv) (test .loop-test .taken))
 
 report-reach-requires : tie.Need-report-reach-requires Inv-loop μ-loop
 report-reach-requires c κs =
-    let test = c .before .before .before .before .before .before .before .before .before .before .before .before .before in
+    let test = test-of (c .before .before) in
     record-at (test .before .loop .inv) (test .loop-test .taken) (c .before .brought-to .ensures)
 
 element-write-feet : tie.Need-element-write-feet Inv-loop μ-loop
 element-write-feet c =
-    let test = c .before .before .before .before .before .before .before .before .before .before .before .before .before .before .before .before in
+    let test = test-of (brought-at c .before) in
     few (test .before .loop .inv .reaches) (test .loop-test .taken)
 
 loop-again : tie.Need-loop-again Inv-loop μ-loop
 loop-again c =
     let reported = c .before .before in
-    let brought = reported .before .before in
-    let test = brought .before .before .before .before .before .before .before .before .before .before .before .before in
+    let brought = brought-at c in
+    let test = test-of (brought .before) in
     let p = test .before .loop .inv in
     let l = test .loop-test .taken in
     one-more p l (reported .report-reach .ensures (record-at p l (brought .brought-to .ensures)))

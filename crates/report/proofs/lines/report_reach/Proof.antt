@@ -6,13 +6,16 @@ use Rattle.report.proofs.lines.Feet.{flow-small, reach-reported}
 use Rattle.report.proofs.lines.report_reach.Statement.{statement}
 use Rattle.report.proofs.lines.report_reach.Tie as tie
 
+abbrev start-of : tie.After-reported → tie.Start
+start-of c = c .before .before .before .before
+
 put-record-requires : tie.Need-put-record-requires
 put-record-requires c κs =
-    let p = c .before .before .before .before .pre in
+    let p = start-of c .pre in
     rw (p .nitrification) (p .room)
 
 foot-of-requires : tie.Need-foot-of-requires
-foot-of-requires c κs = flow-small (c .before .before .before .before .before .before .before .before .pre .line)
+foot-of-requires c κs = flow-small (start-of (c .before .before .before .before) .pre .line)
 
 returns : tie.Need-returns
 returns c =

@@ -87,32 +87,42 @@ module _ {cs : Cards} {flows : FlowTable} {count : ℕ} {feet : FootTable} {mean
           weighed = rw (add-one, w, volume-is) (weighs-next (r .mean) (p .weighed) volume-few fits (done .mean));
         }
 
+-- the places on the way to what is brought: the reach is one of the river, its card and its flows are read, and then the feet
+abbrev card-at : tie.After-flows Inv-loop μ-loop → tie.After-card Inv-loop μ-loop
+card-at c = c .before .before .before .before
+
+abbrev feet-at : tie.After-brought-to-arg5 Inv-loop μ-loop → tie.After-feet Inv-loop μ-loop
+feet-at c = c .before .before .before .before
+
+abbrev test-of : tie.After-brought-to-arg5 Inv-loop μ-loop → tie.In-loop Inv-loop μ-loop
+test-of c = card-at (feet-at c .before .before) .before
+
 brought-to-requires : tie.Need-brought-to-requires Inv-loop μ-loop
 brought-to-requires c κs =
-    let test = c .before .before .before .before .before .before .before .before .before .before .before in
+    let test = test-of c in
     brought-asked (test .before .loop .inv .reaches) (test .loop-test .taken)
 
 average-reach-requires : tie.Need-average-reach-requires Inv-loop μ-loop
 average-reach-requires c κs =
-    let test = c .before .before .before .before .before .before .before .before .before .before .before .before in
+    let test = test-of (c .before) in
     handed (test .before .loop .inv .reaches) (test .loop-test .taken) (c .brought-to .ensures)
 
 element-write-feet : tie.Need-element-write-feet Inv-loop μ-loop
 element-write-feet c =
-    let test = c .before .before .before .before .before .before .before .before .before .before .before .before .before .before in
+    let test = test-of (c .before .before .before) in
     few (test .before .loop .inv .reaches) (test .loop-test .taken)
 
 weigh-requires : tie.Need-weigh-requires Inv-loop μ-loop
 weigh-requires c κs =
     let brought = c .before .before .before in
-    let test = brought .before .before .before .before .before .before .before .before .before .before .before .before in
+    let test = test-of (brought .before) in
     room-to-weigh (test .before .loop .inv) (test .loop-test .taken) (brought .brought-to .ensures) (c .counted .ensures)
 
 loop-again : tie.Need-loop-again Inv-loop μ-loop
 loop-again c =
     let averaged = c .before .before .before in
     let brought = averaged .before in
-    let test = brought .before .before .before .before .before .before .before .before .before .before .before .before in
+    let test = test-of (brought .before) in
     let p = test .before .loop .inv in
     let l = test .loop-test .taken in
     let b = brought .brought-to .ensures in

@@ -15,57 +15,76 @@ use Rattle.report.proofs.Means.{means-refused, means-short, means-empty
 use Rattle.report.proofs.mean.mean.Statement.{statement}
 use Rattle.report.proofs.mean.mean.Tie as tie
 
-count : (c : tie.After-reach-count) → c .reach-count .result ≡ length (cardList (c .before .before .before .accept .result .effective))
-count c = reaches-counted (c .before .before .before .accept .result .effective) (simp length-map at (c .before .before .before .accept .ok .1 .1 .1 .0 .1 .1 .0 .1 .0 .1)) (c .reach-count .ensures)
+-- the places where the file was accepted, where its outcome was told, where all reaches are averaged, and where some volume counts
+abbrev accepted-at : tie.After-enum-told → tie.After-accept
+accepted-at c = c .before .before
+
+abbrev told-at : tie.Else1 → tie.After-enum-told
+told-at c = c .before .before
+
+abbrev averaged-at : tie.After-struct-known → tie.After-average-all
+averaged-at c = c .before .before
+
+abbrev counts-at : tie.After-put-table-arg2 → tie.Else2
+counts-at c = c .before .before .before
+
+count : (c : tie.After-reach-count) → c .reach-count .result ≡ length (cardList (accepted-at (c .before) .accept .result .effective))
+count c = reaches-counted (accepted-at (c .before) .accept .result .effective) (simp length-map at (accepted-at (c .before) .accept .ok .1 .1 .1 .0 .1 .1 .0 .1 .0 .1)) (c .reach-count .ensures)
 
 mul-if1 : tie.Need-mul-if1
 mul-if1 c =
     let told = c .before in
-    omega (arith, count c, told .before .before .accept .ensures .lawful (told .enum-told .given .1) .few)
+    omega (arith, count c, accepted-at told .accept .ensures .lawful (told .enum-told .given .1) .few)
 
 returns : tie.Need-returns
 returns c =
     let t = c .before .before in
     let told = t .before .before in
-    answers-refusal (means-short (told .before .before .accept .ensures) _ (told .enum-told .given .1) (omega (arith, t .if1 .taken, count (t .before)))) (c .refused2 .ensures ∙ ap Outcome.Refused (c .before .refuse .ensures))
+    answers-refusal (means-short (accepted-at told .accept .ensures) _ (told .enum-told .given .1) (omega (arith, t .if1 .taken, count (t .before)))) (c .refused2 .ensures ∙ ap Outcome.Refused (c .before .refuse .ensures))
 
 average-all-requires : tie.Need-average-all-requires
 average-all-requires c κs =
-    let told = c .before .before in
-    file-ready (told .before .before .accept .ensures) (told .enum-told .given .1)
+    let told = told-at c in
+    file-ready (accepted-at told .accept .ensures) (told .enum-told .given .1)
 
 returns-2 : tie.Need-returns-2
 returns-2 c =
-    let e = c .before .before .before .before .before .before in
-    let told = e .before .before in
+    let all = averaged-at (c .before .before .before) in
+    let e = all .before in
+    let told = told-at e in
     answers-refusal
-    (means-empty (told .before .before .accept .ensures) _ (told .enum-told .given .1) (omega (arith, e .if1 .left, count (e .before))) (omega (arith, c .before .before .if2 .taken, c .before .before .before .before .before .average-all .ensures .weighed .volume))) (c .refused3 .ensures ∙ ap Outcome.Refused (c .before .refuse2 .ensures))
+    (means-empty (accepted-at told .accept .ensures) _ (told .enum-told .given .1) (omega (arith, e .if1 .left, count (e .before))) (omega (arith, c .before .before .if2 .taken, all .average-all .ensures .weighed .volume))) (c .refused3 .ensures ∙ ap Outcome.Refused (c .before .refuse2 .ensures))
 
 put-table-requires : tie.Need-put-table-requires
 put-table-requires c κs =
-    let e = c .before .before .before .before .before .before .before in
-    let told = e .before .before in
-    (omega (arith, count (e .before), told .before .before .accept .ensures .lawful (told .enum-told .given .1) .few), omega (arith, e .if1 .left))
+    let e = averaged-at (counts-at c .before) .before in
+    let told = told-at e in
+    (omega (arith, count (e .before), accepted-at told .accept .ensures .lawful (told .enum-told .given .1) .few), omega (arith, e .if1 .left))
 
 divide-requires : tie.Need-divide-requires
 divide-requires c κs =
-    let told = c .before .before .before .before .before .before .before .before .before .before .before .before in
-    divisible (told .before .before .accept .ensures .lawful (told .enum-told .given .1)) (c .before .before .before .before .before .before .before .before .before .average-all .ensures .weighed) (omega (arith, c .before .before .before .before .before .before .if2 .left))
+    let counts = counts-at (c .before .before .before) in
+    let all = averaged-at (counts .before) in
+    let told = told-at (all .before) in
+    divisible (accepted-at told .accept .ensures .lawful (told .enum-told .given .1)) (all .average-all .ensures .weighed) (omega (arith, counts .if2 .left))
 
 returns-3 : tie.Need-returns-3
 returns-3 c = answers-refusal (means-refused (c .before .before .before .before .accept .ensures) _ (c .before .before .outcome .given .1)) (c .refused .ensures)
 
 returns-4 : tie.Need-returns-4
 returns-4 c =
-    let e = c .before .before .before .before .before .before .before .before .before .before .before in
-    let told = e .before .before in
+    let put = c .before .before .before in
+    let counts = counts-at (put .before) in
+    let averaged = averaged-at (counts .before) in
+    let e = averaged .before in
+    let told = told-at e in
     let count = count (e .before) in
-    let all = c .before .before .before .before .before .before .before .before .before .before .average-all in
-    let some : 0 < all .result .weights .volume = omega (arith, c .before .before .before .before .before .before .before .if2 .left) in
+    let all = averaged .average-all in
+    let some : 0 < all .result .weights .volume = omega (arith, counts .if2 .left) in
     answers-value
-    (means-held (told .before .before .accept .ensures) _ (told .enum-told .given .1) (omega (arith, e .if1 .left, count)) (omega (arith, all .ensures .weighed .volume)))
+    (means-held (accepted-at told .accept .ensures) _ (told .enum-told .given .1) (omega (arith, e .if1 .left, count)) (omega (arith, all .ensures .weighed .volume)))
     (told .enum-told .given .1) (ap₂ (λ (n : ℕ) (w : Weighted). record { count = n; mean = w }) count (mean-told (all .ensures) some (c .divide .ensures)))
-    (table-written _ count (c .before .before .before .put-table .ensures) (all .ensures))
+    (table-written _ count (put .put-table .ensures) (all .ensures))
 
 pub mean-spec : {M : Type 1} → statement M
 mean-spec =

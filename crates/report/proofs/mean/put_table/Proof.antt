@@ -33,18 +33,23 @@ loop-holds c =
 room-for : {stored means₀ means : List ℕ} {count i : ℕ} → Progress stored means₀ count means i → i < count → meanBytes * i + meanBytes ≤ length means
 room-for p l = rw (p .filled .same) (row-fits meanBytes l (p .room))
 
+abbrev test-of : tie.After-put-complement-arg2 Inv-loop μ-loop → tie.In-loop Inv-loop μ-loop
+test-of c = c .before .before
+
 put-complement-requires : tie.Need-put-complement-requires Inv-loop μ-loop
-put-complement-requires c κs = room-for (c .before .before .before .loop .inv) (c .before .before .loop-test .taken)
+put-complement-requires c κs = room-for (test-of c .before .loop .inv) (test-of c .loop-test .taken)
 
 loop-again : tie.Need-loop-again Inv-loop μ-loop
 loop-again c =
-    let v = c .before .before .before .before .before .before .loop .inv in
-    let l = c .before .before .before .before .before .loop-test .taken in
+    let put = c .before .before in
+    let test = test-of (put .before) in
+    let v = test .before .loop .inv in
+    let l = test .loop-test .taken in
     record {
       within = omega arith;
       few = v .few;
       room = v .room;
-      filled = rw add-one (fill-more _ meanBytes (λ j. refl) (v .filled) (room-for v l) (c .before .before .put-complement .ensures .buffer));
+      filled = rw add-one (fill-more _ meanBytes (λ j. refl) (v .filled) (room-for v l) (put .put-complement .ensures .buffer));
     }
 
 same-length : tie.Need-same-length Inv-loop μ-loop

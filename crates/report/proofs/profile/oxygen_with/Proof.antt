@@ -10,14 +10,18 @@ use Rattle.report.proofs.profile.Oxygen.{turned-below, holds-under, hol
 use Rattle.report.proofs.profile.oxygen_with.Statement.{statement}
 use Rattle.report.proofs.profile.oxygen_with.Tie as tie
 
+abbrev start-of : tie.After-product → tie.Start
+start-of c = c .before .before
+
 sub-after-decay : tie.Need-sub-after-decay
 sub-after-decay c =
-    let a = c .before .before .args in
-    omega (arith, turned-below (a .f) (a .start) (c .before .before .pre .0) (c .before .before .pre .1))
+    let s = start-of c in
+    let a = s .args in
+    omega (arith, turned-below (a .f) (a .start) (s .pre .0) (s .pre .1))
 
 sub-result : tie.Need-sub-result
 sub-result c =
-    let s = c .before .before .before .before in
+    let s = start-of (c .before .before) in
     let a = s .args in
     omega (
       arith,
@@ -27,7 +31,7 @@ sub-result c =
 
 sub-result-2 : tie.Need-sub-result-2
 sub-result-2 c =
-    let a = c .before .before .before .before .before .args in
+    let a = start-of (c .before .before .before) .args in
     omega (
       arith,
       share-below (one - a .f .kept) (a .start .oxygen - (a .start .saturation + storedZero)) (omega arith),
@@ -35,14 +39,14 @@ sub-result-2 c =
 
 returns : tie.Need-returns
 returns c =
-    let s = c .before .before .before .before in
+    let s = start-of (c .before .before) in
     holds-under (s .args .f) (s .args .start) (s .pre .0) (s .pre .1) _ _ (c .before .before .product .ensures)
     (c .before .if1 .taken)
     (c .product2 .ensures)
 
 returns-2 : tie.Need-returns-2
 returns-2 c =
-    let s = c .before .before .before .before .before in
+    let s = start-of (c .before .before .before) in
     holds-over (s .args .f) (s .args .start) (s .pre .0) (s .pre .1) _ _ (c .before .before .before .product .ensures)
     (c .before .before .if1 .left)
     (c .product3 .ensures)

@@ -8,17 +8,23 @@ use Rattle.report.proofs.profile.Steps.{walk-shares, walk-loss, demand-
 use Rattle.report.proofs.profile.profile_both.Statement.{statement}
 use Rattle.report.proofs.profile.profile_both.Tie as tie
 
+-- the place where the walk stands at the foot
+abbrev walked-at : tie.After-d → tie.After-walk-to-foot
+walked-at c = c .before .before .before
+
 product-requires : tie.Need-product-requires
 product-requires c κs =
-    let s = c .before .before .before .before in
+    let walked = walked-at c in
+    let s = walked .before in
     let a = s .args in
-    omega (arith, s .pre .2 .demands, walk-shares (a .step) (a .other) (a .start) (a .bed) (s .pre .0) (c .before .before .before .walk-to-foot .ensures .walk))
+    omega (arith, s .pre .2 .demands, walk-shares (a .step) (a .other) (a .start) (a .bed) (s .pre .0) (walked .walk-to-foot .ensures .walk))
 
 oxygen-over-both-requires : tie.Need-oxygen-over-both-requires
 oxygen-over-both-requires c κs =
-    let s = c .before .before .before .before .before .before in
+    let walked = walked-at (c .before .before) in
+    let s = walked .before in
     let a = s .args in
-    let here = c .before .before .before .before .before .walk-to-foot .ensures in (
+    let here = walked .walk-to-foot .ensures in (
       walk-shares (a .step) (a .other) (a .start) (a .bed) (s .pre .0) (here .walk),
       s .pre .2,
       demand-parts (a .start) foot (s .pre .1) (here .nitrogenous),
@@ -27,8 +33,9 @@ oxygen-over-both-requires c κs =
 
 returns : tie.Need-returns
 returns c =
-    let a = c .before .before .before .before .before .before .before .args in
-    walk-ends (a .step) (a .other) (a .start) (a .bed) _ _ _ _ (c .before .before .before .before .before .before .walk-to-foot .ensures)
+    let walked = walked-at (c .before .before .before) in
+    let a = walked .before .args in
+    walk-ends (a .step) (a .other) (a .start) (a .bed) _ _ _ _ (walked .walk-to-foot .ensures)
     (c .before .before .product .ensures)
     refl
     (c .oxygen-over-both .ensures)

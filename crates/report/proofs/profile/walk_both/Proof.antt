@@ -27,20 +27,23 @@ loop-holds c =
     let a = c .before .before .args in
     (omega arith, walk-begins (a .step) (a .other) (a .start) noBed (c .before .begin .ensures), c .whole .ensures)
 
+abbrev start-of : tie.At-loop Inv-loop μ-loop → tie.Start Inv-loop μ-loop
+start-of c = c .before .before .before
+
 next-demand-requires : tie.Need-next-demand-requires Inv-loop μ-loop
 next-demand-requires c κs =
-    let s = c .before .before .before .before in
+    let s = start-of (c .before) in
     (s .pre .1, demand-shares (s .args .start) (c .before .loop .m) (s .pre .2) (s .pre .1) (c .before .loop .inv .2))
 
 turn-both-requires : tie.Need-turn-both-requires Inv-loop μ-loop
 turn-both-requires c κs =
-    let s = c .before .before .before .before .before in
+    let s = start-of (c .before .before) in
     let v = c .before .before .loop .inv in
     ((s .pre .0, s .pre .1, s .pre .2, c .before .loop-test .taken), (v .1, c .next-demand .ensures ∙ demand-after (s .args .start) (s .args .other) (c .before .before .loop .m) (v .2)))
 
 loop-again : tie.Need-loop-again Inv-loop μ-loop
 loop-again c =
-    let s = c .before .before .before .before .before .before in
+    let s = start-of (c .before .before .before) in
     (omega arith, c .turn-both .ensures, c .before .next-demand .ensures ∙ demand-after (s .args .start) (s .args .other) (c .before .before .before .loop .m) (c .before .before .before .loop .inv .2))
 
 returns : tie.Need-returns Inv-loop μ-loop

@@ -32,18 +32,24 @@ loop-holds c =
     let counted = reaches-counted (c .before .args .t1) (simp length-map at (c .before .good .0 .1 .1 .0 .1 .0 .1)) (c .reach-count .ensures) in
     record { counted = (counted, omega (arith, counted)); rest = refl }
 
+-- the place where the loop asks for its next reach
+abbrev loop-at : tie.After-is-nitrified Inv-loop μ-loop → tie.At-loop Inv-loop μ-loop
+loop-at c = c .before .before .before
+
 returns : tie.Need-returns Inv-loop μ-loop
 returns c =
-    let l = c .before .before .before .before .loop in
-    let cs = c .before .before .before .before .before .before .args .t1 in
+    let at = loop-at (c .before) in
+    let l = at .loop in
+    let cs = at .before .before .args .t1 in
     sym
     (l .inv .rest
     ∙ found (cardList cs) (l .i) (omega (arith, l .inv .counted)) (own cs (l .inv) (omega arith) ∙ sym (c .before .is-nitrified .ensures) ∙ c .if1 .taken))
 
 loop-again : tie.Need-loop-again Inv-loop μ-loop
 loop-again c =
-    let l = c .before .before .before .before .loop in
-    let cs = c .before .before .before .before .before .before .args .t1 in
+    let at = loop-at (c .before) in
+    let l = at .loop in
+    let cs = at .before .before .args .t1 in
     record {
       counted = l .inv .counted;
       rest =

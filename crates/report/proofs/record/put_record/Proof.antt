@@ -13,10 +13,18 @@ put-flows-requires c κs =
     let s = c .before .before in
     omega (arith, s .pre, record-bounds (s .args .nitrified) .0)
 
+-- the place where the flows have been put, and the start
+abbrev start-of : tie.After-put-flows → tie.Start
+start-of c = c .before .before .before
+
+abbrev flows-at : tie.After-put-oxygen → tie.After-put-flows
+flows-at c = c .before .before .before .before
+
 put-oxygen-requires : tie.Need-put-oxygen-requires
 put-oxygen-requires c κs =
-    let s = c .before .before .before .before .before .before in
-    omega (arith, s .pre, record-bounds (s .args .nitrified) .0, c .before .before .before .put-flows .ensures .place, c .before .before .before .put-flows .kept .0)
+    let f = c .before .before .before in
+    let s = start-of f in
+    omega (arith, s .pre, record-bounds (s .args .nitrified) .0, f .put-flows .ensures .place, f .put-flows .kept .0)
 
 put-nitrogenous-requires : tie.Need-put-nitrogenous-requires
 put-nitrogenous-requires c κs =
@@ -31,14 +39,14 @@ returns c =
     let n = c .before .before in
     let t = n .before .before in
     let o = t .before .before .before in
-    let f = o .before .before .before .before in
+    let f = flows-at o in
     rw (t .if1 .taken) (chain (chain (f .put-flows .ensures) (o .put-oxygen .ensures)) (n .put-nitrogenous .ensures))
 
 returns-2 : tie.Need-returns-2
 unfolding encodeRecord encodePlain
 returns-2 c =
     let o = c .before .before .before in
-    let f = o .before .before .before .before in
+    let f = flows-at o in
     rw (c .if1 .left) (chain (f .put-flows .ensures) (o .put-oxygen .ensures))
 
 pub put-record-spec : {M : Type 1} → statement M

@@ -17,39 +17,61 @@ use Rattle.report.proofs.record.Encoding.{record-bounds}
 use Rattle.report.proofs.reporting.report.Statement.{statement}
 use Rattle.report.proofs.reporting.report.Tie as tie
 
+<<<<<<< HEAD
 counted : (c : tie.After-reach-count) → c .reach-count .result ≡ length (cardList (c .before .before .before .accept .result .effective))
 counted c = reaches-counted (c .before .before .before .accept .result .effective) (simp length-map at (c .before .before .before .accept .ok .1 .1 .1 .0 .1 .1 .0 .1 .0 .1)) (c .reach-count .ensures)
+=======
+-- the places where the file was accepted, and where its outcome was told
+abbrev accepted-at : tie.After-enum-told → tie.After-accept
+accepted-at c = c .before .before
+
+abbrev told-at : tie.After-record-bytes → tie.After-enum-told
+told-at c = c .before .before .before
+
+counted : (c : tie.After-reach-count) → c .reach-count .result ≡ length (cardList (accepted-at (c .before) .accept .result .effective))
+counted c = reaches-counted (accepted-at (c .before) .accept .result .effective) (simp length-map at (accepted-at (c .before) .accept .ok .1 .1 .1 .0 .1 .1 .0 .1 .0 .1)) (c .reach-count .ensures)
+>>>>>>> 296d4644a524eec1a5ea25faf48eecef3edbe351
 
 has-nitrification-requires : tie.Need-has-nitrification-requires
-has-nitrification-requires c κs = c .before .before .before .accept .ensures .lawful (c .before .enum-told .given .1) .few
+has-nitrification-requires c κs = accepted-at (c .before) .accept .ensures .lawful (c .before .enum-told .given .1) .few
 
 -- the bytes of a record, times how many there are, are those of the report
 size-is :
     (c : tie.After-record-bytes) →
+<<<<<<< HEAD
     c .record-bytes .result * c .before .before .reach-count .result ≡ reportSize (cardList (c .before .before .before .before .before .accept .result .effective))
+=======
+    c .record-bytes .result * c .before .before .reach-count .result ≡ reportSize (cardList (accepted-at (told-at c) .accept .result .effective))
+>>>>>>> 296d4644a524eec1a5ea25faf48eecef3edbe351
 size-is c = ap₂ _*_ (c .record-bytes .ensures ∙ ap recordBytes (c .before .has-nitrification .ensures)) (counted (c .before .before))
 
 mul-size : tie.Need-mul-size
 mul-size c =
+<<<<<<< HEAD
     let told = c .before .before .before in
     let a = told .before .before .accept in
     let cards = cardList (a .result .effective) in
+=======
+    let told = told-at c in
+    let a = accepted-at told .accept in
+    let cards = cardList (a .result .effective) in
+>>>>>>> 296d4644a524eec1a5ea25faf48eecef3edbe351
     let few = a .ensures .lawful (told .enum-told .given .1) .few in
     record { fits = omega (arith, size-is c, mul-le-mul (record-bounds (hasNitrification cards) .1) few) }
 
 returns : tie.Need-returns
 returns c =
     let t = c .before .before in
-    let told = t .before .before .before .before in
+    let told = told-at (t .before) in
     answers-refusal
-    (file-short (told .before .before .accept .ensures) _ (told .enum-told .given .1) (omega (arith, t .if1 .taken, size-is (t .before))))
+    (file-short (accepted-at told .accept .ensures) _ (told .enum-told .given .1) (omega (arith, t .if1 .taken, size-is (t .before))))
     (c .refused2 .ensures ∙ ap Outcome.Refused (c .before .refuse .ensures))
 
 report-all-requires : tie.Need-report-all-requires
 report-all-requires c κs =
     let e = c .before in
-    let told = e .before .before .before .before in (
-      file-ready (told .before .before .accept .ensures) (told .enum-told .given .1),
+    let told = told-at (e .before) in (
+      file-ready (accepted-at told .accept .ensures) (told .enum-told .given .1),
       omega (arith, e .if1 .left, size-is (e .before)),
       e .before .before .has-nitrification .ensures,
     )
@@ -63,9 +85,9 @@ returns-3 : tie.Need-returns-3
 returns-3 c =
     let w = c .before .before in
     let e = w .before .before in
-    let told = e .before .before .before .before in
+    let told = told-at (e .before) in
     answers-value
-    (file-held (told .before .before .accept .ensures) _ (told .enum-told .given .1) (omega (arith, e .if1 .left, size-is (e .before))))
+    (file-held (accepted-at told .accept .ensures) _ (told .enum-told .given .1) (omega (arith, e .if1 .left, size-is (e .before))))
     (told .enum-told .given .1)
     (ap₂ (λ (n : ℕ) (b : Bool). record { count = n; nitrified = b }) (counted (e .before .before .before)) (e .before .before .has-nitrification .ensures))
     (w .report-all .ensures)

@@ -15,12 +15,19 @@ river-is : (units : ℤ) (remainder : ℕ) → ascii "river " ++ signed units ++
 unfolding riverLine line afterWord
 river-is units remainder = simp append-assoc
 
+-- the places where the numbers have been put
+abbrev units-at : tie.After-put-word-arg3 → tie.After-put-signed
+units-at c = c .before .before .before
+
+abbrev remainder-at : tie.After-put-word-arg5 → tie.After-put-number
+remainder-at c = c .before .before .before
+
 returns : tie.Need-returns
 returns c =
     let e = c .before .before in
-    let d = e .before .before .before .before .before in
+    let d = remainder-at (e .before .before) in
     let w = d .before .before .before .before in
-    let s = w .before .before .before .before .before in
+    let s = units-at (w .before .before) in
     let a = s .before .before .before .before in
     reworded (river-is _ _)
     (both (both (both (both (a .put-word .ensures) (s .put-signed .ensures)) (w .put-word2 .ensures)) (d .put-number .ensures)) (e .put-word3 .ensures))

@@ -28,18 +28,22 @@ abbrev μ-loop : tie.MeasureT-loop
 loop-holds : tie.Need-loop-holds Inv-loop μ-loop
 loop-holds c = record { within = omega arith; room = omega arith; same = refl; rest = starts _ _ _ }
 
+abbrev start-of : tie.At-loop Inv-loop μ-loop → tie.Start Inv-loop μ-loop
+start-of c = c .before .before .before
+
 put-next-requires : tie.Need-put-next-requires Inv-loop μ-loop
 put-next-requires c κs = omega arith
 
 loop-again : tie.Need-loop-again Inv-loop μ-loop
 loop-again c =
     let p = c .before .before in
-    let l = p .before .before .before .loop in
+    let at = p .before .before .before in
+    let l = at .loop in
     record {
       within = omega arith;
       room = omega (arith, p .put-next .ensures .within, l .inv .room);
       same = p .put-next .kept .0 ∙ l .inv .same;
-      rest = goes-on (l .inv .rest) (line-from (now (p .before .before .before .before .before .before .args .numbers)) (l .i) (omega arith)) (p .put-next .ensures .put);
+      rest = goes-on (l .inv .rest) (line-from (now (start-of at .args .numbers)) (l .i) (omega arith)) (p .put-next .ensures .put);
     }
 
 same-length : tie.Need-same-length Inv-loop μ-loop
@@ -48,7 +52,7 @@ same-length c = c .before .loop .inv .same
 returns : tie.Need-returns Inv-loop μ-loop
 returns c =
     let l = c .before .loop in
-    let done = line-ends (c .before .before .before .before .args .numbers .now) (l .i) (omega arith) in
+    let done = line-ends (start-of (c .before) .args .numbers .now) (l .i) (omega arith) in
     record { put = ends (rw done at (l .inv .rest)); within = omega arith }
 
 pub put-line-spec : {M : Type 1} → statement M

@@ -6,20 +6,26 @@ use Rattle.text.proofs.put.Words.{space-after, end-after}
 use Rattle.text.proofs.put.put_next.Statement.{statement}
 use Rattle.text.proofs.put.put_next.Tie as tie
 
+abbrev start-of : tie.After-put-signed-arg → tie.Start
+start-of c = c .before .before .before
+
+abbrev signed-at : tie.After-slice-known2 → tie.After-put-signed
+signed-at c = c .before .before
+
 returns : tie.Need-returns
 returns c =
     let w = c .before .before in
     let t = w .before .before .before in
-    let s = t .before .before .before in
-    let a = s .before .before .before .before .before .args in
+    let s = signed-at (t .before) in
+    let a = start-of (s .before .before) .args in
     both (s .put-signed .ensures) (reworded (space-after (now (a .numbers)) (a .i) (t .if1 .taken)) (w .put-word .ensures))
 
 returns-2 : tie.Need-returns-2
 returns-2 c =
     let w = c .before .before in
     let t = w .before .before .before in
-    let s = t .before .before .before in
-    let a = s .before .before .before .before .before .args in
+    let s = signed-at (t .before) in
+    let a = start-of (s .before .before) .args in
     both (s .put-signed .ensures) (reworded (end-after (now (a .numbers)) (a .i) (t .if1 .left)) (w .put-word2 .ensures))
 
 pub put-next-spec : {M : Type 1} → statement M
