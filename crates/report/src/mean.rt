@@ -79,11 +79,7 @@ pub fn average_all(cards: Cards, flows: FlowTable) -> MeanTable
     let count = flow::reach_count(cards.count);
     let mut feet = head::no_feet();
     let mut mean = [0u32; REACHES];
-    let mut weights = Weights {
-        high: 0,
-        low: 0,
-        volume: 0,
-    };
+    let mut weights = weights::no_weights();
     let mut i: usize = 0;
     while i < count {
         let card = cards.at[i];
@@ -107,11 +103,8 @@ pub fn average_all(cards: Cards, flows: FlowTable) -> MeanTable
         feet.oxygen[i] = foot.oxygen;
         feet.used[i] = foot.used;
         mean[i] = averaged.mean;
-        weights = weights::weigh(
-            weights,
-            status::counted(brought.used, card.volume),
-            averaged.mean,
-        );
+        let volume = status::counted(brought.used, card.volume);
+        weights = weights::weigh(weights, volume, averaged.mean);
         i = i + 1;
     }
     MeanTable { mean, weights }

@@ -1,6 +1,6 @@
 // Stored means weighed by volume, in sums of two parts, since a sum of volume times mean may need more than eight bytes, and their quotient.
 ghost use mathlib.Core.Path.{_≡_};
-ghost use Rattle.report.specs.held.Weights.{weighedWith, RoomToWeigh, Divisible, quotientOf};
+ghost use Rattle.report.specs.held.Weights.{noWeights, weighedWith, RoomToWeigh, Divisible, quotientOf};
 
 // Sums of volume times the upper, and times the lower, 16 bits of stored means, and of volume.
 pub struct Weights {
@@ -19,6 +19,17 @@ pub struct Quotient {
 const CHUNK: u32 = 65_536;
 
 const CHUNK_WIDE: u64 = CHUNK as u64;
+
+// The sums of no mean.
+pub fn no_weights() -> Weights
+    ensures { λ r. ⌜ r ≡ noWeights ⌝ }
+{
+    Weights {
+        high: 0,
+        low: 0,
+        volume: 0,
+    }
+}
 
 // The sums with the stored mean of one more reach.
 pub fn weigh(w: Weights, volume: u32, mean: u32) -> Weights

@@ -13,13 +13,13 @@ use Rattle.flows.proofs.flow.Table.{entered}
 use Rattle.flows.proofs.head.Offset.{sub-add, times-sub}
 use Rattle.report.proofs.mean.Rows
 use Rattle.report.specs.Mean.{meanAt, countedVolumeAt, weightedSum, volumeSum}
-use Rattle.report.specs.held.Weights.{volumeLimit, weighedWith, wholeSum}
+use Rattle.report.specs.held.Weights.{noWeights, volumeLimit, weighedWith, wholeSum}
 use Rattle.report.specs.held.MeanLines.{Weighs, MeansTabled}
 use Rattle.report.specs.declared.weights.Weights.{Weights}
 use Rattle.report.proofs.weights.Weighing.{upper-part, lower-part, one-weighed}
 
 -- the sums of no reach, and with one more
-pub weighs-none : (cards : List Card) → Weighs cards 0 (record { high = 0; low = 0; volume = 0 })
+pub weighs-none : (cards : List Card) → Weighs cards 0 noWeights
 unfolding volumeSum weightedSum
 weighs-none cards =
     record { sum = refl; fits = omega arith; high = omega arith; low = omega arith; volume = refl; few = omega arith }

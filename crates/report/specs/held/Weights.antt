@@ -8,6 +8,10 @@ use Rattle.report.specs.declared.weights.Quotient.{Quotient}
 abbrev pub chunk : ℕ
 chunk = 65_536
 
+-- the sums of no mean
+abbrev pub noWeights : Weights
+noWeights = record { high = 0; low = 0; volume = 0 }
+
 -- the sums with one more mean
 abbrev pub weighedWith : Weights → (volume mean : ℕ) → Weights
 weighedWith w volume mean =

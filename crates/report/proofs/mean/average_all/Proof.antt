@@ -44,9 +44,9 @@ abbrev μ-loop : tie.MeasureT-loop
 loop-holds : tie.Need-loop-holds Inv-loop μ-loop
 loop-holds c =
     record {
-      reaches = none-yet (simp length-map at (c .before .before .good .0 .1 .1 .0 .1 .0 .1)) (c .before .before .pre) (c .before .reach-count .ensures) (c .no-feet .ensures);
+      reaches = none-yet (simp length-map at (c .before .before .before .good .0 .1 .1 .0 .1 .0 .1)) (c .before .before .before .pre) (c .before .before .reach-count .ensures) (c .before .no-feet .ensures);
       tabled = means-none _;
-      weighed = weighs-none _;
+      weighed = rw (c .no-weights .ensures) (weighs-none _);
     }
 
 -- a volume that counts is at most the volume
@@ -142,6 +142,7 @@ average-all-spec =
     μ-loop
     (λ reach-count-requires. search needs)
     (λ no-feet-requires. search needs)
+    (λ no-weights-requires. search needs)
     loop-holds
     (λ mul-card. search needs)
     (λ element-copy-out-card. search needs)

@@ -17,10 +17,6 @@ use Rattle.report.proofs.record.Encoding.{record-bounds}
 use Rattle.report.proofs.reporting.report.Statement.{statement}
 use Rattle.report.proofs.reporting.report.Tie as tie
 
-<<<<<<< HEAD
-counted : (c : tie.After-reach-count) → c .reach-count .result ≡ length (cardList (c .before .before .before .accept .result .effective))
-counted c = reaches-counted (c .before .before .before .accept .result .effective) (simp length-map at (c .before .before .before .accept .ok .1 .1 .1 .0 .1 .1 .0 .1 .0 .1)) (c .reach-count .ensures)
-=======
 -- the places where the file was accepted, and where its outcome was told
 abbrev accepted-at : tie.After-enum-told → tie.After-accept
 accepted-at c = c .before .before
@@ -30,7 +26,6 @@ told-at c = c .before .before .before
 
 counted : (c : tie.After-reach-count) → c .reach-count .result ≡ length (cardList (accepted-at (c .before) .accept .result .effective))
 counted c = reaches-counted (accepted-at (c .before) .accept .result .effective) (simp length-map at (accepted-at (c .before) .accept .ok .1 .1 .1 .0 .1 .1 .0 .1 .0 .1)) (c .reach-count .ensures)
->>>>>>> 296d4644a524eec1a5ea25faf48eecef3edbe351
 
 has-nitrification-requires : tie.Need-has-nitrification-requires
 has-nitrification-requires c κs = accepted-at (c .before) .accept .ensures .lawful (c .before .enum-told .given .1) .few
@@ -38,24 +33,14 @@ has-nitrification-requires c κs = accepted-at (c .before) .accept .ensures .law
 -- the bytes of a record, times how many there are, are those of the report
 size-is :
     (c : tie.After-record-bytes) →
-<<<<<<< HEAD
-    c .record-bytes .result * c .before .before .reach-count .result ≡ reportSize (cardList (c .before .before .before .before .before .accept .result .effective))
-=======
     c .record-bytes .result * c .before .before .reach-count .result ≡ reportSize (cardList (accepted-at (told-at c) .accept .result .effective))
->>>>>>> 296d4644a524eec1a5ea25faf48eecef3edbe351
 size-is c = ap₂ _*_ (c .record-bytes .ensures ∙ ap recordBytes (c .before .has-nitrification .ensures)) (counted (c .before .before))
 
 mul-size : tie.Need-mul-size
 mul-size c =
-<<<<<<< HEAD
-    let told = c .before .before .before in
-    let a = told .before .before .accept in
-    let cards = cardList (a .result .effective) in
-=======
     let told = told-at c in
     let a = accepted-at told .accept in
     let cards = cardList (a .result .effective) in
->>>>>>> 296d4644a524eec1a5ea25faf48eecef3edbe351
     let few = a .ensures .lawful (told .enum-told .given .1) .few in
     record { fits = omega (arith, size-is c, mul-le-mul (record-bounds (hasNitrification cards) .1) few) }
 
