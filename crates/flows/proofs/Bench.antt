@@ -25,7 +25,7 @@ use Rattle.flows.specs.Saturation.{saturation, saturationThousandths, sa
 use Rattle.flows.specs.Head.{floor, upstreamDemand, upstreamOxygen, aerated, belowDam, headDemand, headOxygen}
 use Rattle.flows.specs.Rates.{warmed, cooled, correctedRate, decayInForce, aerationInForce, inForce}
 use Rattle.flows.specs.Accept.{acceptFile}
-use Rattle.flows.proofs.rates.Rows.{Rows as RateRows, rows as rate-rows}
+use Rattle.flows.proofs.rates.Rows.{RateRows, rate-rows}
 use Rattle.flows.proofs.head.SaturationRows.{SaturationRows, saturation-rows}
 
 abbrev pub drawn : (take-1 take-2 : Amount) → List Card

@@ -25,7 +25,7 @@ use Rattle.flows.specs.Flow.{Feeders, none, more, joinedIf, feedersAmong, cardO
 use Rattle.flows.specs.Saturation.{saturation, saturationThousandths, saturationOf, SaturationInRange}
 use Rattle.flows.specs.Head.{floor, upstreamDemand, upstreamOxygen, aerated, belowDam, mixedDemand, headDemand, headOxygen}
 use Rattle.flows.proofs.flow.Take.{mass-within}
-use Rattle.river.proofs.Bench.{reach, second, two, hilly, Rows as FileRows, bench as file-bench}
+use Rattle.river.proofs.Bench.{reach, second, two, hilly, FileRows, bench as file-bench}
 use Rattle.flows.proofs.Bench.{drawn, FlowRows, bench as flow-bench}
 use Rattle.report.specs.Status.{statusBy, isUsed, usedBy, shownNumber, shownOxygen, reported}
 use Rattle.report.specs.Program.{figuresOf, reportedAt, demandSum, oxygenSum, demandAtHead, oxygenAtHead, demandAt, oxygenAt, criticalOxygen, usedAbove, foot}

@@ -76,7 +76,7 @@ nitrified-file = encode (given (nitrified 300 4_000 5))
 abbrev pub by-factors : (decay aeration : ℕ) → List ℕ
 by-factors decay aeration = encode (riverOf (PerDegree decay aeration) (two Dam.Absent))
 
-pub record Rows : Type 0 where
+pub record FileRows : Type 0 where
   pub empty-file : readFile [] ≡ refused (refuse 1 0)
   -- a pressure at either end of its range, and one past it
   pub lowest-read : readFile (encode (given (hilly (Given 500)))) ≡ accepted (given (hilly (Given 500)))
@@ -108,7 +108,7 @@ pub record Rows : Type 0 where
   pub longest : longestFile ≡ 8_202
 
 -- THEOREM: the bench values of the paper for files, a row each
-pub bench : Rows
+pub bench : FileRows
 unfolding readFile readRest readHeader readReaches readReach readOptionals readOptional cardAt countOk inRange outletOk within allWithin need choose after encode
 bench =
     record {

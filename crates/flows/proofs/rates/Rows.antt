@@ -28,7 +28,7 @@ warm =
       optionals = withNitrification (Nitrifying 1_000 0 0) noOptionals;
     })
 
-pub record Rows : Type 0 where
+pub record RateRows : Type 0 where
   pub at-25 : correctedRate 1_047 25 1_000 ≡ 1_258
   pub at-10 : correctedRate 1_047 10 1_000 ≡ 631
   pub at-0 : correctedRate 1_047 0 230 ≡ 91
@@ -43,9 +43,9 @@ pub record Rows : Type 0 where
   pub aeration : warm .k2 ≡ 1_125
 
 -- THEOREM: these values, a row each
-pub rows : Rows
+pub rate-rows : RateRows
 unfolding correctedRate warmed cooled decayInForce aerationInForce
-rows =
+rate-rows =
     record {
       at-25 = refl;
       at-10 = refl;
