@@ -18,7 +18,7 @@ use Rattle.river.specs.declared.source.Demand.the-variants.{Nitrogenous}
 use Rattle.river.specs.Bytes.{Mark, mark}
 use Rattle.river.specs.Described.{InRange}
 use Rattle.river.specs.Records.{DM, damRecord, WD, takeRecord, BP, pressureRecord, SD, sludgeRecord, rateMost, NT, nitrificationRecord}
-use Rattle.river.specs.Optional.{Kind, Values, encodeOptionals, sizes}
+use Rattle.river.specs.Optional.{Kind, Values, absent, encodeOptionals, sizes}
 use Rattle.river.specs.Source.{rateOf}
 
 -- the cards of a `Cards` value: its first `count`; reach i is element i - 1
@@ -30,22 +30,32 @@ abbrev pub amountOr : ℕ → Amount → ℕ
 amountOr none Amount.Absent = none
 amountOr none (Given n) = n
 
+-- the records of a card's optional fields, in file order, and what these fields hold of them
+abbrev pub fieldRecords : List Kind
+fieldRecords = takeRecord ∷ pressureRecord ∷ sludgeRecord ∷ nitrificationRecord ∷ []
+
+abbrev pub fieldsOf : Optionals → Values fieldRecords
+fieldsOf o = (o .take, (o .pressure, (o .sludge, (o .nitrification, tt))))
+
+abbrev pub optionalsOf : Values fieldRecords → Optionals
+optionalsOf vs = record { take = vs .0; pressure = vs .1 .0; sludge = vs .1 .1 .0; nitrification = vs .1 .1 .1 .0 }
+
 -- none of a card's optional fields
 abbrev pub noOptionals : Optionals
-noOptionals = record { take = Amount.Absent; pressure = Amount.Absent; sludge = Amount.Absent; nitrification = Nitrification.Absent }
+noOptionals = optionalsOf (absent fieldRecords)
 
 -- optional fields with another take, pressure, sludge bed or nitrification
 abbrev pub withTake : Amount → Optionals → Optionals
-withTake take o = record { take = take; pressure = o .pressure; sludge = o .sludge; nitrification = o .nitrification }
+withTake take o = let vs = fieldsOf o in optionalsOf (take, vs .1)
 
 abbrev pub withPressure : Amount → Optionals → Optionals
-withPressure pressure o = record { take = o .take; pressure = pressure; sludge = o .sludge; nitrification = o .nitrification }
+withPressure pressure o = let vs = fieldsOf o in optionalsOf (vs .0, (pressure, vs .1 .1))
 
 abbrev pub withSludge : Amount → Optionals → Optionals
-withSludge sludge o = record { take = o .take; pressure = o .pressure; sludge = sludge; nitrification = o .nitrification }
+withSludge sludge o = let vs = fieldsOf o in optionalsOf (vs .0, (vs .1 .0, (sludge, vs .1 .1 .1)))
 
 abbrev pub withNitrification : Nitrification → Optionals → Optionals
-withNitrification nitrification o = record { take = o .take; pressure = o .pressure; sludge = o .sludge; nitrification = nitrification }
+withNitrification nitrification o = let vs = fieldsOf o in optionalsOf (vs .0, (vs .1 .0, (vs .1 .1 .0, (nitrification, vs .1 .1 .1 .1))))
 
 -- a card with another dam and other optional fields
 abbrev pub withOptionals : Dam → Optionals → Card → Card
@@ -176,21 +186,18 @@ reachBytes = 26
 
 -- the records that may follow an `RE` record, in file order
 abbrev pub optional : List Kind
-optional = damRecord ∷ takeRecord ∷ pressureRecord ∷ sludgeRecord ∷ nitrificationRecord ∷ []
+optional = damRecord ∷ fieldRecords
 
 -- what a dam and optional fields are of them, and what a card holds
 abbrev pub valuesOf : Dam → Optionals → Values optional
-valuesOf dam o = (dam, (o .take, (o .pressure, (o .sludge, (o .nitrification, tt)))))
+valuesOf dam o = (dam, fieldsOf o)
 
 abbrev pub optionalOf : Card → Values optional
 optionalOf c = valuesOf (c .dam) (c .optionals)
 
--- the optional fields of what is read, and a card with what is read
-abbrev pub optionalsOf : Values optional → Optionals
-optionalsOf vs = record { take = vs .1 .0; pressure = vs .1 .1 .0; sludge = vs .1 .1 .1 .0; nitrification = vs .1 .1 .1 .1 .0 }
-
+-- a card with what is read
 abbrev pub withValues : Values optional → Card → Card
-withValues vs c = withOptionals (vs .0) (optionalsOf vs) c
+withValues vs c = withOptionals (vs .0) (optionalsOf (vs .1)) c
 
 -- the length of a card's records, and that of the longest card's
 abbrev pub sizeOf : Card → ℕ

@@ -31,7 +31,7 @@ cardAt s vs =
       «inflow_oxygen» = twoAt s 20;
       load = fourAt s 22;
       dam = vs .0;
-      optionals = optionalsOf vs;
+      optionals = optionalsOf (vs .1);
     }
 
 -- reach i of n at the start of the bytes: 1, 2, 4, 5, then the records that follow its `RE` record, or its card
