@@ -16,7 +16,7 @@ use Rattle.river.specs.declared.source.Demand.{Demand}
 use Rattle.river.specs.declared.source.Demand.the-variants.{Bod, Nitrogenous}
 use Rattle.river.specs.Source.{rateOf}
 use Rattle.flows.specs.Saturation.{SaturationInRange}
-use Rattle.river.proofs.range.Ranges.{asked-at}
+use Rattle.river.proofs.range.Ranges.{regular-sludge, asked-at}
 use Rattle.river.proofs.source.Ranges.{rate-small}
 use Rattle.flows.proofs.head.Bounds.{conditions-in-range}
 use Rattle.flows.proofs.flow.Table.{deepest-few}
@@ -79,7 +79,7 @@ module _ (cards : List Card) (lawful : Lawful cards) (flows : Flows cards) where
         fields = own .in-range;
         saturation = conditions-in-range own;
         dam = own .dam;
-        sludge = demand-small (getD cards n blank .optionals .sludge) (own .optionals .sludge);
+        sludge = demand-small (getD cards n blank .optionals .sludge) (regular-sludge (own .optionals));
         flows = flows .each n l;
       }
 

@@ -17,8 +17,8 @@ use Rattle.river.specs.declared.card.Nitrification.the-variants.{Nitrify
 use Rattle.river.specs.declared.source.Demand.the-variants.{Nitrogenous}
 use Rattle.river.specs.Bytes.{Mark, mark}
 use Rattle.river.specs.Described.{InRange}
-use Rattle.river.specs.Records.{DM, damRecord, WD, takeRecord, BP, pressureRecord, SD, sludgeRecord, rateMost, NT, nitrificationRecord}
-use Rattle.river.specs.Optional.{Kind, Values, absent, encodeOptionals, sizes}
+use Rattle.river.specs.Records.{DM, damRecord, takeRecord, pressureRecord, sludgeRecord, rateMost, NT, nitrificationRecord}
+use Rattle.river.specs.Optional.{Kind, Values, AllInRange, absent, encodeOptionals, sizes}
 use Rattle.river.specs.Source.{rateOf}
 
 -- the cards of a `Cards` value: its first `count`; reach i is element i - 1
@@ -117,12 +117,12 @@ pub record RatesInRange (c : Card) : Type 0 where
 unfoldable pub outletOk : ℕ → ℕ → ℕ → Bool
 outletOk n i o = cond (eqb i n) (eqb o 0) (ltb i o && leb o n)
 
--- what is asked of a card's optional fields, the nitrogenous rate aside
+-- what is asked of a card's optional fields: all in range, the nitrogenous rate left out
+abbrev pub withoutRates : Optionals → Optionals
+withoutRates o = withNitrification (withoutRate (o .nitrification)) o
+
 pub record RegularOptionals (o : Optionals) : Type 0 where
-  pub take : InRange WD (o .take)
-  pub pressure : InRange BP (o .pressure)
-  pub sludge : InRange SD (o .sludge)
-  pub nitrification : RegularNitrification (o .nitrification)
+  pub in-range : AllInRange fieldRecords (fieldsOf (withoutRates o))
 
 -- what is asked of the card of reach i of n, its rates aside, so of a card with the rates in force too; any load that four bytes hold will do
 pub record RegularCard (n i : ℕ) (c : Card) : Type 0 where

@@ -1,5 +1,6 @@
 -- Optional records: each may follow or not, and is read at the start of the bytes that remain.
 use mathlib.Core.Bool.{Bool, true, _&&_}
+use mathlib.Core.Path.{_≡_}
 use mathlib.Core.List.{List, [], _∷_, _++_}
 use Prim.Native.Nat.{ℕ, _+_}
 use lib.ListN.{length, drop}
@@ -50,7 +51,11 @@ abbrev pub encodeOptionals : (ks : List Kind) → Values ks → List ℕ
 encodeOptionals [] vs = []
 encodeOptionals (k ∷ ks) vs = k .encode (vs .0) ++ encodeOptionals ks (vs .1)
 
--- whether all values are in range
+-- all values are in range, and the test of it
+abbrev pub AllInRange : (ks : List Kind) → Values ks → Type 0
+AllInRange [] vs = Unit
+AllInRange (k ∷ ks) vs = (k .inRange (vs .0) ≡ true) × AllInRange ks (vs .1)
+
 unfoldable pub optionalsInRange : (ks : List Kind) → Values ks → Bool
 optionalsInRange [] vs = true
 optionalsInRange (k ∷ ks) vs = k .inRange (vs .0) && optionalsInRange ks (vs .1)

@@ -15,6 +15,7 @@ use Rattle.river.specs.Card.{amountOr, RegularCard}
 use Rattle.river.specs.Described.{InRange}
 use Rattle.river.specs.Records.{BP}
 use Rattle.river.specs.Source.{sourceMass}
+use Rattle.river.proofs.range.Ranges.{regular-pressure}
 use Rattle.flows.specs.Flow.{flowLimit}
 use Rattle.flows.specs.Saturation.{saturation, saturationThousandths, standardPressure, pressureOf, saturationOf, ConditionsInRange, SaturationInRange}
 use Rattle.flows.specs.Head.{upstreamDemand, mixedDemand, headDemand}
@@ -53,7 +54,7 @@ pressure-small Amount.Absent h = omega arith
 pressure-small (Given p) h = h .0 .most
 
 pub conditions-in-range : {n i : ℕ} {c : Card} → RegularCard n i c → SaturationInRange c
-conditions-in-range {c = c} h = record { temperature = h .in-range .temperature; pressure = pressure-small (c .optionals .pressure) (h .optionals .pressure) }
+conditions-in-range {c = c} h = record { temperature = h .in-range .temperature; pressure = pressure-small (c .optionals .pressure) (regular-pressure (h .optionals)) }
 
 -- a share is at most the whole
 pub share-small : (a b d : ℕ) → b ≤ d → a * b / d ≤ a

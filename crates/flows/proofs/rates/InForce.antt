@@ -14,7 +14,7 @@ use Rattle.river.specs.Card.{RegularNitrification, RegularCard, LawfulCard, Rat
 use Rattle.river.specs.River.{River}
 use Rattle.flows.specs.Rates.{decayInForce, aerationInForce, withRate, cardInForce, inForce, CorrectableCard}
 use Rattle.flows.specs.Flow.{Flows}
-use Rattle.river.proofs.range.Ranges.{regular-with, asked-at}
+use Rattle.river.proofs.range.Ranges.{regular-nitrification, regular-with, asked-at}
 use Rattle.flows.proofs.rates.Rows
 use Rattle.flows.proofs.rates.Correction.{thousand}
 
@@ -70,7 +70,7 @@ card-regular f n i c h =
       load = h .load;
       outlet = h .outlet;
       dam = h .dam;
-      optionals = regular-with (nitrification-regular (decayInForce f (c .temperature)) (c .optionals .nitrification) (h .optionals .nitrification)) (h .optionals);
+      optionals = regular-with (nitrification-regular (decayInForce f (c .temperature)) (c .optionals .nitrification) (regular-nitrification (h .optionals))) (h .optionals);
     }
 
 regular-from : (f : RateFactors) (n i : ℕ) (cs : List Card) → EachFrom LawfulCard n i cs → EachFrom RegularCard n i (map (cardInForce f) cs)

@@ -11,7 +11,7 @@ use lib.ListN.{length, drop, length-append}
 use lib.Seq.{drop-append-seam}
 use borrow.Author.Tests.{le-leb, leb-true, not-true}
 use Rattle.river.specs.Bytes.{AreBytes, Mark, marked, markBytes}
-use Rattle.river.specs.Optional.{Kind, Values, readOptional, readOptionals, encodeOptionals, optionalsInRange, sizes}
+use Rattle.river.specs.Optional.{Kind, Values, readOptional, readOptionals, encodeOptionals, AllInRange, optionalsInRange, sizes}
 use Rattle.river.specs.Refusal.{Answer, accepted, refused, after, outcomeOf, goOn}
 use Rattle.river.specs.declared.refusal.Outcome.{Outcome}
 use Rattle.river.proofs.Answers.{never, need-true, choose-true, choose-false, after-accepted, after-refused, after-all, after-after, goes-on, passed, went, both, both-true}
@@ -148,6 +148,17 @@ readOptionals-encode (k ∷ ks) laws d i vs post r u =
     (after-accepted _ _ (readOptional-encode k (laws .0) i (vs .0) rest (in-range .left) clear) ∙
     after-accepted _ _
     (rw drop-append-seam (readOptionals-encode ks (laws .1) (differ .right) i (vs .1) post (in-range .right) (free .right))))
+
+-- values are in range exactly where the test of it holds
+pub all-in-range-true : (ks : List Kind) (vs : Values ks) → AllInRange ks vs → optionalsInRange ks vs ≡ true
+unfolding optionalsInRange
+all-in-range-true [] vs h = refl
+all-in-range-true (k ∷ ks) vs h = both (h .0) (all-in-range-true ks (vs .1) (h .1))
+
+pub true-all-in-range : (ks : List Kind) (vs : Values ks) → optionalsInRange ks vs ≡ true → AllInRange ks vs
+unfolding optionalsInRange
+true-all-in-range [] vs e = tt
+true-all-in-range (k ∷ ks) vs e = let t = both-true {a = k .inRange (vs .0)} e in (t .left, true-all-in-range ks (vs .1) (t .right))
 
 -- what is read as values: they are in range, and their bytes lead
 pub record AreOptionals (ks : List Kind) (s : List ℕ) (vs : Values ks) : Type 0 where

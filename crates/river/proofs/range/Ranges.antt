@@ -9,17 +9,18 @@ use native.Mathlib.Numerals.{one-add}
 use native.Mathlib.Omega.{arith}
 use lib.ListN.{length, getD}
 use borrow.Author.Tests.{le-leb, leb-true, ltb-true, eq-eqb, eqb-true, ne-eqb}
-use Rattle.river.specs.Card.{FieldsInRange, RegularNitrification, RegularOptionals, withNitrification, RatesInRange, ratesInRange, LawfulCard, EachFrom, Each, blank, optional, optionalOf, inRange, countOk, outletOk}
-use Rattle.river.specs.Optional.{optionalsInRange}
+use Rattle.river.specs.Card.{FieldsInRange, RegularNitrification, RegularOptionals, withNitrification, withoutRate, withoutRates, fieldRecords, fieldsOf, RatesInRange, ratesInRange, LawfulCard, EachFrom, Each, blank, optional, optionalOf, inRange, countOk, outletOk}
+use Rattle.river.specs.Optional.{AllInRange, optionalsInRange}
 use Rattle.river.specs.Source.{nitrogenousRate}
 use Rattle.river.specs.declared.card.Card.{Card}
 use Rattle.river.specs.declared.card.Nitrification.{Nitrification}
 use Rattle.river.specs.declared.card.Nitrification.the-variants.{Nitrifying}
 use Rattle.river.specs.declared.card.Optionals.{Optionals}
 use Rattle.river.specs.Described.{InRange}
-use Rattle.river.specs.Records.{DM, rateMost, NT, WD, BP, SD}
+use Rattle.river.specs.Records.{DM, rateMost, NT, BP, SD}
 use Rattle.river.proofs.Answers.{both, both-true}
 use Rattle.river.proofs.card.Described.{in-range-true, true-in-range}
+use Rattle.river.proofs.card.Optional.{all-in-range-true, true-all-in-range}
 
 pub inRange-true : (c : Card) → FieldsInRange c → RatesInRange c → inRange c ≡ true
 unfolding inRange
@@ -79,51 +80,49 @@ in-range-regular : (n : Nitrification) → InRange NT n → RegularNitrification
 in-range-regular Nitrification.Absent h = (tt, zero-le)
 in-range-regular (Nitrifying rate c l) h = ((record { least = zero-le; most = zero-le }, h .1), h .0 .most)
 
+-- what regular optional fields tell of one of them
+pub regular-pressure : {o : Optionals} → RegularOptionals o → InRange BP (o .pressure)
+regular-pressure {o} h = true-in-range BP (o .pressure) (h .in-range .1 .0)
+
+pub regular-sludge : {o : Optionals} → RegularOptionals o → InRange SD (o .sludge)
+regular-sludge {o} h = true-in-range SD (o .sludge) (h .in-range .1 .1 .0)
+
+pub regular-nitrification : {o : Optionals} → RegularOptionals o → RegularNitrification (o .nitrification)
+regular-nitrification {o} h = true-in-range NT (withoutRate (o .nitrification)) (h .in-range .1 .1 .1 .0)
+
+-- another nitrification in range leaves optional fields in range, and so it does regular ones
+exchanged : (o : Optionals) (n : Nitrification) → InRange NT n → AllInRange fieldRecords (fieldsOf o) → AllInRange fieldRecords (fieldsOf (withNitrification n o))
+exchanged o n h r = (r .0, (r .1 .0, (r .1 .1 .0, (in-range-true NT n h, r .1 .1 .1 .1))))
+
+pub regular-with : {n : Nitrification} {o : Optionals} → RegularNitrification n → RegularOptionals o → RegularOptionals (withNitrification n o)
+regular-with {n} {o} h r = record { in-range = exchanged (withoutRates o) (withoutRate n) h (r .in-range) }
+
 -- the tests of a card hold exactly where it is lawful
 pub lawful-optionals : {n i : ℕ} {c : Card} → LawfulCard n i c → optionalsInRange optional (optionalOf c) ≡ true
-unfolding optionalsInRange
 lawful-optionals {n} {i} {c} lawful =
     let o = c .optionals in
     let h = lawful .regular .optionals in
-    both (in-range-true DM (c .dam) (lawful .regular .dam))
-    (both (in-range-true WD (o .take) (h .take))
-    (both (in-range-true BP (o .pressure) (h .pressure))
-    (both (in-range-true SD (o .sludge) (h .sludge))
-    (both (in-range-true NT (o .nitrification) (regular-in-range (o .nitrification) (h .nitrification) (lawful .rates .nitrogenous))) refl))))
+    let nitrification = regular-in-range (o .nitrification) (regular-nitrification h) (lawful .rates .nitrogenous) in
+    all-in-range-true optional (optionalOf c) (in-range-true DM (c .dam) (lawful .regular .dam), exchanged (withoutRates o) (o .nitrification) nitrification (h .in-range))
 
 pub lawful-card : (n i : ℕ) (c : Card) → inRange c ≡ true → c .load < 4294967296 → outletOk n i (c .outlet) ≡ true
     → optionalsInRange optional (optionalOf c) ≡ true → LawfulCard n i c
-unfolding optionalsInRange
 lawful-card n i c r l o e =
-    let a = both-true e in
-    let b = both-true (a .right) in
-    let d = both-true (b .right) in
-    let f = both-true (d .right) in
-    let g = both-true (f .right) in
+    let all = true-all-in-range optional (optionalOf c) e in
     let reach = true-inRange c r in
-    let optionals = c .optionals in
-    let nitrification = in-range-regular (optionals .nitrification) (true-in-range NT (optionals .nitrification) (g .left)) in
+    let given = c .optionals .nitrification in
+    let nitrification = in-range-regular given (true-in-range NT given (all .1 .1 .1 .1 .0)) in
     record {
       regular =
           record {
             in-range = reach .fields;
             load = l;
             outlet = o;
-            dam = true-in-range DM (c .dam) (a .left);
-            optionals =
-                record {
-                  take = true-in-range WD (optionals .take) (b .left);
-                  pressure = true-in-range BP (optionals .pressure) (d .left);
-                  sludge = true-in-range SD (optionals .sludge) (f .left);
-                  nitrification = nitrification .0;
-                };
+            dam = true-in-range DM (c .dam) (all .0);
+            optionals = record { in-range = exchanged (c .optionals) (withoutRate given) (nitrification .0) (all .1) };
           };
       rates = record { k1 = reach .k1; k2 = reach .k2; nitrogenous = nitrification .1 };
     }
-
--- another nitrification in range leaves optional fields regular
-pub regular-with : {n : Nitrification} {o : Optionals} → RegularNitrification n → RegularOptionals o → RegularOptionals (withNitrification n o)
-regular-with h r = record { take = r .take; pressure = r .pressure; sludge = r .sludge; nitrification = h }
 
 pub countOk-true : (n : ℕ) → 1 ≤ n → n ≤ 128 → countOk n ≡ true
 unfolding countOk

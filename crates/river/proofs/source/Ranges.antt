@@ -13,6 +13,7 @@ use Rattle.river.specs.declared.source.Source.{Source}
 use Rattle.river.specs.Card.{RegularNitrification, RatesInRange, RegularCard}
 use Rattle.river.specs.Records.{rateMost}
 use Rattle.river.specs.Source.{nitrogenousSource, sourceOf, rateOf, sourceMass, SourceInRange, SourcesInRange}
+use Rattle.river.proofs.range.Ranges.{regular-nitrification}
 
 -- every demand comes in with the inflow of the reach
 nitrogenous-inflow : (inflow : ℕ) (n : Nitrification) → nitrogenousSource inflow n .inflow ≡ inflow
@@ -33,7 +34,7 @@ sources-in-range {c = c} h = record { each = each }
   where
     each : (d : Demand) → SourceInRange (sourceOf d c)
     each Bod = record { inflow = h .in-range .inflow; concentration = h .in-range .inflow-bod; load = h .load }
-    each Nitrogenous = nitrogenous-in-range (c .inflow) (c .optionals .nitrification) (h .in-range .inflow) (h .optionals .nitrification)
+    each Nitrogenous = nitrogenous-in-range (c .inflow) (c .optionals .nitrification) (h .in-range .inflow) (regular-nitrification (h .optionals))
 
 -- the rate of a demand is in range
 pub rate-small : {c : Card} → RatesInRange c → (d : Demand) → rateOf d c ≤ rateMost
