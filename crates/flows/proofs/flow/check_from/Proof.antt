@@ -29,6 +29,13 @@ Inv-loop from cards count flows₀ i₀ flows i = Progress cards count flows i
 abbrev μ-loop : tie.MeasureT-loop
 μ-loop from cards count flows₀ i₀ flows i = count - i
 
+-- the places where the tables were at hand, and where the loop was entered
+abbrev flows-at : tie.After-upstream-of-arg4 Inv-loop μ-loop → tie.After-flows Inv-loop μ-loop
+flows-at c = c .before .before .before .before
+
+abbrev test-at : tie.After-upstream-of-arg4 Inv-loop μ-loop → tie.In-loop Inv-loop μ-loop
+test-at c = flows-at c .before .before
+
 loop-holds : tie.Need-loop-holds Inv-loop μ-loop
 loop-holds c =
     let s = c .before in
@@ -63,29 +70,29 @@ module _ {cs : Cards} {count : ℕ} {flows : FlowTable} {i : ℕ} (p : Progress 
 
 upstream-of-requires : tie.Need-upstream-of-requires Inv-loop μ-loop
 upstream-of-requires c κs =
-    let loop = c .before .before .before .before .before .before .before in
+    let loop = test-at c .before in
     sums-fit (loop .loop .inv .underway, within (loop .loop .inv) (omega arith))
 
 check-next-requires : tie.Need-check-next-requires Inv-loop μ-loop
-check-next-requires c κs = let loop = c .before .before .before .before .before .before .before .before in check-at (loop .loop .inv) (omega arith) (c .upstream-of .ensures)
+check-next-requires c κs = let loop = test-at (c .before) .before in check-at (loop .loop .inv) (omega arith) (c .upstream-of .ensures)
 
 returns : tie.Need-returns Inv-loop μ-loop
 returns c =
     let next = c .before .before in
     let up = next .before in
-    let test = up .before .before .before .before .before .before .before in
+    let test = test-at (up .before) in
     let p = test .before .loop .inv in
     let l = test .loop-test .taken in
     at-refusal (p .underway) (within p l) (next .check-next .ensures (check-at p l (up .upstream-of .ensures))) (c .enum-told2 .given .1)
 
 element-write-flows : tie.Need-element-write-flows Inv-loop μ-loop
-element-write-flows c = few (c .before .before .before .before .before .before .before .before .before .before .before .loop .inv) (omega arith)
+element-write-flows c = few (test-at (c .before .before .before .before) .before .loop .inv) (omega arith)
 
 loop-again : tie.Need-loop-again Inv-loop μ-loop
 loop-again c =
     let next = c .before .before in
     let up = next .before in
-    let test = up .before .before .before .before .before .before .before in
+    let test = test-at (up .before) in
     let p = test .before .loop .inv in
     let l = test .loop-test .taken in
     record {

@@ -13,6 +13,13 @@ use Rattle.flows.proofs.flow.Checks.{gathered-small, next-refused, next
 use Rattle.flows.proofs.flow.check_next.Statement.{statement}
 use Rattle.flows.proofs.flow.check_next.Tie as tie
 
+-- the start, and the place where the reach was checked
+abbrev start-at : tie.After-struct-known3 → tie.Start
+start-at c = c .before .before .before .before
+
+abbrev check-at : tie.After-take-of → tie.After-check
+check-at c = c .before .before .before
+
 -- the reaches before have passed, and this is a reach of the river
 abbrev next : (s : tie.Start) → Underway (s .pre .cards) (s .args .i) (s .pre .flows) × (s .args .i < length (s .pre .cards))
 next s = (s .pre .underway, s .pre .within)
@@ -32,7 +39,7 @@ own-mass-requires c κs =
 
 add-mass : tie.Need-add-mass
 add-mass c =
-    let s = c .before .before .before .before in
+    let s = start-at c in
     omega (arith, gathered-small (next s) (s .pre .gathered), own-mass-few (s .pre .own) (s .pre .underway .regular) (s .pre .within) (c .before .own-mass .ensures))
 
 returns : tie.Need-returns
@@ -45,7 +52,7 @@ returns c =
 -- what has passed: 13 and 8
 remaining-mass-requires : tie.Need-remaining-mass-requires
 remaining-mass-requires c κs =
-    let passed = decided (c .before .before .before .check .ensures) (checks-ask _ _ _ _ _ _) (c .before .enum-told .given .1) in
+    let passed = decided (check-at c .check .ensures) (checks-ask _ _ _ _ _ _) (c .before .enum-told .given .1) in
     (rw (c .take-of .ensures) (passed .1 .1 .0), passed .0 .1 .0)
 
 sub-left : tie.Need-sub-left
@@ -53,7 +60,7 @@ sub-left c = le-of-lt (remaining-mass-requires c tt .0)
 
 add-depth : tie.Need-add-depth
 add-depth c =
-    let s = c .before .before .before .before .before .before .before .before .before .before in
+    let s = start-at (check-at (c .before .before) .before) in
     omega (arith, gathered-small (next s) (s .pre .gathered))
 
 cast-t14 : tie.Need-cast-t14
@@ -66,7 +73,7 @@ returns-2 : tie.Need-returns-2
 returns-2 c =
     let left = c .before .before in
     let take = left .before in
-    let check = take .before .before .before in
+    let check = check-at take in
     let own = check .before .before in
     λ here.
     next-passed (here .underway, here .within) (here .gathered) (here .own) (own .own-mass .ensures) (add-one _) (check .check .ensures) (take .take-of .ensures) (left .remaining-mass .ensures)

@@ -45,6 +45,13 @@ Inv-loop cards decay aeration count at₀ i₀ at i = (i ≤ count) × Corrected
 abbrev μ-loop : tie.MeasureT-loop
 μ-loop cards decay aeration count at₀ i₀ at i = count - i
 
+-- the place where the factors were known, and the start
+abbrev known-at : tie.At-loop Inv-loop μ-loop → tie.After-factors Inv-loop μ-loop
+known-at c = c .before .before .before
+
+abbrev start-at : tie.At-loop Inv-loop μ-loop → tie.Start Inv-loop μ-loop
+start-at c = known-at c .before .before
+
 -- rates in force by factors that are known
 by-factors : {f g : RateFactors} (cs : List Card) → f ≡ g → inForce (riverOf g cs) ≡ inForce (riverOf f cs)
 by-factors cs e = ap (λ (f : RateFactors). map (cardInForce f) cs) (sym e)
@@ -62,7 +69,7 @@ loop-holds c = (omega arith, record { full = full (c .before .before .before .be
 corrected-requires : tie.Need-corrected-requires Inv-loop μ-loop
 corrected-requires c κs =
     let loop = c .before .before in
-    let known = loop .before .before .before in
+    let known = known-at loop in
     let s = known .before .before in
     let f = subst (InRange TH) (known .factors .given .1) (s .pre .0 .factors) in
     let i = loop .loop .i in
@@ -71,18 +78,18 @@ corrected-requires c κs =
     (f .0, f .1 .0, rw (card-of-river cards i here) (correctable (s .pre .0 .cards) i here))
 
 array-set-from-at : tie.Need-array-set-from-at Inv-loop μ-loop
-array-set-from-at c = let loop = c .before .before .before in omega (arith, loop .before .before .before .before .before .pre .1)
+array-set-from-at c = let loop = c .before .before .before in omega (arith, start-at loop .pre .1)
 
 loop-again : tie.Need-loop-again Inv-loop μ-loop
 loop-again c =
     let loop = c .before .before .before in
-    let s = loop .before .before .before .before .before in
+    let s = start-at loop in
     (omega arith, rw add-one (one-more (loop .loop .inv .1) (full s) (omega (arith, s .pre .1)) (c .corrected .ensures)))
 
 returns-2 : tie.Need-returns-2 Inv-loop μ-loop
 returns-2 c =
     let loop = c .before in
-    let known = loop .before .before .before in
+    let known = known-at loop in
     let cards = known .before .before .args .t2 in
     let all : loop .loop .i ≡ cards .count = omega (arith, loop .loop .inv .0) in
     let first : take (cards .count) (loop .loop .at) ≡ map (cardInForce (PerDegree _ _)) (cardList cards) = rw all at (loop .loop .inv .1 .first) in

@@ -10,8 +10,12 @@ use Rattle.river.proofs.card.Rows.{size-small}
 use Rattle.river.proofs.card.size_of.Statement.{statement}
 use Rattle.river.proofs.card.size_of.Tie as tie
 
+-- the start, seen from where the first amount's length was found
+abbrev start-at : tie.After-amount-size → tie.Start
+start-at c = c .before .before .before
+
 -- the lengths of the records, added up
-added : (c : tie.After-nitrification-size) → let s = c .before in let p = s .before in let t = p .before in reachBytes + t .before .dam-size .result + t .amount-size .result + p .amount-size2 .result + s .amount-size3 .result + c .nitrification-size .result ≡ sizeOf (t .before .before .before .args .c)
+added : (c : tie.After-nitrification-size) → let s = c .before in let p = s .before in let t = p .before in reachBytes + t .before .dam-size .result + t .amount-size .result + p .amount-size2 .result + s .amount-size3 .result + c .nitrification-size .result ≡ sizeOf (start-at t .args .c)
 added c =
     let s = c .before in
     let p = s .before in
@@ -23,21 +27,21 @@ add-result c = omega (arith, c .dam-size .ensures, simp length-append at (size-s
 
 add-result-2 : tie.Need-add-result-2
 add-result-2 c =
-    omega (arith, c .before .dam-size .ensures, c .amount-size .ensures, simp length-append at (size-small (c .before .before .before .args .c)))
+    omega (arith, c .before .dam-size .ensures, c .amount-size .ensures, simp length-append at (size-small (start-at c .args .c)))
 
 add-result-3 : tie.Need-add-result-3
 add-result-3 c =
     let t = c .before in
-    omega (arith, t .before .dam-size .ensures, t .amount-size .ensures, c .amount-size2 .ensures, simp length-append at (size-small (t .before .before .before .args .c)))
+    omega (arith, t .before .dam-size .ensures, t .amount-size .ensures, c .amount-size2 .ensures, simp length-append at (size-small (start-at t .args .c)))
 
 add-result-4 : tie.Need-add-result-4
 add-result-4 c =
     let p = c .before in
     let t = p .before in
-    omega (arith, t .before .dam-size .ensures, t .amount-size .ensures, p .amount-size2 .ensures, c .amount-size3 .ensures, simp length-append at (size-small (t .before .before .before .args .c)))
+    omega (arith, t .before .dam-size .ensures, t .amount-size .ensures, p .amount-size2 .ensures, c .amount-size3 .ensures, simp length-append at (size-small (start-at t .args .c)))
 
 add-result-5 : tie.Need-add-result-5
-add-result-5 c = omega (arith, added c, size-small (c .before .before .before .before .before .before .args .c))
+add-result-5 c = omega (arith, added c, size-small (start-at (c .before .before .before) .args .c))
 
 returns : tie.Need-returns
 returns c = added c

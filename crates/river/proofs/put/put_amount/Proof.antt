@@ -14,7 +14,8 @@ put-pair-requires c κs = let a = c .before .before in let h = rw (a .amount .gi
 
 put-four-requires : tie.Need-put-four-requires
 put-four-requires c κs =
-    let a = c .before .before .before .before .before .before .before in
+    let p = c .before .before .before .before in
+    let a = p .before .before .before in
     let h = rw (a .amount .given .1, c .before .if1 .taken) at (a .before .before .before .pre) in
     omega (arith, h)
 
@@ -27,7 +28,8 @@ returns-2 c =
 
 put-narrow-requires : tie.Need-put-narrow-requires
 put-narrow-requires c κs =
-    let a = c .before .before .before .before .before .before .before in
+    let p = c .before .before .before .before in
+    let a = p .before .before .before in
     let h = rw (a .amount .given .1, c .before .if1 .left) at (a .before .before .before .pre) in
     omega (arith, h)
 

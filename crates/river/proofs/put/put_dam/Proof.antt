@@ -1,29 +1,43 @@
 -- `river::put::put_dam` meets its contract: by the dam's cases; runs of bytes, one behind the other.
 -- Assumes nothing.
 use borrow.Author.Needs.{needs}
+use Prim.Native.Nat.{_+_, _≤_}
+use denote.Ref.{now}
+use lib.ListN.{length}
 use native.Mathlib.Omega.{arith}
 use Rattle.river.proofs.bytes.Puts.{chain, held, put-none}
 use Rattle.river.proofs.put.put_dam.Statement.{statement}
 use Rattle.river.proofs.put.put_dam.Tie as tie
 
+-- the place where the dam was known, seen from the first two runs of bytes
+abbrev known-pair : tie.After-put-pair-arg → tie.After-dam
+known-pair c = c .before .before
+
+abbrev known-two : tie.After-put-two-arg → tie.After-dam
+known-two c = known-pair (c .before .before .before .before)
+
 returns : tie.Need-returns
 returns c = rw (c .enum-told .given .1) (put-none _ _)
 
+-- the room that was asked for
+room : (c : tie.After-dam) → let a = c .before .before .before .args in a .at + 8 ≤ length (now (a .out))
+room c = rw (c .dam .given .1) at (c .before .before .before .pre)
+
 put-pair-requires : tie.Need-put-pair-requires
-put-pair-requires c κs = let h = rw (c .before .before .dam .given .1) at (c .before .before .before .before .before .pre) in omega (arith, h)
+put-pair-requires c κs = omega (arith, room (known-pair c))
 
 put-two-requires : tie.Need-put-two-requires
-put-two-requires c κs = let a = c .before .before .before .before .before in let h = rw (a .before .dam .given .1) at (a .before .before .before .before .pre) in omega (arith, h)
+put-two-requires c κs = omega (arith, room (known-two c))
 
 put-four-requires : tie.Need-put-four-requires
-put-four-requires c κs = let a = c .before .before .before .before .before .before .before .before .before in let h = rw (a .before .dam .given .1) at (a .before .before .before .before .pre) in omega (arith, h)
+put-four-requires c κs = omega (arith, room (known-two (c .before .before .before .before)))
 
 returns-2 : tie.Need-returns-2
 returns-2 c =
     let d = c .before .before in
     let b = d .before .before .before .before in
     let a = b .before .before .before .before in
-    let dam = a .before .before .before .dam in
+    let dam = known-pair (a .before) .dam in
     rw (dam .given .1) (chain (chain (a .put-pair .ensures) (held (dam .given .0 .0) (search needs) (b .put-two .ensures))) (d .put-four .ensures))
 
 pub put-dam-spec : {M : Type 1} → statement M

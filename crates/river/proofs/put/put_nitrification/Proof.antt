@@ -9,6 +9,19 @@ use Rattle.river.proofs.bytes.Puts.{chain, put-none}
 use Rattle.river.proofs.put.put_nitrification.Statement.{statement}
 use Rattle.river.proofs.put.put_nitrification.Tie as tie
 
+-- the place where the nitrification was known, seen from the runs of bytes
+abbrev known-pair : tie.After-put-pair-arg → tie.After-nitrification
+known-pair c = c .before .before
+
+abbrev known-narrow : tie.After-put-narrow-arg → tie.After-nitrification
+known-narrow c = known-pair (c .before .before .before .before)
+
+abbrev known-four : tie.After-put-four-arg → tie.After-nitrification
+known-four c = known-narrow (c .before .before .before .before)
+
+abbrev known-four2 : tie.After-put-four-arg2 → tie.After-nitrification
+known-four2 c = known-four (c .before .before .before .before)
+
 returns : tie.Need-returns
 returns c = rw (c .enum-told .given .1) (put-none _ _)
 
@@ -17,19 +30,19 @@ room : (c : tie.After-nitrification) → let a = c .before .before .before .args
 room c = rw (c .nitrification .given .1) at (c .before .before .before .pre)
 
 put-pair-requires : tie.Need-put-pair-requires
-put-pair-requires c κs = omega (arith, room (c .before .before))
+put-pair-requires c κs = omega (arith, room (known-pair c))
 
 put-narrow-requires : tie.Need-put-narrow-requires
-put-narrow-requires c κs = omega (arith, room (c .before .before .before .before .before .before))
+put-narrow-requires c κs = omega (arith, room (known-narrow c))
 
 put-four-requires : tie.Need-put-four-requires
-put-four-requires c κs = omega (arith, room (c .before .before .before .before .before .before .before .before .before .before))
+put-four-requires c κs = omega (arith, room (known-four c))
 
 put-four-requires-2 : tie.Need-put-four-requires-2
-put-four-requires-2 c κs = omega (arith, room (c .before .before .before .before .before .before .before .before .before .before .before .before .before .before))
+put-four-requires-2 c κs = omega (arith, room (known-four2 c))
 
 put-four-requires-3 : tie.Need-put-four-requires-3
-put-four-requires-3 c κs = omega (arith, room (c .before .before .before .before .before .before .before .before .before .before .before .before .before .before .before .before .before .before))
+put-four-requires-3 c κs = omega (arith, room (known-four2 (c .before .before .before .before)))
 
 returns-2 : tie.Need-returns-2
 returns-2 c =
@@ -38,7 +51,7 @@ returns-2 c =
     let d = e .before .before .before .before in
     let b = d .before .before .before .before in
     let a = b .before .before .before .before in
-    rw (a .before .before .before .nitrification .given .1) (chain (chain (chain (chain (a .put-pair .ensures) (b .put-narrow .ensures)) (d .put-four .ensures)) (e .put-four2 .ensures)) (f .put-four3 .ensures))
+    rw (known-pair (a .before) .nitrification .given .1) (chain (chain (chain (chain (a .put-pair .ensures) (b .put-narrow .ensures)) (d .put-four .ensures)) (e .put-four2 .ensures)) (f .put-four3 .ensures))
 
 pub put-nitrification-spec : {M : Type 1} → statement M
 put-nitrification-spec =

@@ -13,6 +13,13 @@ use Rattle.river.proofs.read.Steps.{refuses}
 use Rattle.river.proofs.read.read_card.Statement.{statement}
 use Rattle.river.proofs.read.read_card.Tie as tie
 
+-- the places where the records were read, and where they were accepted
+abbrev read-at : tie.After-enum-told → tie.After-read-optionals
+read-at c = c .before .before
+
+abbrev told-at : tie.After-with-optionals → tie.After-enum-told
+told-at c = c .before .before
+
 returns : tie.Need-returns
 returns c =
     let told = c .before in
@@ -23,14 +30,14 @@ returns c =
 add-next : tie.Need-add-next
 add-next c =
     let put = c .before in
-    let start = put .before .before .before .before .before .before in
+    let start = read-at (told-at put) .before .before in
     omega (arith, start .pre, c .size-of .ensures, size-small (put .with-optionals .result))
 
 returns-2 : tie.Need-returns-2
 returns-2 c =
     let put = c .before in
-    let told = put .before .before in
-    let read = told .before .before in
+    let told = told-at put in
+    let read = read-at told in
     let r = read .read-optionals .result in
     let is = told .enum-told .given .1 in
     record {

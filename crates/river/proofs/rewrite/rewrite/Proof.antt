@@ -9,6 +9,19 @@ use Rattle.river.proofs.RoundTrip.{endOf, refused-back, written-back}
 use Rattle.river.proofs.rewrite.rewrite.Statement.{statement}
 use Rattle.river.proofs.rewrite.rewrite.Tie as tie
 
+-- the start, and the places where the file was accepted, where it was read and where it was written
+abbrev start-at : tie.After-read-file → tie.Start
+start-at c = c .before .before .before
+
+abbrev told-at : tie.After-write-first-arg → tie.After-enum-told
+told-at c = c .before .before .before .before
+
+abbrev read-at : tie.After-write-first-arg → tie.After-read-file
+read-at c = told-at c .before .before
+
+abbrev written-at : tie.After-slice-known2 → tie.After-write-first
+written-at c = c .before .before
+
 bytes : (c : tie.After-shared-slice-known) → AreBytes (c .before .args .file .now)
 bytes c = record { below = λ k. c .shared-slice-known .given k .fits }
 
@@ -18,16 +31,16 @@ returns c =
     refused-back (bytes (a .before .before)) (a .read-file .ensures) (c .enum-told2 .given .1)
 
 -- what was read is written
-written : (c : tie.After-write-first) {o : Outcome} → endOf (c .write-first .result) ≡ o → WritesBack (c .before .before .before .before .before .before .before .before .before .before .args .file .now) (c .before .before .before .before .before .before .before .before .before .before .args .out .now) o (c .write-first .last .1 .1 .1 .0)
+written : (c : tie.After-write-first) {o : Outcome} → endOf (c .write-first .result) ≡ o → WritesBack (start-at (read-at (c .before)) .args .file .now) (start-at (read-at (c .before)) .args .out .now) o (c .write-first .last .1 .1 .1 .0)
 written c e =
-    let a = c .before .before .before .before .before .before .before in
-    written-back (bytes (a .before .before)) (a .read-file .ensures) (c .before .before .before .before .before .enum-told .given .1) (c .write-first .ensures) e
+    let a = read-at (c .before) in
+    written-back (bytes (a .before .before)) (a .read-file .ensures) (told-at (c .before) .enum-told .given .1) (c .write-first .ensures) e
 
 returns-2 : tie.Need-returns-2
-returns-2 c = written (c .before .before .before .before) (ap endOf (c .enum-told3 .given .1))
+returns-2 c = written (written-at (c .before .before)) (ap endOf (c .enum-told3 .given .1))
 
 returns-3 : tie.Need-returns-3
-returns-3 c = written (c .before .before .before .before .before) (ap endOf (c .before .r .given .1))
+returns-3 c = written (written-at (c .before .before .before)) (ap endOf (c .before .r .given .1))
 
 pub rewrite-spec : {M : Type 1} → statement M
 rewrite-spec =

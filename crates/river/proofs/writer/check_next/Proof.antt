@@ -14,29 +14,33 @@ use borrow.Author.Needs.{needs}
 use Rattle.river.proofs.writer.check_next.Statement.{statement}
 use Rattle.river.proofs.writer.check_next.Tie as tie
 
+-- the place where the card was checked
+abbrev called-at : tie.After-struct-known → tie.After-check-card
+called-at c = c .before .before .before .before
+
 abbrev made : Checking → ℕ → Checking
 made s k = record { check = Outcome.Accepted; due = s .due; passed = s .passed + 1; length = s .length + k; factors = s .factors }
 
 add-t15 : tie.Need-add-t15
 add-t15 c =
-    let start = c .before .before .before .before .before in
+    let start = called-at c .before in
     omega (arith, start .pre, c .before .size-of .ensures, size-small (start .args .c))
 
 returns : tie.Need-returns
 returns c =
-    let start = c .before .before .before .before .before in
+    let called = c .before .before .before .before in
+    let start = called .before in
     let s = start .args .s in
     let d = start .args .c in
-    let called = c .before .before .before .before in
     let is = refused-check (checkCard (s .due) (s .passed + 1) d) (sym (called .check-card .ensures) ∙ c .before .before .r .given .1) in
     c .stopped .ensures ∙ ap (λ (x : Answer Unit). nextChecking x s d) (sym is)
 
 returns-2 : tie.Need-returns-2
 returns-2 c =
-    let start = c .before .before .before .before .before in
+    let called = called-at c in
+    let start = called .before in
     let s = start .args .s in
     let d = start .args .c in
-    let called = c .before .before .before .before in
     let is = passed-check (checkCard (s .due) (s .passed + 1) d) (sym (called .check-card .ensures) ∙ c .before .before .enum-told .given .1) in
     ap (made s) (c .before .size-of .ensures) ∙ ap (λ (x : Answer Unit). nextChecking x s d) (sym is)
 

@@ -10,6 +10,10 @@ use borrow.Author.Needs.{needs}
 use Rattle.river.proofs.writer.put_start.Statement.{statement}
 use Rattle.river.proofs.writer.put_start.Tie as tie
 
+-- the place where the buffer was long enough
+abbrev enough-at : tie.After-slice-known2 → tie.Else1
+enough-at c = c .before .before .before .before
+
 not-both : {P : Type 0} {k : Outcome} {r : Refusal} → k ≡ Outcome.Accepted → k ≡ Outcome.Refused r → P
 not-both e f = clash (cc)
 
@@ -37,11 +41,11 @@ returns-2 c =
 
 returns-3 : tie.Need-returns-3
 returns-3 c =
-    let told = c .before .before .before .before .before in
+    let told = enough-at c .before in
     record {
       none = refl;
       stops = λ e. not-both (told .enum-told .given .1) e;
-      short = λ e l. absurd (let z : ⊥ = omega (arith, c .before .before .before .before .if1 .left) in z);
+      short = λ e l. absurd (let z : ⊥ = omega (arith, enough-at c .if1 .left) in z);
       begins = λ e l. record { answer = refl; due = refl; opening = c .before .before .put-opening .ensures };
     }
 

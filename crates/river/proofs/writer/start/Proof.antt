@@ -8,6 +8,10 @@ use Rattle.river.proofs.write.Passes.{opening-small}
 use Rattle.river.proofs.writer.start.Statement.{statement}
 use Rattle.river.proofs.writer.start.Tie as tie
 
+-- the start, seen from where the count is in range
+abbrev start-at : tie.Else1 → tie.Start
+start-at c = c .before .before
+
 returns : tie.Need-returns
 unfolding need
 returns c =
@@ -22,7 +26,7 @@ returns-2 c =
     rw (c .stopped2 .ensures, c .before .refuse2 .ensures, ← n .before .count-ok .ensures, not-false (n .before .count-ok .result) (n .if1 .left), ← f .before .factors-in-range .ensures, not-true (f .before .factors-in-range .result) (f .if2 .taken))
 
 add-t9 : tie.Need-add-t9
-add-t9 c = omega (arith, c .factors-size .ensures, opening-small (c .before .before .before .before .before .args .factors))
+add-t9 c = omega (arith, c .factors-size .ensures, opening-small (start-at (c .before .before .before) .args .factors))
 
 returns-3 : tie.Need-returns-3
 unfolding need
