@@ -32,7 +32,7 @@ ghost use Rattle.report.specs.held.MeanLines.{AveragedBy, AllAveraged, s
 pub const MEAN_SIZE: usize = 4;
 
 // What the foot of a reach brings, and beside it the stored mean oxygen of the reach as it is reported.
-pub struct Averaged {
+pub struct ReachMean {
     pub foot: Brought,
     pub mean: u32,
 }
@@ -52,14 +52,14 @@ pub struct RiverMean {
 }
 
 // What the foot of a reach brings, and its mean, from its card, its flows, and what its feeders bring.
-pub fn average_reach(card: Card, reach: ReachFlows, brought: Brought) -> Averaged
+pub fn average_reach(card: Card, reach: ReachFlows, brought: Brought) -> ReachMean
     requires { ⌜ LineAt card reach brought ⌝ }
     ensures { λ r. ⌜ AveragedBy card reach brought r ⌝ }
 {
     let head = lines::head_at(card, reach, brought);
     let p = along::along_of(card, reach.flow, head);
     let used = along::is_used_up(card, reach.flow, reach.depth, head, p, brought.used);
-    Averaged {
+    ReachMean {
         foot: head::foot_of(
             reach.flow,
             p.foot_bod,

@@ -47,44 +47,44 @@ use crate::range::outlet_ok;
 use crate::refusal::Outcome;
 use crate::refusal::refuse;
 
-// What reading the header answers: the reach count, 0 beside a refusal.
+// What reading the header answers: the reach count where it is accepted.
 pub struct HeaderRead {
     pub outcome: Outcome,
     pub count: u8,
 }
 
-// What reading the rate factors answers: none beside a refusal.
+// What reading the rate factors answers: the factors where they are accepted.
 pub struct FactorsRead {
     pub outcome: Outcome,
     pub factors: RateFactors,
 }
 
-// What reading a dam answers: none beside a refusal.
+// What reading a dam answers: the dam where it is accepted.
 pub struct DamRead {
     pub outcome: Outcome,
     pub dam: Dam,
 }
 
-// What reading an amount answers: none beside a refusal.
+// What reading an amount answers: the amount where it is accepted.
 pub struct AmountRead {
     pub outcome: Outcome,
     pub amount: Amount,
 }
 
-// What reading a nitrification answers: none beside a refusal.
+// What reading a nitrification answers: the nitrification where it is accepted.
 pub struct NitrificationRead {
     pub outcome: Outcome,
     pub nitrification: Nitrification,
 }
 
-// What reading the records behind an `RE` record answers: a dam and optional fields, those that come before it beside a refusal.
+// What reading the records behind an `RE` record answers: a dam and optional fields where they are accepted.
 pub struct OptionalsRead {
     pub outcome: Outcome,
     pub dam: Dam,
     pub optionals: Optionals,
 }
 
-// What reading a reach answers: its card and the next position, a blank card and 0 beside a refusal.
+// What reading a reach answers: its card and the next position where it is accepted.
 pub struct ReachRead {
     pub outcome: Outcome,
     pub card: Card,

@@ -22,7 +22,7 @@ use Rattle.report.specs.held.Along.{AlongBelow}
 use Rattle.report.specs.held.MeanLines.{ReachAveraged}
 use Rattle.report.specs.held.Lines.{footBy, LineAt, HeadOfReach}
 use Rattle.report.specs.declared.along.ReachAlong.{ReachAlong}
-use Rattle.report.specs.declared.mean.Averaged.{Averaged}
+use Rattle.report.specs.declared.mean.ReachMean.{ReachMean}
 use Rattle.report.proofs.River.{falls}
 use Rattle.report.proofs.lines.Feet.{stored-of, is-river, flow-here, used-here, figures-here}
 
@@ -55,7 +55,7 @@ module _ {card : Card} {reach : ReachFlows} {brought : Brought} (p : LineAt card
 
   -- what is handed on, with the mean as it is reported
   pub reach-averaged :
-      {along : ReachAlong} {used : Bool} {r : Averaged} →
+      {along : ReachAlong} {used : Bool} {r : ReachMean} →
       AlongOf (p .cards) (p .i) along →
       used ≡ isUsed (figuresBelow (brought .used) card (reach .depth) (reach .flow) (h .bod) (h .nitrogenous) (oxygenOf (h .oxygen)) .status) →
       r .foot ≡ footOf (reach .flow) (along .«foot_bod») (along .«foot_nitrogenous») (along .«foot_oxygen») used →

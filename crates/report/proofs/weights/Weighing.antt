@@ -1,4 +1,5 @@
 -- The means weighed in two sums: each has room, and their quotient by long division is that of the sum that they make together, also below zero.
+-- The rows of means are named here so that they are checked before the laws: a wrong weight or remainder is refused by them.
 -- Assumes nothing.
 use mathlib.Core.Path.{_≡_, refl, sym, ap, ap₂, _∙_}
 use mathlib.Core.List.{List}
@@ -13,6 +14,7 @@ use Rattle.flows.specs.Head.{floor}
 use Rattle.flows.specs.held.Stored.{storedZero, storedLimit, oxygenOf, oxygenSumOf}
 use Rattle.flows.proofs.flow.Table.{entered}
 use Rattle.flows.proofs.head.Offset.{sub-pos, sub-neg, minus, sub-add, times-sub, floor-offset}
+use Rattle.report.proofs.mean.Rows
 use Rattle.report.specs.Mean.{restOf, dividedBy}
 use Rattle.report.specs.held.Weights.{chunk, volumeLimit, weighedWith, wholeSum}
 use Rattle.report.specs.declared.weights.Weights.{Weights}

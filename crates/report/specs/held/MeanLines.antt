@@ -12,17 +12,17 @@ use Rattle.report.specs.Record.{complement}
 use Rattle.report.specs.held.Lines.{LineAt, FootOf}
 use Rattle.report.specs.Mean.{meanAt, countedVolumeAt, volumeSum, weightedSum}
 use Rattle.report.specs.held.Weights.{wholeSum, volumeLimit, sumLimit}
-use Rattle.report.specs.declared.mean.Averaged.{Averaged}
+use Rattle.report.specs.declared.mean.ReachMean.{ReachMean}
 use Rattle.report.specs.declared.mean.MeanTable.{MeanTable}
 use Rattle.report.specs.declared.weights.Weights.{Weights}
 
 -- what reach i + 1 hands on, and its mean as it is reported
-pub record ReachAveraged (cards : List Card) (i : ℕ) (r : Averaged) : Type 0 where
+pub record ReachAveraged (cards : List Card) (i : ℕ) (r : ReachMean) : Type 0 where
   pub foot : FootOf cards i (r .foot)
   pub mean : oxygenOf (r .mean) ≡ meanAt cards (suc i)
 
 -- for every river that the card, the flows and what is brought may be of
-abbrev pub AveragedBy : Card → ReachFlows → Brought → Averaged → Type 0
+abbrev pub AveragedBy : Card → ReachFlows → Brought → ReachMean → Type 0
 AveragedBy card reach brought r = (here : LineAt card reach brought) → ReachAveraged (here .cards) (here .i) r
 
 -- the sums of the first n reaches stand for the sum of volume × mean, with the volume that counts, and a mean of these fits four bytes

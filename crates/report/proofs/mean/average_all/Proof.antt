@@ -22,7 +22,7 @@ use Rattle.report.specs.Program.{usedAbove}
 use Rattle.report.specs.Mean.{countedVolumeAt}
 use Rattle.report.specs.held.Weights.{volumeLimit, weighedWith, RoomToWeigh}
 use Rattle.report.specs.held.MeanLines.{Weighs, MeansTabled, ReachAveraged}
-use Rattle.report.specs.declared.mean.Averaged.{Averaged}
+use Rattle.report.specs.declared.mean.ReachMean.{ReachMean}
 use Rattle.report.specs.declared.weights.Weights.{Weights}
 use Rattle.report.proofs.Forest.{reach-accepted}
 use Rattle.report.proofs.lines.Reaches.{Reaches, none-yet, all-reaches, here, few, card-handed, brought-asked, handed, used-handed, handed-on}
@@ -75,7 +75,7 @@ module _ {cs : Cards} {flows : FlowTable} {count : ℕ} {feet : FootTable} {mean
         }
 
     one-more :
-        {r : Averaged} {w : Weights} →
+        {r : ReachMean} {w : Weights} →
         ReachAveraged (cardList cs) i r →
         r .mean ≤ storedLimit →
         w ≡ weighedWith weights volume (r .mean) →
