@@ -43,7 +43,7 @@ def terms_of(y, z):
 
 
 def counts(card):
-    """How many terms the series of BOD lost, BOD used and deficit filled have in a step of a reach."""
+    """How many terms the series of BOD lost, BOD spent and deficit filled have in a step of a reach."""
     y, z = (k * card.volume * ONE // (86_400 * 1_024 * card.inflow) for k in (card.k1, card.k2))
     return [terms_of(y, 0), terms_of(y, z), terms_of(z, 0)]
 
