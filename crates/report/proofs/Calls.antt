@@ -1,4 +1,5 @@
 -- What every call on a river file promises follows from its answer, what it leaves behind and when it is accepted: 0 is no refusal's result.
+-- The rows of calls are named here so that they are checked first.
 -- Assumes nothing.
 pub mod Numbers
 use mathlib.Core.Path.{_≡_, refl, sym, ap, ap₂, _∙_}
@@ -11,6 +12,7 @@ use Rattle.river.specs.Refusal.{Answer, accepted, refused, outcomeOf, after as 
 use Rattle.river.proofs.Answers.{never, after-accepted, after-refused}
 use Rattle.report.specs.held.Answers.{resultBy, Answers}
 use Rattle.report.specs.Call.{resultOf, leftBy, Called}
+use Rattle.report.proofs.CallRows
 use Rattle.report.proofs.Calls.Numbers.{Numbered, read-refusal}
 
 -- an answer is accepted

@@ -3,6 +3,7 @@ pub mod Forest
 pub mod Facts
 pub mod Statuses
 pub mod Distances
+pub mod CallRows
 pub mod NitrificationRows
 pub mod Lowest
 pub mod Ties
