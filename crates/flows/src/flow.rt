@@ -258,12 +258,12 @@ fn check(card: Card, up: Upstream, flow: u64, mass: u64, reach: u8) -> Outcome
     let Outcome::Accepted = ranges else {
         return ranges;
     };
-    let left = flow - take;
-    let rates = rate_rules(card, left, reach);
+    let remaining = flow - take;
+    let rates = rate_rules(card, remaining, reach);
     let Outcome::Accepted = rates else {
         return rates;
     };
-    bed_rule(card, left, reach)
+    bed_rule(card, remaining, reach)
 }
 
 // The undecayed BOD, of both demands, that a reach itself takes in.
@@ -279,9 +279,9 @@ fn remaining_mass(take: u64, flow: u64, mass: u64) -> u64
     requires { ⌜ (take < flow) × (flow ≤ flowLimit) ⌝ }
     ensures { λ r. ⌜ r ≡ remainingMass take flow mass ⌝ }
 {
-    let left = mass - take * (mass / flow);
+    let remaining = mass - take * (mass / flow);
     let most = MASS_LIMIT * (flow - take);
-    if most < left { most } else { left }
+    if most < remaining { most } else { remaining }
 }
 
 // The check of reach i + 1, which has this card, by what flows into it. What passes is told as it is after its take.
@@ -302,13 +302,13 @@ fn check_next(card: Card, up: Upstream, i: usize) -> ReachChecked
         };
     };
     let take = take_of(card);
-    let left = flow - take;
+    let remaining = flow - take;
     let mass = remaining_mass(take, flow, mass);
     let depth = up.deepest + 1;
     ReachChecked {
         outcome,
         upstream: up.flow as u32,
-        flow: left as u32,
+        flow: remaining as u32,
         mass,
         depth,
     }

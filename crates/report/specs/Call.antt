@@ -18,7 +18,7 @@ leftBy write (accepted a) before = write a before
 leftBy write (refused r) before = before
 
 -- the answer is accepted, and what was lent is written
-pub record Writes {A Lent : Type 0} (answer : Answer A) (write : A → Lent → Lent) (before after : Lent) : Type 0 where
+pub record IsWritten {A Lent : Type 0} (answer : Answer A) (write : A → Lent → Lent) (before after : Lent) : Type 0 where
   pub value : A
   pub is : answer ≡ accepted value
   pub written : after ≡ write value before
@@ -34,7 +34,7 @@ pub record Called {A Lent : Type 0} (answer : Answer A) (write : A → Lent → 
   -- all that was lent, by the answer
   pub leaves : after ≡ leftBy write answer before
   -- in short: a call that returns 0 writes it, and a refused call writes nothing
-  pub writes : result ≡ 0 → Writes answer write before after
+  pub writes : result ≡ 0 → IsWritten answer write before after
   pub untouched : (result ≡ 0 → ⊥) → after ≡ before
 
 -- a file is accepted exactly if it is the file of a lawful river whose cards, with the rates in force, pass the flow rules

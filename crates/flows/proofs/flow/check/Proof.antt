@@ -68,8 +68,8 @@ returns-4 c =
     let range = c .before .before in
     after-take (range .before) (stops (range .range-rule .ensures) _ (c .enum-told8 .given .1))
 
-sub-left : tie.Need-sub-left
-sub-left c =
+sub-remaining : tie.Need-sub-remaining
+sub-remaining c =
     let take = c .before .before .before in
     omega (arith, decided (take .before .before .take-rule .ensures) (take-rule-asks _ _ _) (take .enum-told5 .given .1))
 
@@ -123,7 +123,7 @@ check-spec =
     (λ enum-told-7. search needs)
     (λ enum-told-8. search needs)
     returns-4
-    sub-left
+    sub-remaining
     rate-rules-requires
     (λ enum-told-9. search needs)
     (λ enum-told-10. search needs)

@@ -55,8 +55,8 @@ remaining-mass-requires c κs =
     let passed = decided (check-at c .check .ensures) (checks-ask _ _ _ _ _ _) (c .before .enum-told .given .1) in
     (rw (c .take-of .ensures) (passed .1 .1 .0), passed .0 .1 .0)
 
-sub-left : tie.Need-sub-left
-sub-left c = le-of-lt (remaining-mass-requires c tt .0)
+sub-remaining : tie.Need-sub-remaining
+sub-remaining c = le-of-lt (remaining-mass-requires c tt .0)
 
 add-depth : tie.Need-add-depth
 add-depth c =
@@ -93,7 +93,7 @@ check-next-spec =
     (λ enum-told-2. search needs)
     returns
     (λ take-of-requires. search needs)
-    sub-left
+    sub-remaining
     remaining-mass-requires
     add-depth
     cast-t14

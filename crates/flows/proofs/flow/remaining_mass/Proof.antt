@@ -12,14 +12,14 @@ drawn s =
     let k : a .take ≤ a .flow = omega (arith, s .pre .0) in
     omega (arith, mul-div-le (a .mass) (a .flow), mul-le-mul-right (a .mass / a .flow) k)
 
-div-left : tie.Need-div-left
-div-left c = omega (arith, c .pre .0)
+div-remaining : tie.Need-div-remaining
+div-remaining c = omega (arith, c .pre .0)
 
-mul-left : tie.Need-mul-left
-mul-left c = omega (arith, drawn c)
+mul-remaining : tie.Need-mul-remaining
+mul-remaining c = omega (arith, drawn c)
 
-sub-left : tie.Need-sub-left
-sub-left c = drawn c
+sub-remaining : tie.Need-sub-remaining
+sub-remaining c = drawn c
 
 sub-most : tie.Need-sub-most
 sub-most c = omega (arith, c .pre .0)
@@ -34,4 +34,4 @@ returns-2 : tie.Need-returns-2
 returns-2 c = omega arith
 
 pub remaining-mass-spec : {M : Type 1} → statement M
-remaining-mass-spec = tie.close (tie.spec div-left mul-left sub-left sub-most mul-most returns returns-2)
+remaining-mass-spec = tie.close (tie.spec div-remaining mul-remaining sub-remaining sub-most mul-most returns returns-2)
