@@ -12,19 +12,19 @@ abbrev μ-loop : tie.MeasureT-loop
 μ-loop bundle at₀ end₀ at end = length bundle - at
 
 case-end-requires : tie.Need-case-end-requires Inv-loop μ-loop
-case-end-requires c κs = omega arith
+case-end-requires c κs = tt
 
 loop-holds : tie.Need-loop-holds Inv-loop μ-loop
 loop-holds c = omega arith
 
 case-in-requires : tie.Need-case-in-requires Inv-loop μ-loop
-case-in-requires c κs = omega arith
+case-in-requires c κs = tt
 
 show-case-requires : tie.Need-show-case-requires Inv-loop μ-loop
 show-case-requires c κs = tt
 
 case-end-requires-2 : tie.Need-case-end-requires-2 Inv-loop μ-loop
-case-end-requires-2 c κs = omega arith
+case-end-requires-2 c κs = tt
 
 loop-again : tie.Need-loop-again Inv-loop μ-loop
 loop-again c = omega arith
