@@ -93,23 +93,15 @@ fn corrected(decay: u16, aeration: u16, card: Card) -> Card
     requires { ⌜ Within rateFactor decay × Within rateFactor aeration × CorrectableCard card ⌝ }
     ensures { λ r. ⌜ r ≡ cardInForce (PerDegree decay aeration) card ⌝ }
 {
-    let dam = card.dam;
     let optionals = card.optionals;
     let nitrification = optionals.nitrification;
     let nitrification = corrected_nitrification(decay, card.temperature, nitrification);
     let optionals = with_nitrification(nitrification, optionals);
     Card {
-        outlet: card.outlet,
-        temperature: card.temperature,
         k1: corrected_rate(decay, card.temperature, card.k1),
         k2: corrected_rate(aeration, card.temperature, card.k2),
-        volume: card.volume,
-        inflow: card.inflow,
-        inflow_bod: card.inflow_bod,
-        inflow_oxygen: card.inflow_oxygen,
-        load: card.load,
-        dam,
         optionals,
+        ..card
     }
 }
 

@@ -18,7 +18,7 @@ use Rattle.river.specs.declared.source.Demand.the-variants.{Nitrogenous}
 use Rattle.river.specs.Bytes.{Mark, mark}
 use Rattle.river.specs.Described.{InRange}
 use Rattle.river.specs.Records.{DM, damRecord, takeRecord, pressureRecord, sludgeRecord, rateMost, NT, nitrificationRecord}
-use Rattle.river.specs.Optional.{Kind, Values, AllInRange, absent, encodeOptionals, sizes}
+use Rattle.river.specs.Optional.{Kind, Values, Fielded, AllInRange, absent, encodeOptionals, sizes}
 use Rattle.river.specs.Source.{rateOf}
 
 -- the cards of a `Cards` value: its first `count`; reach i is element i - 1
@@ -30,15 +30,23 @@ abbrev pub amountOr : ℕ → Amount → ℕ
 amountOr none Amount.Absent = none
 amountOr none (Given n) = n
 
--- the records of a card's optional fields, in file order, and what these fields hold of them
+-- a card's optional fields: their records in file order, and both ways between the fields and what is held of these
+abbrev pub fields : Fielded Optionals
+fields =
+    record {
+      records = takeRecord ∷ pressureRecord ∷ sludgeRecord ∷ nitrificationRecord ∷ [];
+      values = λ o. (o .take, (o .pressure, (o .sludge, (o .nitrification, tt))));
+      make = λ vs. record { take = vs .0; pressure = vs .1 .0; sludge = vs .1 .1 .0; nitrification = vs .1 .1 .1 .0 };
+    }
+
 abbrev pub fieldRecords : List Kind
-fieldRecords = takeRecord ∷ pressureRecord ∷ sludgeRecord ∷ nitrificationRecord ∷ []
+fieldRecords = fields .records
 
 abbrev pub fieldsOf : Optionals → Values fieldRecords
-fieldsOf o = (o .take, (o .pressure, (o .sludge, (o .nitrification, tt))))
+fieldsOf = fields .values
 
 abbrev pub optionalsOf : Values fieldRecords → Optionals
-optionalsOf vs = record { take = vs .0; pressure = vs .1 .0; sludge = vs .1 .1 .0; nitrification = vs .1 .1 .1 .0 }
+optionalsOf = fields .make
 
 -- none of a card's optional fields
 abbrev pub noOptionals : Optionals
@@ -56,23 +64,6 @@ withSludge sludge o = let vs = fieldsOf o in optionalsOf (vs .0, (vs .1 .0, (slu
 
 abbrev pub withNitrification : Nitrification → Optionals → Optionals
 withNitrification nitrification o = let vs = fieldsOf o in optionalsOf (vs .0, (vs .1 .0, (vs .1 .1 .0, (nitrification, vs .1 .1 .1 .1))))
-
--- a card with another dam and other optional fields
-abbrev pub withOptionals : Dam → Optionals → Card → Card
-withOptionals dam optionals c =
-    record {
-      outlet = c .outlet;
-      temperature = c .temperature;
-      k1 = c .k1;
-      k2 = c .k2;
-      volume = c .volume;
-      inflow = c .inflow;
-      «inflow_bod» = c .«inflow_bod»;
-      «inflow_oxygen» = c .«inflow_oxygen»;
-      load = c .load;
-      dam = dam;
-      optionals = optionals;
-    }
 
 -- the card that stands for a reach beyond the last one
 abbrev pub blank : Card
@@ -194,10 +185,6 @@ valuesOf dam o = (dam, fieldsOf o)
 
 abbrev pub optionalOf : Card → Values optional
 optionalOf c = valuesOf (c .dam) (c .optionals)
-
--- a card with what is read
-abbrev pub withValues : Values optional → Card → Card
-withValues vs c = withOptionals (vs .0) (optionalsOf (vs .1)) c
 
 -- the length of a card's records, and that of the longest card's
 abbrev pub sizeOf : Card → ℕ

@@ -35,6 +35,12 @@ abbrev pub Values : List Kind → Type 0
 Values [] = Unit
 Values (k ∷ ks) = k .Value × Values ks
 
+-- a type whose fields are what is held of some records: their kinds in file order, and both ways between a value of it and theirs
+pub record Fielded (A : Type 0) : Type 1 where
+  pub records : List Kind
+  pub values : A → Values records
+  pub make : Values records → A
+
 -- none of the records
 abbrev pub absent : (ks : List Kind) → Values ks
 absent [] = tt

@@ -1,8 +1,8 @@
 // The cards of a river, and its rate factors.
 ghost use mathlib.Core.Path.{_≡_};
 ghost use lib.ListN.{length};
-ghost use Rattle.river.specs.Card.{noOptionals, withNitrification, withOptionals, blank, amountOr, sizeOf};
-ghost use Rattle.river.specs.Records.{damRecord, nitrificationRecord, factorsRecord};
+ghost use Rattle.river.specs.Card.{withNitrification, amountOr};
+ghost use Rattle.river.specs.Records.{factorsRecord};
 ghost use Rattle.river.specs.held.Layouts.{amountRecord};
 ghost use Rattle.river.specs.River.{longestFile};
 
@@ -141,96 +141,13 @@ pub struct Cards {
     pub count: u8,
 }
 
-// None of a card's optional fields.
-pub fn no_optionals() -> Optionals
-    ensures { λ r. ⌜ r ≡ noOptionals ⌝ }
-{
-    Optionals {
-        take: Amount::Absent,
-        pressure: Amount::Absent,
-        sludge: Amount::Absent,
-        nitrification: Nitrification::Absent,
-    }
-}
-
 // Optional fields with another nitrification.
 pub fn with_nitrification(nitrification: Nitrification, optionals: Optionals) -> Optionals
     ensures { λ r. ⌜ r ≡ withNitrification nitrification optionals ⌝ }
 {
-    let take = optionals.take;
-    let pressure = optionals.pressure;
-    let sludge = optionals.sludge;
     Optionals {
-        take,
-        pressure,
-        sludge,
         nitrification,
-    }
-}
-
-// A card with another dam and other optional fields.
-pub fn with_optionals(dam: Dam, optionals: Optionals, card: Card) -> Card
-    ensures { λ r. ⌜ r ≡ withOptionals dam optionals card ⌝ }
-{
-    Card {
-        outlet: card.outlet,
-        temperature: card.temperature,
-        k1: card.k1,
-        k2: card.k2,
-        volume: card.volume,
-        inflow: card.inflow,
-        inflow_bod: card.inflow_bod,
-        inflow_oxygen: card.inflow_oxygen,
-        load: card.load,
-        dam,
-        optionals,
-    }
-}
-
-// A card of zeros.
-pub fn blank() -> Card
-    ensures { λ r. ⌜ r ≡ blank ⌝ }
-{
-    let optionals = no_optionals();
-    Card {
-        outlet: 0,
-        temperature: 0,
-        k1: 0,
-        k2: 0,
-        volume: 0,
-        inflow: 0,
-        inflow_bod: 0,
-        inflow_oxygen: 0,
-        load: 0,
-        dam: Dam::Absent,
-        optionals,
-    }
-}
-
-// The length of a dam's record, if there is one.
-pub fn dam_size(dam: Dam) -> usize
-    ensures { λ r. ⌜ r ≡ length (damRecord .encode dam) ⌝ }
-{
-    match dam {
-        Dam::Absent => 0,
-        Dam::Aerating {
-            share: _,
-            generating: _,
-        } => DAM_BYTES,
-    }
-}
-
-// The length of a nitrification's record, if there is one.
-pub(crate) fn nitrification_size(nitrification: Nitrification) -> usize
-    ensures { λ r. ⌜ r ≡ length (nitrificationRecord .encode nitrification) ⌝ }
-{
-    match nitrification {
-        Nitrification::Absent => 0,
-        Nitrification::Nitrifying {
-            rate: _,
-            concentration: _,
-            load: _,
-        } => NITRIFICATION_BYTES,
+        ..optionals
     }
 }
 
@@ -268,37 +185,9 @@ pub fn amount_or(none: u32, amount: Amount) -> u32
     }
 }
 
-// The length of an amount's record, if there is one.
-pub(crate) fn amount_size(layout: Layout, amount: Amount) -> usize
-    ensures { λ r. ⌜ r ≡ length (amountRecord layout .encode amount) ⌝ }
-{
-    match amount {
-        Amount::Absent => 0,
-        Amount::Given(_) => layout_size(layout),
-    }
-}
-
 // The length of the longest file.
 pub fn longest_file() -> usize
     ensures { λ r. ⌜ r ≡ longestFile ⌝ }
 {
     LONGEST_FILE
-}
-
-// The length of a card's records.
-pub fn size_of(c: Card) -> usize
-    ensures { λ r. ⌜ r ≡ sizeOf c ⌝ }
-{
-    let dam = c.dam;
-    let optionals = c.optionals;
-    let take = optionals.take;
-    let pressure = optionals.pressure;
-    let sludge = optionals.sludge;
-    let nitrification = optionals.nitrification;
-    REACH_BYTES
-        + dam_size(dam)
-        + amount_size(TAKE, take)
-        + amount_size(PRESSURE, pressure)
-        + amount_size(SLUDGE, sludge)
-        + nitrification_size(nitrification)
 }

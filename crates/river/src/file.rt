@@ -5,7 +5,7 @@ ghost use Rattle.river.specs.File.{Yields, Reads};
 use crate::card::Cards;
 use crate::card::REACHES;
 use crate::card::RateFactors;
-use crate::card::blank;
+use crate::read::blank;
 use crate::reader::Progress;
 use crate::reader::begin;
 use crate::reader::read_cards;

@@ -1,12 +1,16 @@
 // Records put into a buffer.
 ghost use Prim.Native.Nat.{_+_, _≤_};
+ghost use mathlib.Core.Path.{_≡_};
+ghost use mathlib.Core.Bool.{_&&_};
 ghost use mathlib.Core.List.{_∷_, _++_};
 ghost use lib.ListN.{length};
 ghost use Rattle.river.specs.Bytes.{Put, markBytes, twoBytes, narrowBytes, fourBytes};
 ghost use Rattle.river.specs.Card.{RE, headerBytes, reachBytes, optional, optionalOf, sizeOf};
-ghost use Rattle.river.specs.Optional.{encodeOptionals};
+ghost use Rattle.river.specs.Optional.{encodeOptionals, optionalsInRange};
+ghost use Rattle.river.specs.Fields.{bytesOf, numberBytes};
 ghost use Rattle.river.specs.Records.{damRecord, nitrificationRecord, factorsRecord};
-ghost use Rattle.river.specs.held.Layouts.{amountRecord};
+ghost use Rattle.river.specs.held.Layouts.{widthOf, amountRecord};
+ghost use Rattle.river.specs.held.Optionals.{Spells, SpellsOptionals, Measured};
 ghost use Rattle.river.specs.River.{openingSize};
 ghost use Rattle.river.specs.Write.{encodeReach, encodeCard, encodeHeader, encodeOpening};
 use crate::bytes::put_four;
@@ -16,12 +20,23 @@ use crate::bytes::put_two;
 use crate::card::Amount;
 use crate::card::Card;
 use crate::card::Dam;
+use crate::card::LONGEST_CARD;
 use crate::card::Layout;
 use crate::card::Nitrification;
 use crate::card::PRESSURE;
+use crate::card::REACH_BYTES;
 use crate::card::RateFactors;
 use crate::card::SLUDGE;
 use crate::card::TAKE;
+use crate::range::amount_in_range;
+use crate::range::dam_in_range;
+use crate::range::nitrification_in_range;
+
+// What putting records has come to: the next place, and whether the fields of all of them are in range.
+pub struct Spelled {
+    pub next: usize,
+    pub in_range: bool,
+}
 
 // The `RV` record of a reach count.
 pub fn put_header(out: &mut [u8], count: u16) -> usize
@@ -94,38 +109,61 @@ fn put_reach(out: &mut [u8], at: usize, c: Card) -> usize
     put_load(out, next, c)
 }
 
+// A place further on, behind a record whose fields are in range or not.
+fn moved_on(from: Spelled, next: usize, in_range: bool) -> Spelled
+    ensures { λ r. ⌜ r ≡ record { next = next; «in_range» = from .«in_range» && «in_range» } ⌝ }
+{
+    if from.in_range {
+        return Spelled { next, in_range };
+    }
+    Spelled {
+        next,
+        in_range: false,
+    }
+}
+
 // The `DM` record of a dam, if there is one.
-fn put_dam(out: &mut [u8], at: usize, dam: Dam) -> usize
-    requires { ⌜ at + length (damRecord .encode dam) ≤ length (now out) ⌝ }
-    ensures { λ r. ⌜ Put (now (out .entry)) at (damRecord .encode dam) (now (out .exit)) r ⌝ }
+fn put_dam(out: &mut [u8], from: Spelled, dam: Dam) -> Spelled
+    requires { ⌜ from .next + length (damRecord .encode dam) ≤ length (now out) ⌝ }
+    ensures { λ r. ⌜ Spells damRecord dam (now (out .entry)) from (now (out .exit)) r ⌝ }
 {
     let Dam::Aerating { share, generating } = dam else {
-        return at;
+        return from;
     };
-    let next = put_pair(out, at, b'D', b'M');
+    let next = put_pair(out, from.next, b'D', b'M');
     let next = put_two(out, next, share);
-    put_four(out, next, generating)
+    let next = put_four(out, next, generating);
+    moved_on(from, next, dam_in_range(dam))
+}
+
+// A number of four bytes or two.
+fn put_number(out: &mut [u8], at: usize, wide: bool, n: u32) -> usize
+    requires { ⌜ at + bytesOf (widthOf wide) ≤ length (now out) ⌝ }
+    ensures { λ r. ⌜ Put (now (out .entry)) at (numberBytes (widthOf wide) n) (now (out .exit)) r ⌝ }
+{
+    if wide {
+        return put_four(out, at, n);
+    }
+    put_narrow(out, at, n)
 }
 
 // The record of an amount, if there is one.
-fn put_amount(out: &mut [u8], at: usize, layout: Layout, amount: Amount) -> usize
-    requires { ⌜ at + length (amountRecord layout .encode amount) ≤ length (now out) ⌝ }
-    ensures { λ r. ⌜ Put (now (out .entry)) at (amountRecord layout .encode amount) (now (out .exit)) r ⌝ }
+fn put_amount(out: &mut [u8], from: Spelled, layout: Layout, amount: Amount) -> Spelled
+    requires { ⌜ from .next + length (amountRecord layout .encode amount) ≤ length (now out) ⌝ }
+    ensures { λ r. ⌜ Spells (amountRecord layout) amount (now (out .entry)) from (now (out .exit)) r ⌝ }
 {
     let Amount::Given(n) = amount else {
-        return at;
+        return from;
     };
-    let next = put_pair(out, at, layout.first, layout.second);
-    if layout.wide {
-        return put_four(out, next, n);
-    }
-    put_narrow(out, next, n)
+    let next = put_pair(out, from.next, layout.first, layout.second);
+    let next = put_number(out, next, layout.wide, n);
+    moved_on(from, next, amount_in_range(layout, amount))
 }
 
 // The `NT` record of a nitrification, if there is one.
-fn put_nitrification(out: &mut [u8], at: usize, nitrification: Nitrification) -> usize
-    requires { ⌜ at + length (nitrificationRecord .encode nitrification) ≤ length (now out) ⌝ }
-    ensures { λ r. ⌜ Put (now (out .entry)) at (nitrificationRecord .encode nitrification) (now (out .exit)) r ⌝ }
+fn put_nitrification(out: &mut [u8], from: Spelled, nitrification: Nitrification) -> Spelled
+    requires { ⌜ from .next + length (nitrificationRecord .encode nitrification) ≤ length (now out) ⌝ }
+    ensures { λ r. ⌜ Spells nitrificationRecord nitrification (now (out .entry)) from (now (out .exit)) r ⌝ }
 {
     let Nitrification::Nitrifying {
         rate,
@@ -133,19 +171,20 @@ fn put_nitrification(out: &mut [u8], at: usize, nitrification: Nitrification) ->
         load,
     } = nitrification
     else {
-        return at;
+        return from;
     };
-    let next = put_pair(out, at, b'N', b'T');
+    let next = put_pair(out, from.next, b'N', b'T');
     let next = put_narrow(out, next, rate);
     let next = put_four(out, next, concentration);
     let next = put_four(out, next, load);
-    put_four(out, next, 0)
+    let next = put_four(out, next, 0);
+    moved_on(from, next, nitrification_in_range(nitrification))
 }
 
-// The records of a card that follow its `RE` record.
-fn put_optionals(out: &mut [u8], at: usize, c: Card) -> usize
+// The records of a card that follow its `RE` record. This alone says which they are, so that it answers for their length and ranges, too.
+fn put_optionals(out: &mut [u8], at: usize, c: Card) -> Spelled
     requires { ⌜ at + length (encodeOptionals optional (optionalOf c)) ≤ length (now out) ⌝ }
-    ensures { λ r. ⌜ Put (now (out .entry)) at (encodeOptionals optional (optionalOf c)) (now (out .exit)) r ⌝ }
+    ensures { λ r. ⌜ SpellsOptionals c (now (out .entry)) at (now (out .exit)) r ⌝ }
 {
     let dam = c.dam;
     let optionals = c.optionals;
@@ -153,11 +192,37 @@ fn put_optionals(out: &mut [u8], at: usize, c: Card) -> usize
     let pressure = optionals.pressure;
     let sludge = optionals.sludge;
     let nitrification = optionals.nitrification;
-    let next = put_dam(out, at, dam);
-    let next = put_amount(out, next, TAKE, take);
-    let next = put_amount(out, next, PRESSURE, pressure);
-    let next = put_amount(out, next, SLUDGE, sludge);
-    put_nitrification(out, next, nitrification)
+    let start = Spelled {
+        next: at,
+        in_range: true,
+    };
+    let put = put_dam(out, start, dam);
+    let put = put_amount(out, put, TAKE, take);
+    let put = put_amount(out, put, PRESSURE, pressure);
+    let put = put_amount(out, put, SLUDGE, sludge);
+    put_nitrification(out, put, nitrification)
+}
+
+// The length of those records, and whether their fields are in range: they are put on a sheet that is thrown away.
+fn measured(c: Card) -> Spelled
+    ensures { λ r. ⌜ Measured c r ⌝ }
+{
+    let mut sheet = [0u8; LONGEST_CARD];
+    put_optionals(&mut sheet, 0, c)
+}
+
+// Whether the fields of the records that follow a card's `RE` record are in range.
+pub fn optionals_in_range(c: Card) -> bool
+    ensures { λ r. ⌜ r ≡ optionalsInRange optional (optionalOf c) ⌝ }
+{
+    measured(c).in_range
+}
+
+// The length of a card's records.
+pub fn size_of(c: Card) -> usize
+    ensures { λ r. ⌜ r ≡ sizeOf c ⌝ }
+{
+    REACH_BYTES + measured(c).next
 }
 
 // The records of a card.
@@ -166,5 +231,6 @@ pub fn put_card(out: &mut [u8], at: usize, c: Card) -> usize
     ensures { λ r. ⌜ Put (now (out .entry)) at (encodeCard c) (now (out .exit)) r ⌝ }
 {
     let next = put_reach(out, at, c);
-    put_optionals(out, next, c)
+    let put = put_optionals(out, next, c);
+    put.next
 }

@@ -1,8 +1,7 @@
 // The tests that reading and writing share: ranges, outlets and the reach count; and that of check 15.
 ghost use mathlib.Core.Path.{_≡_};
-ghost use Rattle.river.specs.Card.{optional, optionalOf, inRange, ratesInRange, outletOk, countOk};
+ghost use Rattle.river.specs.Card.{inRange, ratesInRange, outletOk, countOk};
 ghost use Rattle.river.specs.Fields.{within};
-ghost use Rattle.river.specs.Optional.{optionalsInRange};
 ghost use Rattle.river.specs.Records.{damRecord, nitrificationRecord, rateFactor, factorsRecord};
 ghost use Rattle.river.specs.held.Layouts.{amountRecord};
 use crate::card::Amount;
@@ -11,11 +10,8 @@ use crate::card::Dam;
 use crate::card::FLOW_MOST;
 use crate::card::Layout;
 use crate::card::Nitrification;
-use crate::card::PRESSURE;
 use crate::card::REACHES;
 use crate::card::RateFactors;
-use crate::card::SLUDGE;
-use crate::card::TAKE;
 use crate::source::Demand;
 use crate::source::rate_of;
 
@@ -140,31 +136,6 @@ pub(crate) fn factors_in_range(factors: RateFactors) -> bool
         return false;
     }
     factor_in_range(aeration)
-}
-
-// Whether the fields of the records that follow a card's `RE` record are in range.
-pub fn optionals_in_range(c: Card) -> bool
-    ensures { λ r. ⌜ r ≡ optionalsInRange optional (optionalOf c) ⌝ }
-{
-    let dam = c.dam;
-    if !dam_in_range(dam) {
-        return false;
-    }
-    let optionals = c.optionals;
-    let take = optionals.take;
-    if !amount_in_range(TAKE, take) {
-        return false;
-    }
-    let pressure = optionals.pressure;
-    if !amount_in_range(PRESSURE, pressure) {
-        return false;
-    }
-    let sludge = optionals.sludge;
-    if !amount_in_range(SLUDGE, sludge) {
-        return false;
-    }
-    let nitrification = optionals.nitrification;
-    nitrification_in_range(nitrification)
 }
 
 // Whether reach i of n may have an outlet.

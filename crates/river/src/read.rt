@@ -1,14 +1,17 @@
 // Reading of a river file: the header, then card after card.
 ghost use mathlib.Core.Path.{_≡_};
+ghost use mathlib.Core.Bool.{true, false};
 ghost use Prim.Native.Nat.{_<_, _^_};
 ghost use lib.ListN.{drop};
-ghost use Rattle.river.specs.Card.{optional, valuesOf, withValues};
-ghost use Rattle.river.specs.Optional.{absent, readOptional, readOptionals};
-ghost use Rattle.river.specs.Refusal.{accepted, after, outcomeOf, goOn};
+ghost use Rattle.river.specs.Bytes.{mark};
+ghost use Rattle.river.specs.Card.{valuesOf, blank};
+ghost use Rattle.river.specs.Optional.{readOptional};
+ghost use Rattle.river.specs.Refusal.{refuse, outcomeOf};
 ghost use Rattle.river.specs.Fields.{numberAt};
 ghost use Rattle.river.specs.Records.{damRecord, nitrificationRecord, factorsRecord};
 ghost use Rattle.river.specs.held.Layouts.{widthOf, amountRecord};
 ghost use Rattle.river.specs.Read.{readHeader, cardAt, readReach};
+ghost use Rattle.river.specs.held.Optionals.{Finds, ReadsOn, ReadsOptionals};
 ghost use Rattle.river.specs.held.Reader.{YieldsReach};
 use crate::bytes::behind;
 use crate::bytes::byte_at;
@@ -30,13 +33,7 @@ use crate::card::REACH_BYTES;
 use crate::card::RateFactors;
 use crate::card::SLUDGE;
 use crate::card::TAKE;
-use crate::card::amount_size;
-use crate::card::blank;
-use crate::card::dam_size;
 use crate::card::layout_size;
-use crate::card::no_optionals;
-use crate::card::size_of;
-use crate::card::with_optionals;
 use crate::range::amount_in_range;
 use crate::range::count_ok;
 use crate::range::dam_in_range;
@@ -59,27 +56,39 @@ pub struct FactorsRead {
     pub factors: RateFactors,
 }
 
-// What reading a dam answers: the dam where it is accepted.
-pub struct DamRead {
+// How far reading has come in the bytes of a reach: the outcome so far, and the place behind what is read.
+pub struct Place {
     pub outcome: Outcome,
+    pub at: usize,
+}
+
+// Whether a record is found, and the place behind it, or where it would be.
+pub struct Finding {
+    pub found: bool,
+    pub place: Place,
+}
+
+// What reading a dam answers: the place behind it, and the dam where it is accepted.
+pub struct DamRead {
+    pub place: Place,
     pub dam: Dam,
 }
 
-// What reading an amount answers: the amount where it is accepted.
+// What reading an amount answers: the place behind it, and the amount where it is accepted.
 pub struct AmountRead {
-    pub outcome: Outcome,
+    pub place: Place,
     pub amount: Amount,
 }
 
-// What reading a nitrification answers: the nitrification where it is accepted.
+// What reading a nitrification answers: the place behind it, and the nitrification where it is accepted.
 pub struct NitrificationRead {
-    pub outcome: Outcome,
+    pub place: Place,
     pub nitrification: Nitrification,
 }
 
-// What reading the records behind an `RE` record answers: a dam and optional fields where they are accepted.
+// What reading the records behind an `RE` record answers: the place behind them, and a dam and optional fields where they are accepted.
 pub struct OptionalsRead {
-    pub outcome: Outcome,
+    pub place: Place,
     pub dam: Dam,
     pub optionals: Optionals,
 }
@@ -151,57 +160,73 @@ pub fn read_factors(s: &[u8]) -> FactorsRead
     }
 }
 
-// The card in an `RE` record, without the records that may follow.
-fn card_at(s: &[u8]) -> Card
-    ensures { λ r. ⌜ r ≡ cardAt (now (s .entry)) (absent optional) ⌝ }
+// A refusal, at no place.
+fn refused_at(number: u8, reach: u8) -> Place
+    ensures { λ r. ⌜ r ≡ record { outcome = Outcome.Refused (refuse number reach); at = 0 } ⌝ }
 {
-    let optionals = no_optionals();
-    Card {
-        outlet: byte_at(s, 2),
-        temperature: byte_at(s, 3),
-        k1: two_at(s, 4) as u32,
-        k2: two_at(s, 6) as u32,
-        volume: four_at(s, 8),
-        inflow: four_at(s, 12),
-        inflow_bod: four_at(s, 16),
-        inflow_oxygen: two_at(s, 20),
-        load: four_at(s, 22),
-        dam: Dam::Absent,
-        optionals,
+    Place {
+        outcome: Outcome::Refused(refuse(number, reach)),
+        at: 0,
     }
 }
 
-// An outcome, and no dam.
-fn no_dam(outcome: Outcome) -> DamRead
-    ensures { λ r. ⌜ outcomeOf (r .outcome) (r .dam) ≡ outcomeOf outcome Dam.Absent ⌝ }
+// No record, and where it would be.
+fn not_found(place: Place) -> Finding
+    ensures { λ r. ⌜ r ≡ record { found = false; place = place } ⌝ }
 {
-    DamRead {
-        outcome,
-        dam: Dam::Absent,
+    Finding {
+        found: false,
+        place,
     }
 }
 
-// The dam in the `DM` record at the start, if there is one: refusals 1 and 4.
-pub fn read_dam(s: &[u8], reach: u8) -> DamRead
-    ensures { λ r. ⌜ outcomeOf (r .outcome) (r .dam) ≡ readOptional damRecord reach (now (s .entry)) ⌝ }
+// The record with a mark and a length at a place, if there is one: the refusal of the records before it, or refusal 1.
+fn find(from: Place, s: &[u8], reach: u8, first: u8, second: u8, size: usize) -> Finding
+    ensures { λ r. ⌜ Finds (mark first second) size reach (now (s .entry)) from r ⌝ }
 {
-    if !marked(s, b'D', b'M') {
-        return no_dam(Outcome::Accepted);
+    let outcome = from.outcome;
+    let Outcome::Accepted = outcome else {
+        return not_found(from);
+    };
+    let at = from.at;
+    let rest = behind(s, at);
+    if !marked(rest, first, second) {
+        return not_found(from);
     }
-    if s.len() < DAM_BYTES {
-        return no_dam(Outcome::Refused(refuse(1, reach)));
+    if rest.len() < size {
+        return not_found(refused_at(1, reach));
     }
+    Finding {
+        found: true,
+        place: Place {
+            outcome,
+            at: at + size,
+        },
+    }
+}
+
+// The dam in the `DM` record at a place, if there is one: the refusal of the records before it, or refusals 1 and 4.
+pub fn read_dam(from: Place, s: &[u8], reach: u8) -> DamRead
+    ensures { λ r. ⌜ ReadsOn damRecord reach (now (s .entry)) from (r .place) (r .dam) ⌝ }
+{
+    let finding = find(from, s, reach, b'D', b'M', DAM_BYTES);
+    let place = finding.place;
+    if !finding.found {
+        return DamRead {
+            place,
+            dam: Dam::Absent,
+        };
+    }
+    let rest = behind(s, from.at);
     let dam = Dam::Aerating {
-        share: two_at(s, 2),
-        generating: four_at(s, 4),
+        share: two_at(rest, 2),
+        generating: four_at(rest, 4),
     };
     if !dam_in_range(dam) {
-        return no_dam(Outcome::Refused(refuse(4, reach)));
+        let place = refused_at(4, reach);
+        return DamRead { place, dam };
     }
-    DamRead {
-        outcome: Outcome::Accepted,
-        dam,
-    }
+    DamRead { place, dam }
 }
 
 // The number in a record of one number.
@@ -215,103 +240,90 @@ fn number_at(s: &[u8], wide: bool) -> u32
     }
 }
 
-// An outcome, and no amount.
-fn no_amount(outcome: Outcome) -> AmountRead
-    ensures { λ r. ⌜ outcomeOf (r .outcome) (r .amount) ≡ outcomeOf outcome Amount.Absent ⌝ }
+// The amount in a layout's record at a place, if there is one: the refusal of the records before it, or refusals 1 and 4.
+pub(crate) fn read_amount(from: Place, s: &[u8], reach: u8, layout: Layout) -> AmountRead
+    ensures { λ r. ⌜ ReadsOn (amountRecord layout) reach (now (s .entry)) from (r .place) (r .amount) ⌝ }
 {
-    AmountRead {
-        outcome,
-        amount: Amount::Absent,
+    let size = layout_size(layout);
+    let finding = find(from, s, reach, layout.first, layout.second, size);
+    let place = finding.place;
+    if !finding.found {
+        return AmountRead {
+            place,
+            amount: Amount::Absent,
+        };
     }
-}
-
-// The amount in a layout's record at the start, if there is one: the refusal of the records before it, or refusals 1 and 4.
-pub(crate) fn read_amount(before: Outcome, s: &[u8], reach: u8, layout: Layout) -> AmountRead
-    ensures { λ r. ⌜ outcomeOf (r .outcome) (r .amount) ≡ goOn before (readOptional (amountRecord layout) reach (now (s .entry))) ⌝ }
-{
-    let Outcome::Accepted = before else {
-        return no_amount(before);
-    };
-    if !marked(s, layout.first, layout.second) {
-        return no_amount(Outcome::Accepted);
-    }
-    if s.len() < layout_size(layout) {
-        return no_amount(Outcome::Refused(refuse(1, reach)));
-    }
-    let amount = Amount::Given(number_at(s, layout.wide));
+    let rest = behind(s, from.at);
+    let amount = Amount::Given(number_at(rest, layout.wide));
     if !amount_in_range(layout, amount) {
-        return no_amount(Outcome::Refused(refuse(4, reach)));
+        let place = refused_at(4, reach);
+        return AmountRead { place, amount };
     }
-    AmountRead {
-        outcome: Outcome::Accepted,
-        amount,
-    }
+    AmountRead { place, amount }
 }
 
-// An outcome, and no nitrification.
-fn no_nitrification(outcome: Outcome) -> NitrificationRead
-    ensures { λ r. ⌜ outcomeOf (r .outcome) (r .nitrification) ≡ outcomeOf outcome Nitrification.Absent ⌝ }
-{
-    NitrificationRead {
-        outcome,
-        nitrification: Nitrification::Absent,
-    }
-}
-
-// The nitrification in the `NT` record at the start, if there is one: the refusal of the records before it, or refusals 1 and 4, the latter also
+// The nitrification in the `NT` record at a place, if there is one: the refusal of the records before it, or refusals 1 and 4, the latter also
 // where its last four bytes are not all 0.
-pub fn read_nitrification(before: Outcome, s: &[u8], reach: u8) -> NitrificationRead
-    ensures { λ r. ⌜ outcomeOf (r .outcome) (r .nitrification) ≡ goOn before (readOptional nitrificationRecord reach (now (s .entry))) ⌝ }
+pub fn read_nitrification(from: Place, s: &[u8], reach: u8) -> NitrificationRead
+    ensures { λ r. ⌜ ReadsOn nitrificationRecord reach (now (s .entry)) from (r .place) (r .nitrification) ⌝ }
 {
-    let Outcome::Accepted = before else {
-        return no_nitrification(before);
-    };
-    if !marked(s, b'N', b'T') {
-        return no_nitrification(Outcome::Accepted);
+    let finding = find(from, s, reach, b'N', b'T', NITRIFICATION_BYTES);
+    let place = finding.place;
+    if !finding.found {
+        return NitrificationRead {
+            place,
+            nitrification: Nitrification::Absent,
+        };
     }
-    if s.len() < NITRIFICATION_BYTES {
-        return no_nitrification(Outcome::Refused(refuse(1, reach)));
-    }
+    let rest = behind(s, from.at);
     let nitrification = Nitrification::Nitrifying {
-        rate: two_at(s, 2) as u32,
-        concentration: four_at(s, 4),
-        load: four_at(s, 8),
+        rate: two_at(rest, 2) as u32,
+        concentration: four_at(rest, 4),
+        load: four_at(rest, 8),
     };
     if !nitrification_in_range(nitrification) {
-        return no_nitrification(Outcome::Refused(refuse(4, reach)));
+        let place = refused_at(4, reach);
+        return NitrificationRead {
+            place,
+            nitrification,
+        };
     }
-    if four_at(s, 12) != 0 {
-        return no_nitrification(Outcome::Refused(refuse(4, reach)));
+    if four_at(rest, 12) != 0 {
+        let place = refused_at(4, reach);
+        return NitrificationRead {
+            place,
+            nitrification,
+        };
     }
     NitrificationRead {
-        outcome: Outcome::Accepted,
+        place,
         nitrification,
     }
 }
 
-// The records that may follow an `RE` record, each at the start of what the one before it leaves: the first refusal is the answer.
+// The records that may follow an `RE` record, each behind the one before it: the first refusal is the answer.
 fn read_optionals(s: &[u8], reach: u8) -> OptionalsRead
-    ensures { λ r. ⌜ outcomeOf (r .outcome) (valuesOf (r .dam) (r .optionals)) ≡ readOptionals optional reach (now (s .entry)) ⌝ }
+    ensures { λ r. ⌜ ReadsOptionals reach (now (s .entry)) r ⌝ }
 {
-    let found = read_dam(s, reach);
+    let start = Place {
+        outcome: Outcome::Accepted,
+        at: REACH_BYTES,
+    };
+    let found = read_dam(start, s, reach);
+    let place = found.place;
     let dam = found.dam;
-    let outcome = found.outcome;
-    let rest = behind(s, dam_size(dam));
-    let found = read_amount(outcome, rest, reach, TAKE);
+    let found = read_amount(place, s, reach, TAKE);
+    let place = found.place;
     let take = found.amount;
-    let outcome = found.outcome;
-    let rest = behind(rest, amount_size(TAKE, take));
-    let found = read_amount(outcome, rest, reach, PRESSURE);
+    let found = read_amount(place, s, reach, PRESSURE);
+    let place = found.place;
     let pressure = found.amount;
-    let outcome = found.outcome;
-    let rest = behind(rest, amount_size(PRESSURE, pressure));
-    let found = read_amount(outcome, rest, reach, SLUDGE);
+    let found = read_amount(place, s, reach, SLUDGE);
+    let place = found.place;
     let sludge = found.amount;
-    let outcome = found.outcome;
-    let rest = behind(rest, amount_size(SLUDGE, sludge));
-    let found = read_nitrification(outcome, rest, reach);
+    let found = read_nitrification(place, s, reach);
+    let place = found.place;
     let nitrification = found.nitrification;
-    let outcome = found.outcome;
     let optionals = Optionals {
         take,
         pressure,
@@ -319,10 +331,40 @@ fn read_optionals(s: &[u8], reach: u8) -> OptionalsRead
         nitrification,
     };
     OptionalsRead {
-        outcome,
+        place,
         dam,
         optionals,
     }
+}
+
+// The card in an `RE` record, with a dam and optional fields.
+fn card_at(s: &[u8], dam: Dam, optionals: Optionals) -> Card
+    ensures { λ r. ⌜ r ≡ cardAt (now (s .entry)) (valuesOf dam optionals) ⌝ }
+{
+    Card {
+        outlet: byte_at(s, 2),
+        temperature: byte_at(s, 3),
+        k1: two_at(s, 4) as u32,
+        k2: two_at(s, 6) as u32,
+        volume: four_at(s, 8),
+        inflow: four_at(s, 12),
+        inflow_bod: four_at(s, 16),
+        inflow_oxygen: two_at(s, 20),
+        load: four_at(s, 22),
+        dam,
+        optionals,
+    }
+}
+
+// A card of zeros: what is read where no byte is.
+pub fn blank() -> Card
+    ensures { λ r. ⌜ r ≡ blank ⌝ }
+{
+    let bytes = [0u8; 1];
+    let read = read_optionals(&bytes[..], 0);
+    let dam = read.dam;
+    let optionals = read.optionals;
+    card_at(&bytes[..], dam, optionals)
 }
 
 // An outcome, and no reach.
@@ -337,28 +379,8 @@ fn no_reach(outcome: Outcome) -> ReachRead
     }
 }
 
-// The card of an `RE` record at a position, with the records behind it.
-fn read_card(card: Card, s: &[u8], at: usize, reach: u8) -> ReachRead
-    requires { ⌜ at < 2 ^ 63 ⌝ }
-    ensures { λ r. ⌜ YieldsReach at (after (readOptionals optional reach (now (s .entry))) (λ vs. accepted (withValues vs card))) r ⌝ }
-{
-    let read = read_optionals(s, reach);
-    let outcome = read.outcome;
-    let Outcome::Accepted = outcome else {
-        return no_reach(outcome);
-    };
-    let dam = read.dam;
-    let optionals = read.optionals;
-    let card = with_optionals(dam, optionals, card);
-    let next = at + size_of(card);
-    ReachRead {
-        outcome,
-        card,
-        next,
-    }
-}
-
-// A reach at the start, at a position of the file: refusals 1, 2, 4 and 5, then the records behind its `RE` record.
+// A reach at the start, at a position of the file: refusals 1, 2, 4 and 5, then those of the records behind its `RE` record. These are read
+// before the tests of its fields, so that its card is made once.
 fn read_here(s: &[u8], at: usize, count: u8, reach: u8) -> ReachRead
     requires { ⌜ at < 2 ^ 63 ⌝ }
     ensures { λ r. ⌜ YieldsReach at (readReach count reach (now (s .entry))) r ⌝ }
@@ -369,14 +391,26 @@ fn read_here(s: &[u8], at: usize, count: u8, reach: u8) -> ReachRead
     if !marked(s, b'R', b'E') {
         return no_reach(Outcome::Refused(refuse(2, reach)));
     }
-    let card = card_at(s);
+    let read = read_optionals(s, reach);
+    let place = read.place;
+    let dam = read.dam;
+    let optionals = read.optionals;
+    let card = card_at(s, dam, optionals);
     if !in_range(card) {
         return no_reach(Outcome::Refused(refuse(4, reach)));
     }
     if !outlet_ok(count, reach, card.outlet) {
         return no_reach(Outcome::Refused(refuse(5, reach)));
     }
-    read_card(card, behind(s, REACH_BYTES), at, reach)
+    let outcome = place.outcome;
+    let Outcome::Accepted = outcome else {
+        return no_reach(outcome);
+    };
+    ReachRead {
+        outcome,
+        card,
+        next: at + place.at,
+    }
 }
 
 // The reach at a position of a file.

@@ -2,8 +2,8 @@
 ghost use mathlib.Core.Path.{_≡_};
 ghost use Rattle.river.specs.Write.{checkCard, checkOf};
 use crate::card::Card;
+use crate::put::optionals_in_range;
 use crate::range::in_range;
-use crate::range::optionals_in_range;
 use crate::range::outlet_ok;
 use crate::refusal::Outcome;
 use crate::refusal::Refusal;

@@ -12,9 +12,8 @@ use lib.Seq.{drop-append-seam}
 use borrow.Author.Tests.{le-leb, leb-true, not-true}
 use Rattle.river.specs.Bytes.{AreBytes, Mark, marked, markBytes}
 use Rattle.river.specs.Optional.{Kind, Values, readOptional, readOptionals, encodeOptionals, AllInRange, optionalsInRange, sizes}
-use Rattle.river.specs.Refusal.{Answer, accepted, refused, after, outcomeOf, goOn}
-use Rattle.river.specs.declared.refusal.Outcome.{Outcome}
-use Rattle.river.proofs.Answers.{never, need-true, choose-true, choose-false, after-accepted, after-refused, after-all, after-after, goes-on, passed, went, both, both-true}
+use Rattle.river.specs.Refusal.{accepted}
+use Rattle.river.proofs.Answers.{need-true, choose-true, choose-false, after-accepted, passed, went, both, both-true}
 use Rattle.river.proofs.bytes.Numbers.{HasMark, true-marked, marked-true, marked-other, bytesFrom, Leads, leads-spelled, leads-more, are-bytes-drop}
 
 -- a value that has a record: the record begins with the mark and has the kind's length; where the value is in range, it passes the test and holds the value
@@ -77,33 +76,6 @@ module _ (k : Kind) (law : Sound k) (i : ℕ) where
 abbrev pub AllSound : List Kind → Type 0
 AllSound [] = Unit
 AllSound (k ∷ ks) = Sound k × AllSound ks
-
--- records that are read one by one: an answer is the refusal of those before, or that of the kinds which are still due, on the bytes that remain
-pub record Due {A : Type 0} (x : Answer A) (o : Outcome) (ks : List Kind) (i : ℕ) (s : List ℕ) (f : Values ks → Answer A) : Type 0 where
-  pub is : x ≡ goOn o (after (readOptionals ks i s) f)
-
--- all of them
-pub all-due : (ks : List Kind) (i : ℕ) (s : List ℕ) → Due (readOptionals ks i s) Outcome.Accepted ks i s accepted
-unfolding goOn
-all-due ks i s = record { is = sym (after-all (readOptionals ks i s)) }
-
--- what is read of the first of them decides what comes next: a refusal, or the records behind
-next-is : {A : Type 0} {x : Answer A} (k : Kind) (ks : List Kind) (i : ℕ) (s rest : List ℕ) (f : Values (k ∷ ks) → Answer A) (o p : Outcome) (v : k .Value) → x ≡ goOn o (after (readOptionals (k ∷ ks) i s) f)
-    → outcomeOf p v ≡ goOn o (readOptional k i s) → rest ≡ drop (length (k .encode v)) s → x ≡ goOn p (after (readOptionals ks i rest) (λ vs. f (v, vs)))
-unfolding readOptionals goOn after
-next-is k ks i s rest f Outcome.Accepted Outcome.Accepted v d e b = d ∙ rw (← e, b) (after-after (readOptionals ks i _) _ f)
-next-is k ks i s rest f Outcome.Accepted (Outcome.Refused r) v d e b = d ∙ after-refused _ _ (after-refused _ _ (sym e))
-next-is k ks i s rest f (Outcome.Refused q) Outcome.Accepted v d e b = never (sym e)
-next-is k ks i s rest f (Outcome.Refused q) (Outcome.Refused r) v d e b = let same : q ≡ r = cc in d ∙ ap refused same
-
-pub next-due : {A : Type 0} {x : Answer A} {k : Kind} {ks : List Kind} {i : ℕ} {s rest : List ℕ} {f : Values (k ∷ ks) → Answer A} {o : Outcome} {m : ℕ} (p : Outcome) (v : k .Value) → Due x o (k ∷ ks) i s f
-    → outcomeOf p v ≡ goOn o (readOptional k i s) → m ≡ length (k .encode v) → rest ≡ drop m s → Due x p ks i rest (λ vs. f (v, vs))
-next-due {k = k} {ks} {i} {s} {rest} {f} {o} p v due e l b = record { is = next-is k ks i s rest f o p v (due .is) e (b ∙ ap (λ (n : ℕ). drop n s) l) }
-
--- none of them
-pub none-due : {A : Type 0} {x : Answer A} {o : Outcome} {i : ℕ} {s : List ℕ} {f : Values [] → Answer A} (a : A) → Due x o [] i s f → f tt ≡ accepted a → outcomeOf o a ≡ x
-unfolding readOptionals after
-none-due {o = o} a due e = sym (due .is ∙ ap (goOn o) e ∙ goes-on o a)
 
 -- tests of marks, which compute for a list that is given: no kind has the mark; all marks differ; no kind's mark is at the start of the bytes
 abbrev unused : Mark → List Kind → Bool

@@ -2,7 +2,7 @@
 -- Assumes nothing.
 use Prim.Native.Nat.{ℕ, _%_, _≤_}
 use mathlib.Core.Path.{_≡_, refl, ap, sym, subst, _∙_}
-use mathlib.Core.List.{List, _∷_, _++_}
+use mathlib.Core.List.{List, [], _∷_, _++_}
 use mathlib.Core.Bool.{true}
 use native.Mathlib.Nat.{div-add-mod', mod-eq-of-lt}
 use native.Mathlib.Omega.{arith}
@@ -10,31 +10,32 @@ use lib.ListN.{length, drop}
 use lib.Seq.{drop-at}
 use borrow.Author.Tests.{le-leb, leb-true}
 use Rattle.river.specs.Bytes.{AreBytes, byteAt}
-use Rattle.river.specs.Card.{RatesInRange, LawfulCard, RE, reachBytes, optional, optionalOf, withValues, inRange, outletOk, sizeOf}
-use Rattle.river.specs.Optional.{Values, absent, readOptionals, encodeOptionals}
+use Rattle.river.specs.Card.{RatesInRange, LawfulCard, RE, optional, optionalOf, valuesOf, blank, inRange, outletOk, sizeOf}
+use Rattle.river.specs.Optional.{Values, absent, readOptional, readOptionals, encodeOptionals}
 use Rattle.river.specs.Read.{cardAt, readReach}
-use Rattle.river.specs.held.Reader.{YieldsReach}
 use Rattle.river.specs.Records.{rateMost}
-use Rattle.river.specs.Refusal.{accepted, after}
+use Rattle.river.specs.Refusal.{accepted, choose, after, outcomeOf}
 use Rattle.river.specs.Write.{encodeReach, encodeCard}
 use Rattle.river.specs.declared.card.Card.{Card}
-use Rattle.river.specs.declared.read.ReachRead.{ReachRead}
-use Rattle.river.proofs.Answers.{need-true, after-accepted, passed, went}
+use Rattle.river.specs.declared.card.Dam.{Dam}
+use Rattle.river.specs.declared.card.Optionals.{Optionals}
+use Rattle.river.specs.declared.refusal.Outcome.{Outcome}
+use Rattle.river.proofs.Answers.{never, need-true, after-accepted, passed, went}
 use Rattle.river.proofs.bytes.Numbers.{HasMark, true-marked, twoBytes-twoAt, narrowBytes-twoAt, fourBytes-fourAt, fourAt-below, bytesFrom, leads-spelled, leads-more, are-bytes-drop}
 use Rattle.river.proofs.range.Ranges.{inRange-true, lawful-card, lawful-optionals}
 use Rattle.river.proofs.card.Optional.{unmarked, AreOptionals, readOptionals-encode, readOptionals-are}
 use Rattle.river.proofs.card.Rows.{sound-optional, length-encodeCard}
 
 -- the fields of an `RE` record do not depend on the records that follow
-inRange-cardAt : (s : List ℕ) (vs ws : Values optional) → inRange (cardAt s vs) ≡ inRange (cardAt s ws)
+pub inRange-cardAt : (s : List ℕ) (vs ws : Values optional) → inRange (cardAt s vs) ≡ inRange (cardAt s ws)
 unfolding inRange cardAt
 inRange-cardAt s vs ws = refl
 
--- the records that follow are put into the card of an `RE` record
-pub put-into : {at : ℕ} (i : ℕ) (s : List ℕ) {rest : List ℕ} {c : Card} {x : ReachRead} → rest ≡ drop reachBytes s → c ≡ cardAt s (absent optional)
-    → YieldsReach at (after (readOptionals optional i rest) (λ vs. accepted (withValues vs c))) x → YieldsReach at (after (readOptionals optional i (drop reachBytes s)) (λ vs. accepted (cardAt s vs))) x
-unfolding cardAt
-put-into i s e f y = record { answer = y .answer ∙ rw (e, f); place = y .place }
+-- where no byte is, no record is found and every number is zero
+pub blank-is : (o : Outcome) (d : Dam) (x : Optionals) {c : Card} → outcomeOf o (valuesOf d x) ≡ readOptionals optional 0 [] → c ≡ cardAt (0 ∷ []) (valuesOf d x) → c ≡ blank
+unfolding cardAt readOptionals readOptional choose after
+blank-is Outcome.Accepted d x e f = let same : valuesOf d x ≡ absent optional = cc in f ∙ ap (cardAt (0 ∷ [])) same
+blank-is (Outcome.Refused r) d x e f = never e
 
 -- Reading what was encoded.
 

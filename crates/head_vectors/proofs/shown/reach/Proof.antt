@@ -68,7 +68,7 @@ reach-spec =
     (λ cast-head-of. omega (arith, head-of-requires cast-head-of tt .ready .flows .bounded))
     head-of-requires
     (λ add-line. search needs)
-    (λ cast-line. omega (arith, flow-bounded (cast-line .before .before .before .before .before .before .before .before .before .before .before .before .before .pre)))
+    (λ cast-line. omega (arith, flow-bounded (start-of-head cast-line .pre)))
     (λ mul-line. search needs)
     (λ element-copy-out-line. search needs)
     (λ line-requires κs. search needs)

@@ -8,7 +8,7 @@ use Rattle.river.proofs.put.put_card.Tie as tie
 returns : tie.Need-returns
 returns c =
     let b = c .before .before in
-    chain (b .before .before .before .before .put-reach .ensures) (b .put-optionals .ensures)
+    chain (b .before .before .before .before .put-reach .ensures) (b .put-optionals .ensures .put)
 
 pub put-card-spec : {M : Type 1} → statement M
 put-card-spec = tie.close (tie.spec (λ put-reach-requires. search needs) (λ put-optionals-requires κs. search needs) (λ same-length. search needs) returns)

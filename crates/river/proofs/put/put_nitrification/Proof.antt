@@ -5,7 +5,8 @@ use Prim.Native.Nat.{_+_, _≤_}
 use denote.Ref.{now}
 use lib.ListN.{length}
 use native.Mathlib.Omega.{arith}
-use Rattle.river.proofs.bytes.Puts.{chain, put-none}
+use Rattle.river.proofs.bytes.Puts.{chain}
+use Rattle.river.proofs.put.Spelling.{adds-none, moves-on}
 use Rattle.river.proofs.put.put_nitrification.Statement.{statement}
 use Rattle.river.proofs.put.put_nitrification.Tie as tie
 
@@ -23,10 +24,10 @@ abbrev known-four2 : tie.After-put-four-arg2 → tie.After-nitrification
 known-four2 c = known-four (c .before .before .before .before)
 
 returns : tie.Need-returns
-returns c = rw (c .enum-told .given .1) (put-none _ _)
+returns c = rw (c .enum-told .given .1) (adds-none _ _)
 
 -- the room that was asked for
-room : (c : tie.After-nitrification) → let a = c .before .before .before .args in a .at + 16 ≤ length (now (a .out))
+room : (c : tie.After-nitrification) → let a = c .before .before .before .args in a .from .next + 16 ≤ length (now (a .out))
 room c = rw (c .nitrification .given .1) at (c .before .before .before .pre)
 
 put-pair-requires : tie.Need-put-pair-requires
@@ -46,12 +47,15 @@ put-four-requires-3 c κs = omega (arith, room (known-four2 (c .before .before .
 
 returns-2 : tie.Need-returns-2
 returns-2 c =
-    let f = c .before .before in
+    let tested = c .before in
+    let f = tested .before .before .before in
     let e = f .before .before .before .before in
     let d = e .before .before .before .before in
     let b = d .before .before .before .before in
     let a = b .before .before .before .before in
-    rw (known-pair (a .before) .nitrification .given .1) (chain (chain (chain (chain (a .put-pair .ensures) (b .put-narrow .ensures)) (d .put-four .ensures)) (e .put-four2 .ensures)) (f .put-four3 .ensures))
+    let nitrification = known-pair (a .before) .nitrification in
+    rw (nitrification .given .1)
+    (moves-on (chain (chain (chain (chain (a .put-pair .ensures) (b .put-narrow .ensures)) (d .put-four .ensures)) (e .put-four2 .ensures)) (f .put-four3 .ensures)) (tested .nitrification-in-range .ensures) (c .moved-on .ensures))
 
 pub put-nitrification-spec : {M : Type 1} → statement M
 put-nitrification-spec =
@@ -65,5 +69,7 @@ put-nitrification-spec =
     put-four-requires
     put-four-requires-2
     put-four-requires-3
+    (λ nitrification-in-range-requires. search needs)
+    (λ moved-on-requires. search needs)
     (λ same-length. search needs)
     returns-2)

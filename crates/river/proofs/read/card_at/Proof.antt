@@ -16,19 +16,18 @@ returns c =
     let k1 = k2 .before in
     let temperature = k1 .before in
     let outlet = temperature .before in
-    rw (outlet .before .no-optionals .ensures, outlet .byte-at .ensures, temperature .byte-at2 .ensures, k1 .two-at .ensures, k2 .two-at2 .ensures, volume .four-at .ensures, inflow .four-at2 .ensures, bod .four-at3 .ensures, oxygen .two-at3 .ensures, c .four-at4 .ensures)
+    rw (outlet .byte-at .ensures, temperature .byte-at2 .ensures, k1 .two-at .ensures, k2 .two-at2 .ensures, volume .four-at .ensures, inflow .four-at2 .ensures, bod .four-at3 .ensures, oxygen .two-at3 .ensures, c .four-at4 .ensures)
 
 pub card-at-spec : {M : Type 1} → statement M
 card-at-spec =
     tie.close
     (tie.spec
-    (λ no-optionals-requires. search needs)
     (λ byte-at-requires. search needs)
     (λ byte-at-requires-2. search needs)
     (λ two-at-requires. search needs)
-    (λ cast-t10. search needs)
+    (λ cast-t7. search needs)
     (λ two-at-requires-2. search needs)
-    (λ cast-t12. search needs)
+    (λ cast-t9. search needs)
     (λ four-at-requires. search needs)
     (λ four-at-requires-2. search needs)
     (λ four-at-requires-3. search needs)

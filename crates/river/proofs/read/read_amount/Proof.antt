@@ -1,71 +1,53 @@
--- `river::read::read_amount` meets its contract: the refusal before it is handed on, and else each return follows from the tests before it.
+-- `river::read::read_amount` meets its contract: by whether the record is there, and whether its number is in range.
 -- Assumes nothing.
-use mathlib.Core.Path.{_∙_}
+use mathlib.Core.Path.{refl}
 use borrow.Author.Needs.{needs}
-use borrow.Author.Tests.{le-leb, lt-leb, not-true, not-false}
-use Rattle.river.specs.Optional.{readOptional}
-use Rattle.river.specs.Refusal.{need, choose, goOn}
+use borrow.Author.Tests.{not-true, not-false}
+use Rattle.river.specs.declared.card.Layout.{Layout}
+use Rattle.river.specs.held.Layouts.{described, amountRecord}
+use Rattle.river.proofs.card.Described.{record-long}
+use Rattle.river.proofs.read.Places.{unfound, found, found-out}
 use Rattle.river.proofs.read.read_amount.Statement.{statement}
 use Rattle.river.proofs.read.read_amount.Tie as tie
 
+-- the layout, seen from where the record was looked for
+abbrev layout-of : tie.After-find → Layout
+layout-of c = c .before .before .before .args .layout
+
 returns : tie.Need-returns
-unfolding goOn
-returns c = let told = c .before in c .no-amount .ensures ∙ rw (told .enum-told2 .given .1)
+returns c =
+    let f = c .before .before .before in
+    unfound (amountRecord (layout-of f)) (rw (f .before .layout-size .ensures) at (f .find .ensures)) (not-true (f .find .result .found) (c .if1 .taken)) refl
 
 returns-2 : tie.Need-returns-2
-unfolding readOptional choose goOn
 returns-2 c =
-    let e = c .before in
-    let m = e .before in
-    c .no-amount2 .ensures ∙ rw (m .before .enum-told .given .1, ← m .marked .ensures, not-true (m .marked .result) (e .if1 .taken))
+    let r = c .before .before in
+    let e = r .before .before .before in
+    let f = e .before .before .before in
+    found-out (amountRecord (layout-of f)) (rw (f .before .layout-size .ensures) at (f .find .ensures)) (not-false (f .find .result .found) (e .if1 .left))
+    (rw (← r .before .before .behind .ensures, ← r .before .number-at .ensures, ← r .amount-in-range .ensures, not-true (r .amount-in-range .result) (c .before .if2 .taken)))
+    (c .refused-at .ensures)
 
 returns-3 : tie.Need-returns-3
-unfolding readOptional need choose goOn
 returns-3 c =
-    let e = c .before in
-    let size = e .before .before in
-    let m = size .before .before in
-    c .no-amount3 .ensures ∙
-    rw (e .refuse .ensures, m .before .enum-told .given .1, ← m .marked .ensures, not-false (m .marked .result) (size .before .if1 .left), ← size .layout-size .ensures, lt-leb _ _ (e .before .if2 .taken))
-
-returns-4 : tie.Need-returns-4
-unfolding readOptional need choose goOn
-returns-4 c =
-    let e = c .before in
-    let amount = e .before .before in
-    let e2 = amount .before .before in
-    let size = e2 .before in
-    let m = size .before .before in
-    c .no-amount4 .ensures ∙
-    rw (e .refuse2 .ensures, m .before .enum-told .given .1, ← m .marked .ensures, not-false (m .marked .result) (size .before .if1 .left), ← size .layout-size .ensures, le-leb _ _ (e2 .if2 .left), ← amount .before .number-at .ensures, ← amount .amount-in-range .ensures, not-true (amount .amount-in-range .result) (e .before .if3 .taken))
-
-returns-5 : tie.Need-returns-5
-unfolding readOptional need choose goOn
-returns-5 c =
-    let amount = c .before in
-    let e2 = amount .before .before in
-    let size = e2 .before in
-    let m = size .before .before in
-    rw (m .before .enum-told .given .1, ← m .marked .ensures, not-false (m .marked .result) (size .before .if1 .left), ← size .layout-size .ensures, le-leb _ _ (e2 .if2 .left), ← amount .before .number-at .ensures, ← amount .amount-in-range .ensures, not-false (amount .amount-in-range .result) (c .if3 .left))
+    let r = c .before in
+    let e = r .before .before .before in
+    let f = e .before .before .before in
+    found (amountRecord (layout-of f)) (rw (f .before .layout-size .ensures) at (f .find .ensures)) (not-false (f .find .result .found) (e .if1 .left))
+    (rw (← r .before .before .behind .ensures, ← r .before .number-at .ensures, ← r .amount-in-range .ensures, not-false (r .amount-in-range .result) (c .if2 .left)))
+    (rw (← r .before .before .behind .ensures, ← r .before .number-at .ensures))
+    (record-long (described (layout-of f)) (r .before .number-at .result, tt))
 
 pub read-amount-spec : {M : Type 1} → statement M
 read-amount-spec =
     tie.close
     (tie.spec
-    (λ enum-told. search needs)
-    (λ enum-told-2. search needs)
-    (λ no-amount-requires. search needs)
-    returns
-    (λ marked-requires. search needs)
-    (λ no-amount-requires-2. search needs)
-    returns-2
     (λ layout-size-requires. search needs)
-    (λ refuse-requires. search needs)
-    (λ no-amount-requires-3. search needs)
-    returns-3
+    (λ find-requires. search needs)
+    returns
+    (λ behind-requires. search needs)
     (λ number-at-requires. search needs)
     (λ amount-in-range-requires. search needs)
-    (λ refuse-requires-2. search needs)
-    (λ no-amount-requires-4. search needs)
-    returns-4
-    returns-5)
+    (λ refused-at-requires. search needs)
+    returns-2
+    returns-3)

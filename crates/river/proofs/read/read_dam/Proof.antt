@@ -1,59 +1,47 @@
--- `river::read::read_dam` meets its contract: each return follows from the tests before it.
+-- `river::read::read_dam` meets its contract: by whether the record is there, and whether its fields are in range.
 -- Assumes nothing.
-use mathlib.Core.Path.{_∙_}
+use mathlib.Core.Path.{refl}
 use borrow.Author.Needs.{needs}
-use borrow.Author.Tests.{le-leb, lt-leb, not-true, not-false}
-use Rattle.river.specs.Optional.{readOptional}
-use Rattle.river.specs.Refusal.{need, choose}
+use borrow.Author.Tests.{not-true, not-false}
+use Rattle.river.specs.Records.{damRecord}
+use Rattle.river.proofs.read.Places.{unfound, found, found-out}
 use Rattle.river.proofs.read.read_dam.Statement.{statement}
 use Rattle.river.proofs.read.read_dam.Tie as tie
 
 returns : tie.Need-returns
-unfolding readOptional choose
 returns c =
-    let m = c .before in
-    c .no-dam .ensures ∙ rw (← m .before .marked .ensures, not-true (m .before .marked .result) (m .if1 .taken))
+    let f = c .before .before .before in
+    unfound damRecord (f .find .ensures) (not-true (f .find .result .found) (c .if1 .taken)) refl
 
 returns-2 : tie.Need-returns-2
-unfolding readOptional need choose
 returns-2 c =
-    let e = c .before in
-    let e1 = e .before .before in
-    c .no-dam2 .ensures ∙
-    rw (e .refuse .ensures, ← e1 .before .marked .ensures, not-false (e1 .before .marked .result) (e1 .if1 .left), lt-leb _ _ (e .before .if2 .taken))
+    let r = c .before .before in
+    let e = r .before .before .before .before in
+    let f = e .before .before .before in
+    found-out damRecord (f .find .ensures) (not-false (f .find .result .found) (e .if1 .left))
+    (rw (← r .before .before .before .behind .ensures, ← r .before .before .two-at .ensures, ← r .before .four-at .ensures, ← r .dam-in-range .ensures, not-true (r .dam-in-range .result) (c .before .if2 .taken)))
+    (c .refused-at .ensures)
 
 returns-3 : tie.Need-returns-3
-unfolding readOptional need choose
 returns-3 c =
-    let e = c .before in
-    let r = e .before .before in
-    let e2 = r .before .before .before in
-    let e1 = e2 .before in
-    c .no-dam3 .ensures ∙
-    rw (e .refuse2 .ensures, ← e1 .before .marked .ensures, not-false (e1 .before .marked .result) (e1 .if1 .left), le-leb _ _ (e2 .if2 .left), ← r .before .before .two-at .ensures, ← r .before .four-at .ensures, ← r .dam-in-range .ensures, not-true (r .dam-in-range .result) (e .before .if3 .taken))
-
-returns-4 : tie.Need-returns-4
-unfolding readOptional need choose
-returns-4 c =
     let r = c .before in
-    let e2 = r .before .before .before in
-    let e1 = e2 .before in
-    rw (← e1 .before .marked .ensures, not-false (e1 .before .marked .result) (e1 .if1 .left), le-leb _ _ (e2 .if2 .left), ← r .before .before .two-at .ensures, ← r .before .four-at .ensures, ← r .dam-in-range .ensures, not-false (r .dam-in-range .result) (c .if3 .left))
+    let e = r .before .before .before .before in
+    let f = e .before .before .before in
+    found damRecord (f .find .ensures) (not-false (f .find .result .found) (e .if1 .left))
+    (rw (← r .before .before .before .behind .ensures, ← r .before .before .two-at .ensures, ← r .before .four-at .ensures, ← r .dam-in-range .ensures, not-false (r .dam-in-range .result) (c .if2 .left)))
+    (rw (← r .before .before .before .behind .ensures, ← r .before .before .two-at .ensures, ← r .before .four-at .ensures))
+    refl
 
 pub read-dam-spec : {M : Type 1} → statement M
 read-dam-spec =
     tie.close
     (tie.spec
-    (λ marked-requires. search needs)
-    (λ no-dam-requires. search needs)
+    (λ find-requires. search needs)
     returns
-    (λ refuse-requires. search needs)
-    (λ no-dam-requires-2. search needs)
-    returns-2
+    (λ behind-requires. search needs)
     (λ two-at-requires. search needs)
     (λ four-at-requires. search needs)
     (λ dam-in-range-requires. search needs)
-    (λ refuse-requires-2. search needs)
-    (λ no-dam-requires-3. search needs)
-    returns-3
-    returns-4)
+    (λ refused-at-requires. search needs)
+    returns-2
+    returns-3)

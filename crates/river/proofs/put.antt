@@ -1,0 +1,2 @@
+-- Laws of records that are put.
+pub mod Spelling
