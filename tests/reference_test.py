@@ -738,9 +738,9 @@ def means_text(reaches, means, records):
 
 
 def towards_zero(total, volume):
-    """A quotient that is not rounded down below zero, and what is left over it."""
-    size, left = divmod(abs(total), volume)
-    return (-size if total < 0 else size), left
+    """A quotient that is not rounded down below zero, and its remainder."""
+    size, remainder = divmod(abs(total), volume)
+    return (-size if total < 0 else size), remainder
 
 
 def volume_of_all(reaches):

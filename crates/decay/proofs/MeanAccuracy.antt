@@ -7,7 +7,7 @@ use native.Mathlib.Omega.{arith}
 use lib.Dec.{lit<}
 use lib.Signed.{leZ-yes}
 use Rattle.decay.specs.Fraction.{Fraction, ofℕ, ofℤ, over, _+ᶠ_, _*ᶠ_, _÷_, _≈_, _≼_}
-use Rattle.decay.specs.Exact.{foot, exponent, sum, S, F}
+use Rattle.decay.specs.Exact.{steps, foot, exponent, sum, S, F}
 use Rattle.decay.specs.Integral.{meanS, meanF}
 use Rattle.decay.specs.Fixed.{one}
 use Rattle.decay.specs.held.Step.{RatesPass, stepOf, meanStepOf}
@@ -43,36 +43,36 @@ bod-sum {e = e} {e' = e'} b c =
     }
 
 -- an average is rounded down by at most a unit
-average-near : (n : ℕ) {s u : Fraction} → Within (share n) s u → Within (share (n / foot)) (s ÷ ofℕ foot) (u ÷ ofℕ foot +ᶠ eps)
+average-near : (n : ℕ) {s u : Fraction} → Within (share n) s u → Within (share (n / steps)) (s ÷ ofℕ steps) (u ÷ ofℕ steps +ᶠ eps)
 average-near n {s} {u} w =
     let t = part-share 1023 n in
-    let sf = ÷-cancel-pos s (positive-whole {n = foot} (lit< tt)) in
-    let uf = ÷-cancel-pos u (positive-whole {n = foot} (lit< tt)) in
+    let sf = ÷-cancel-pos s (positive-whole {n = steps} (lit< tt)) in
+    let uf = ÷-cancel-pos u (positive-whole {n = steps} (lit< tt)) in
     record {
       high =
-          certify-times 1023 (share n ∷ share (n / foot) ∷ s ∷ u ∷ (s ÷ ofℕ foot) ∷ (u ÷ ofℕ foot) ∷ eps ∷ []) (slack (w .high) ⊞ slack (t .low) ⊞ number 1024 ⊠ eps-nonneg ⊞ multiple (ofℕ 1) (≈-sym sf) ⊞ multiple (ofℕ 1) (≈-sym uf)) (search quote depth 40 fits 9999) tt;
+          certify-times 1023 (share n ∷ share (n / steps) ∷ s ∷ u ∷ (s ÷ ofℕ steps) ∷ (u ÷ ofℕ steps) ∷ eps ∷ []) (slack (w .high) ⊞ slack (t .low) ⊞ number 1024 ⊠ eps-nonneg ⊞ multiple (ofℕ 1) (≈-sym sf) ⊞ multiple (ofℕ 1) (≈-sym uf)) (search quote depth 40 fits 9999) tt;
       low =
-          certify-times 1023 (share n ∷ share (n / foot) ∷ s ∷ u ∷ (s ÷ ofℕ foot) ∷ (u ÷ ofℕ foot) ∷ eps ∷ []) (slack (w .low) ⊞ slack (t .high) ⊞ eps-nonneg ⊞ multiple (ofℕ 1) sf ⊞ multiple (ofℕ 1) (≈-sym uf)) (search quote depth 40 fits 9999) tt;
+          certify-times 1023 (share n ∷ share (n / steps) ∷ s ∷ u ∷ (s ÷ ofℕ steps) ∷ (u ÷ ofℕ steps) ∷ eps ∷ []) (slack (w .low) ⊞ slack (t .high) ⊞ eps-nonneg ⊞ multiple (ofℕ 1) sf ⊞ multiple (ofℕ 1) (≈-sym uf)) (search quote depth 40 fits 9999) tt;
     }
 
-bod-average : (a b : ℕ) {s f e : Fraction} → BodNear (share a) (share b) s f e → BodNear (share (a / foot)) (share (b / foot)) (s ÷ ofℕ foot) (f ÷ ofℕ foot) (e ÷ ofℕ foot +ᶠ ofℕ 2 *ᶠ eps)
+bod-average : (a b : ℕ) {s f e : Fraction} → BodNear (share a) (share b) s f e → BodNear (share (a / steps)) (share (b / steps)) (s ÷ ofℕ steps) (f ÷ ofℕ steps) (e ÷ ofℕ steps +ᶠ ofℕ 2 *ᶠ eps)
 bod-average a b {e = e} h =
     record {
-      u = h .u ÷ ofℕ foot +ᶠ eps;
-      v = h .v ÷ ofℕ foot +ᶠ eps;
+      u = h .u ÷ ofℕ steps +ᶠ eps;
+      v = h .v ÷ ofℕ steps +ᶠ eps;
       left-near = average-near a (h .left-near);
       turned-near = average-near b (h .turned-near);
       sum =
-          certify-by (h .u ∷ h .v ∷ e ∷ (h .u ÷ ofℕ foot) ∷ (h .v ÷ ofℕ foot) ∷ (e ÷ ofℕ foot) ∷ (ofℕ 1 ÷ ofℕ foot) ∷ eps ∷ []) (ofℕ 1 ⋅ ÷-reciprocal (h .u) (ofℕ foot) & ofℕ 1 ⋅ ÷-reciprocal (h .v) (ofℕ foot) & ofℕ 1 ⋅ ÷-reciprocal e (ofℕ foot) & none) (slack (h .sum) ⊠ ÷-nonneg (number 1) (number foot)) (search quote depth 40 fits 9999) tt;
+          certify-by (h .u ∷ h .v ∷ e ∷ (h .u ÷ ofℕ steps) ∷ (h .v ÷ ofℕ steps) ∷ (e ÷ ofℕ steps) ∷ (ofℕ 1 ÷ ofℕ steps) ∷ eps ∷ []) (ofℕ 1 ⋅ ÷-reciprocal (h .u) (ofℕ steps) & ofℕ 1 ⋅ ÷-reciprocal (h .v) (ofℕ steps) & ofℕ 1 ⋅ ÷-reciprocal e (ofℕ steps) & none) (slack (h .sum) ⊠ ÷-nonneg (number 1) (number steps)) (search quote depth 40 fits 9999) tt;
     }
 
 -- ---- figures
 
-demand-units : ofℕ (11264 * foot) *ᶠ eps ÷ ofℕ foot +ᶠ ofℕ 2 *ᶠ eps ≼ ofℕ 11266 *ᶠ eps
+demand-units : ofℕ (11264 * steps) *ᶠ eps ÷ ofℕ steps +ᶠ ofℕ 2 *ᶠ eps ≼ ofℕ 11266 *ᶠ eps
 unfolding _÷_ _*ᶠ_ _+ᶠ_ over ofℤ eps
 demand-units = record { across = leZ-yes tt }
 
-deficit-units : ofℕ (5120 * foot) *ᶠ eps ÷ ofℕ foot +ᶠ eps ≼ ofℕ 5121 *ᶠ eps
+deficit-units : ofℕ (5120 * steps) *ᶠ eps ÷ ofℕ steps +ᶠ eps ≼ ofℕ 5121 *ᶠ eps
 unfolding _÷_ _*ᶠ_ _+ᶠ_ over ofℤ eps
 deficit-units = record { across = leZ-yes tt }
 
@@ -119,9 +119,9 @@ module _ {N k k2 v Q : ℕ} (long : 40 ≤ N) (p : RatesPass k k2 v Q) (start : 
   part-sum : (a b : Fraction) → share start *ᶠ (a +ᶠ b) ≈ share start *ᶠ a +ᶠ share start *ᶠ b
   part-sum a b = ring (share start ∷ a ∷ b ∷ []) (search quote depth 40 fits 9999) tt
 
-  part-average : (a : Fraction) → share start *ᶠ (a ÷ ofℕ foot) ≈ share start *ᶠ a ÷ ofℕ foot
+  part-average : (a : Fraction) → share start *ᶠ (a ÷ ofℕ steps) ≈ share start *ᶠ a ÷ ofℕ steps
   part-average a =
-      ring-by (share start ∷ a ∷ (a ÷ ofℕ foot) ∷ (share start *ᶠ a ÷ ofℕ foot) ∷ (ofℕ 1 ÷ ofℕ foot) ∷ []) (share start ⋅ ÷-reciprocal a (ofℕ foot) & ofℕ 1 ⋅ ÷-reciprocal (share start *ᶠ a) (ofℕ foot) & none) (search quote depth 40 fits 9999) tt
+      ring-by (share start ∷ a ∷ (a ÷ ofℕ steps) ∷ (share start *ᶠ a ÷ ofℕ steps) ∷ (ofℕ 1 ÷ ofℕ steps) ∷ []) (share start ⋅ ÷-reciprocal a (ofℕ steps) & ofℕ 1 ⋅ ÷-reciprocal (share start *ᶠ a) (ofℕ steps) & none) (search quote depth 40 fits 9999) tt
 
   -- the sums up to an instant: 11,264 units for each
   demand-sum :
@@ -142,8 +142,8 @@ module _ {N k k2 v Q : ℕ} (long : 40 ≤ N) (p : RatesPass k k2 v Q) (start : 
   demand-average : BodNear (share (average .left)) (share (average .turned)) (share start *ᶠ averageOf Sm) (share start *ᶠ averageOf Fm) (ofℕ 11266 *ᶠ eps)
   demand-average =
       bod-weaken demand-units
-      (bod-by (≈-refl _) (≈-refl _) (part-average (sum Sm foot)) (part-average (sum Fm foot))
-      (bod-average (sumTo (λ m. at m .left) foot) (sumTo (λ m. at m .turned) foot) (demand-sum foot (le-refl foot))))
+      (bod-by (≈-refl _) (≈-refl _) (part-average (sum Sm steps)) (part-average (sum Fm steps))
+      (bod-average (sumTo (λ m. at m .left) steps) (sumTo (λ m. at m .turned) steps) (demand-sum foot (le-refl foot))))
 
   average-of-one : share (average .left) +ᶠ share (average .turned) ≼ ofℕ 1
   average-of-one =
@@ -154,7 +154,7 @@ module _ {N k k2 v Q : ℕ} (long : 40 ≤ N) (p : RatesPass k k2 v Q) (start : 
       BodNear (share (meanDemandOf start k k2 v Q .left)) (share (meanDemandOf start k k2 v Q .turned)) (share start *ᶠ meanS N k v Q) (share start *ᶠ meanF N k k2 v Q) (ofℕ 11266 *ᶠ eps +ᶠ ofℕ 11 *ᶠ eps)
   unfolding meanDemand
   demand-mean =
-      let mean = meanStepOf k k2 v Q in
+      let mean-step = meanStepOf k k2 v Q in
       let sound = mean-step-sound k k2 v Q p in
       let c = share start in
       let As = averageOf Sm in
@@ -162,14 +162,14 @@ module _ {N k k2 v Q : ℕ} (long : 40 ≤ N) (p : RatesPass k k2 v Q) (start : 
       let S₁ = firstS N k v Q in
       let F₁ = firstF N k k2 v Q in
       let S₂ = firstS N k2 v Q in
-      bod-advance (share (mean .lost)) (share (mean .spent)) (share (mean .filled)) S₁ F₁ S₂ (ofℕ 1 ÷ ofℕ (2 ^ 60)) (mean-step-near long p) rest
+      bod-advance (share (mean-step .lost)) (share (mean-step .spent)) (share (mean-step .filled)) S₁ F₁ S₂ (ofℕ 1 ÷ ofℕ (2 ^ 60)) (mean-step-near long p) rest
       (share-nonneg (average .left))
       (share-nonneg (average .turned))
       average-of-one
       few-demand
       demand-average
-      (left-moves mean average sound)
-      (turned-moves mean average sound)
+      (left-moves mean-step average sound)
+      (turned-moves mean-step average sound)
       (within-by (≈-refl _) (ring (c ∷ As ∷ S₁ ∷ []) (search quote depth 40 fits 9999) tt) (part-near long p start few-parts (S-mean long k v Q (p .flow-above) (p .k1-short))))
       (within-by (≈-refl _) (ring (c ∷ As ∷ Af ∷ F₁ ∷ S₂ ∷ []) (search quote depth 40 fits 9999) tt) (part-near long p start few-parts (F-mean long k k2 v Q (p .flow-above) (p .k1-range) (p .k1-short) (p .k2-short))))
 
@@ -193,19 +193,19 @@ module _ {N k1 k2 v Q : ℕ} (long : 40 ≤ N) (p : RatesPass k1 k2 v Q) where
       (one-more 5120 n)
 
   deficit-average : Within (share (averageFactors (stepOf k1 k2 v Q) .kept)) (averageOf Km) (ofℕ 5121 *ᶠ eps)
-  deficit-average = within-weaken (average-near (sumTo kept foot) (deficit-sum foot (le-refl foot))) deficit-units
+  deficit-average = within-weaken (average-near (sumTo kept steps) (deficit-sum foot (le-refl foot))) deficit-units
 
   deficit-mean : Within (share (meanFactorsOf k1 k2 v Q .kept)) (meanS N k2 v Q) (ofℕ 5121 *ᶠ eps +ᶠ ofℕ 5 *ᶠ eps)
   unfolding meanFactors
   deficit-mean =
-      let mean = meanStepOf k1 k2 v Q in
+      let mean-step = meanStepOf k1 k2 v Q in
       let f = averageFactors (stepOf k1 k2 v Q) in
-      deficit-advance (share (mean .lost)) (share (mean .spent)) (share (mean .filled)) (firstS N k1 v Q) (firstF N k1 k2 v Q) (firstS N k2 v Q) (ofℕ 1 ÷ ofℕ (2 ^ 60)) (mean-step-near long p) rest
+      deficit-advance (share (mean-step .lost)) (share (mean-step .spent)) (share (mean-step .filled)) (firstS N k1 v Q) (firstF N k1 k2 v Q) (firstS N k2 v Q) (ofℕ 1 ÷ ofℕ (2 ^ 60)) (mean-step-near long p) rest
       (share-nonneg (f .kept))
       (≼-trans (share-mono (average-range (step-sound k1 k2 v Q p) .deficit)) (≼-of-≈ share-one))
       few-deficit
       deficit-average
-      (kept-moves mean f (mean-step-sound k1 k2 v Q p))
+      (kept-moves mean-step f (mean-step-sound k1 k2 v Q p))
       (S-mean long k2 v Q (p .flow-above) (p .k2-short))
 
 -- ---- the promise

@@ -4,9 +4,12 @@ use Prim.Native.Nat.{ℕ, zero, suc, _*_}
 use lib.Dec.{eqb}
 use Rattle.decay.specs.Fraction.{Fraction, ofℕ, _+ᶠ_, -ᶠ_, _-ᶠ_, _*ᶠ_, _÷_}
 
--- the instants of a reach are those from 0, its head, to 1,024, its foot
+-- a reach is 1,024 steps, and its instants are those from 0, its head, to its foot
+abbrev pub steps : ℕ
+steps = 1_024
+
 abbrev pub foot : ℕ
-foot = 1_024
+foot = steps
 
 -- x1 or x2 at instant m: k × volume / (86,400 × Q), multiplied by m / 1024
 unfoldable pub exponent : (k volume Q m : ℕ) → Fraction

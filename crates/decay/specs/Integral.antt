@@ -4,7 +4,7 @@ use mathlib.Core.Bool.{cond}
 use Prim.Native.Nat.{ℕ, zero, suc}
 use lib.Dec.{eqb, ltb}
 use Rattle.decay.specs.Fraction.{Fraction, ofℕ, _-ᶠ_, _*ᶠ_, _÷_, _≈_}
-use Rattle.decay.specs.Exact.{foot, exponent, power, term, sum}
+use Rattle.decay.specs.Exact.{steps, foot, exponent, power, term, sum}
 
 -- the value of the first n terms at the time t
 unfoldable pub valueAt : (n : ℕ) → (ℕ → Fraction) → (t : Fraction) → Fraction
@@ -17,7 +17,7 @@ integral c (suc j) = c j ÷ ofℕ (suc j)
 
 -- the integral from head to foot of the first n terms, divided by the travel time
 unfoldable pub meanOf : (n : ℕ) → (ℕ → Fraction) → Fraction
-meanOf n c = valueAt (suc n) (integral c) (ofℕ foot) ÷ ofℕ foot
+meanOf n c = valueAt (suc n) (integral c) (ofℕ foot) ÷ ofℕ steps
 
 -- i is the integral of c: it is 0 at the head, and its derivative is c, coefficient by coefficient
 pub record IntegralOf (c i : ℕ → Fraction) : Type 0 where

@@ -6,8 +6,10 @@ ghost use Prim.Native.Nat.{_+_, _≤_};
 ghost use Rattle.decay.specs.Fixed.{one};
 ghost use Rattle.decay.specs.held.Factors.{SoundStep, AreShares, nextDemand, headFactors, nextFactors};
 
-// The instant of the foot: a reach is 1,024 steps.
-pub const FOOT: u64 = 1_024;
+// A reach is 1,024 steps, and its instants are those from 0, its head, to its foot.
+pub const STEPS: u64 = 1_024;
+
+pub const FOOT: u64 = STEPS;
 
 // A demand, such as BOD, in parts of 2^-44: what is left of it, and what of it has turned to deficit. It starts with at most one.
 pub struct DemandFactors {

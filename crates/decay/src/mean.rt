@@ -3,10 +3,11 @@ use crate::factors;
 use crate::factors::DemandFactors;
 use crate::factors::FOOT;
 use crate::factors::Factors;
+use crate::factors::STEPS;
 use crate::step::Step;
 ghost use mathlib.Core.Path.{_≡_};
 ghost use Prim.Native.Nat.{_/_, _≤_};
-ghost use Rattle.decay.specs.Exact.{foot};
+ghost use Rattle.decay.specs.Exact.{steps, foot};
 ghost use Rattle.decay.specs.Fixed.{one};
 ghost use Rattle.decay.specs.held.Factors.{SoundStep, nextDemand, nextFactors};
 ghost use Rattle.decay.specs.held.Mean.{nextDemandSums, nextFactorSums, DemandSummed, FactorsSummed, DemandSumsFit, FactorSumsFit};
@@ -61,15 +62,15 @@ pub fn demand_sums(step: Step, start: u64) -> DemandSums
 }
 
 // The mean of a demand, from its sums at the foot.
-pub fn mean_demand(mean: Step, d: DemandSums) -> DemandFactors
-    requires { ⌜ SoundStep mean × DemandSumsFit d ⌝ }
-    ensures { λ r. ⌜ r ≡ nextDemand mean (record { left = d .left / foot; turned = d .turned / foot }) ⌝ }
+pub fn mean_demand(mean_step: Step, d: DemandSums) -> DemandFactors
+    requires { ⌜ SoundStep «mean_step» × DemandSumsFit d ⌝ }
+    ensures { λ r. ⌜ r ≡ nextDemand «mean_step» (record { left = d .left / steps; turned = d .turned / steps }) ⌝ }
 {
     factors::next_demand(
-        mean,
+        mean_step,
         DemandFactors {
-            left: d.left / FOOT,
-            turned: d.turned / FOOT,
+            left: d.left / STEPS,
+            turned: d.turned / STEPS,
         },
     )
 }
@@ -108,16 +109,16 @@ pub fn factor_sums(step: Step) -> FactorSums
 }
 
 // The means of the factors, from their sums at the foot.
-pub fn mean_factors(mean: Step, f: FactorSums) -> Factors
-    requires { ⌜ SoundStep mean × FactorSumsFit f ⌝ }
-    ensures { λ r. ⌜ r ≡ nextFactors mean (record { left = f .left / foot; turned = f .turned / foot; kept = f .kept / foot }) ⌝ }
+pub fn mean_factors(mean_step: Step, f: FactorSums) -> Factors
+    requires { ⌜ SoundStep «mean_step» × FactorSumsFit f ⌝ }
+    ensures { λ r. ⌜ r ≡ nextFactors «mean_step» (record { left = f .left / steps; turned = f .turned / steps; kept = f .kept / steps }) ⌝ }
 {
     factors::next(
-        mean,
+        mean_step,
         Factors {
-            left: f.left / FOOT,
-            turned: f.turned / FOOT,
-            kept: f.kept / FOOT,
+            left: f.left / STEPS,
+            turned: f.turned / STEPS,
+            kept: f.kept / STEPS,
         },
     )
 }

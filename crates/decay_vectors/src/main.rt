@@ -19,13 +19,13 @@ fn line(label: &[u8], a: u64, b: u64, c: u64) {
 }
 
 // The factors so many steps further down.
-fn after(s: Step, from: Factors, steps: u32) -> Factors
+fn after(s: Step, from: Factors, foot: u32) -> Factors
     requires { ⌜ SoundStep s × AreShares from ⌝ }
     ensures { λ r. ⌜ AreShares r ⌝ }
 {
     let mut f = from;
     let mut i: u32 = 0;
-    while i < steps {
+    while i < foot {
         f = decay::factors::next(s, f);
         i = i + 1;
     }

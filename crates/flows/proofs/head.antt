@@ -4,4 +4,4 @@ pub mod Bounds
 pub mod Offset
 pub mod Stored
 pub mod Heads
-pub mod Feet
+pub mod Bringing

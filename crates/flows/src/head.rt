@@ -8,7 +8,7 @@ ghost use Rattle.flows.specs.Saturation.{saturationOf, pressureOf, Condi
 ghost use Rattle.flows.specs.Flow.{flowLimit};
 ghost use Rattle.flows.specs.Head.{floor, upstreamDemand, upstreamOxygen, belowDam, headDemand, headOxygen};
 ghost use Rattle.flows.specs.held.Stored.{oxygenOf, oxygenSumOf};
-ghost use Rattle.flows.specs.held.HeadTable.{PartOf, HeadReady, DemandReady, OxygenReady, noFeet, footOf, FootFits, broughtWith, broughtTo, BroughtFits, HeadInput, HeadOf};
+ghost use Rattle.flows.specs.held.HeadTable.{PartOf, HeadReady, DemandReady, OxygenReady, nothingBrought, broughtBy, BroughtWithFits, broughtWith, broughtTo, BroughtFits, HeadInput, HeadOf};
 use river::card::Card;
 use river::card::Dam;
 use river::card::REACHES;
@@ -32,8 +32,8 @@ pub struct Brought {
     pub used: bool,
 }
 
-// Tables of what the feet of the reaches above bring.
-pub struct FootTable {
+// Tables of what the reaches above bring.
+pub struct BroughtTable {
     pub bod: [u64; REACHES],
     pub nitrogenous: [u64; REACHES],
     pub oxygen: [u64; REACHES],
@@ -172,11 +172,11 @@ fn head_demand(source: Source, fed: bool, qu: u64, sum: u64) -> u32
         / (qu + inflow)) as u32
 }
 
-// The tables of no feet.
-pub fn no_feet() -> FootTable
-    ensures { λ r. ⌜ r ≡ noFeet ⌝ }
+// The tables of nothing brought.
+pub fn nothing_brought() -> BroughtTable
+    ensures { λ r. ⌜ r ≡ nothingBrought ⌝ }
 {
-    FootTable {
+    BroughtTable {
         bod: [0u64; REACHES],
         nitrogenous: [0u64; REACHES],
         oxygen: [0u64; REACHES],
@@ -185,9 +185,9 @@ pub fn no_feet() -> FootTable
 }
 
 // What a foot with these values brings. The report has the flow of an accepted river's reach.
-pub fn foot_of(flow: u32, bod: u32, nitrogenous: u32, oxygen: u32, used: bool) -> Brought
+pub fn brought_by(flow: u32, bod: u32, nitrogenous: u32, oxygen: u32, used: bool) -> Brought
     requires { ⌜ flow ≤ flowLimit ⌝ }
-    ensures { λ r. ⌜ r ≡ footOf flow bod nitrogenous oxygen used ⌝ }
+    ensures { λ r. ⌜ r ≡ broughtBy flow bod nitrogenous oxygen used ⌝ }
 {
     let flow = flow as u64;
     Brought {
@@ -198,9 +198,9 @@ pub fn foot_of(flow: u32, bod: u32, nitrogenous: u32, oxygen: u32, used: bool) -
     }
 }
 
-// What is brought with one more foot.
-fn with_foot(brought: Brought, bod: u64, nitrogenous: u64, oxygen: u64, used: bool) -> Brought
-    requires { ⌜ FootFits brought bod nitrogenous oxygen ⌝ }
+// What is brought with what one more feeder brings.
+fn brought_with(brought: Brought, bod: u64, nitrogenous: u64, oxygen: u64, used: bool) -> Brought
+    requires { ⌜ BroughtWithFits brought bod nitrogenous oxygen ⌝ }
     ensures { λ r. ⌜ r ≡ broughtWith brought bod nitrogenous oxygen used ⌝ }
 {
     Brought {
@@ -211,7 +211,7 @@ fn with_foot(brought: Brought, bod: u64, nitrogenous: u64, oxygen: u64, used: bo
     }
 }
 
-// What the feeders of reach i + 1 bring, by tables of outlets and of what each foot brings.
+// What the feeders of reach i + 1 bring, by tables of outlets and of what each reach brings.
 pub fn brought_to<'a>(
     outlet: &'a [u8; REACHES],
     bod: &'a [u64; REACHES],
@@ -233,7 +233,7 @@ pub fn brought_to<'a>(
     let mut j: usize = 0;
     while j < i {
         if outlet[j] == reach {
-            brought = with_foot(brought, bod[j], nitrogenous[j], oxygen[j], used[j]);
+            brought = brought_with(brought, bod[j], nitrogenous[j], oxygen[j], used[j]);
         }
         j = j + 1;
     }

@@ -4,18 +4,18 @@ ghost use lib.ListN.{length};
 ghost use Rattle.river.specs.Card.{Lawful, cardList};
 ghost use Rattle.flows.specs.Flow.{Flows};
 ghost use Rattle.flows.specs.held.FlowTable.{Tabled};
-ghost use Rattle.flows.specs.held.HeadTable.{FootWithin, HeadTabled};
+ghost use Rattle.flows.specs.held.HeadTable.{BroughtWithin, HeadTabled};
 use flows::accept::accept;
 use flows::flow::FlowTable;
 use flows::flow::reach_count;
 use flows::head::Brought;
-use flows::head::FootTable;
+use flows::head::BroughtTable;
 use flows::head::Head;
 use flows::head::STORED_ZERO;
+use flows::head::brought_by;
 use flows::head::brought_to;
-use flows::head::foot_of;
 use flows::head::head_of;
-use flows::head::no_feet;
+use flows::head::nothing_brought;
 use river::card::Cards;
 use river::refusal::Outcome;
 use river::refusal::Refusal;
@@ -64,24 +64,24 @@ fn less(demand: u32) -> u32
 }
 
 // Prints reach i + 1, and tells what its foot brings, which has this stored oxygen.
-fn reach(cards: Cards, flows: FlowTable, feet: FootTable, i: usize, oxygen: u32) -> Brought
-    requires { ⌜ HeadTabled (cardList cards) flows feet i ⌝ }
-    ensures { λ r. ⌜ FootWithin (cardList cards) i r ⌝ }
+fn reach(cards: Cards, flows: FlowTable, by_reach: BroughtTable, i: usize, oxygen: u32) -> Brought
+    requires { ⌜ HeadTabled (cardList cards) flows «by_reach» i ⌝ }
+    ensures { λ r. ⌜ BroughtWithin (cardList cards) i r ⌝ }
 {
     let card = cards.at[i];
     let flow = flows.flow[i];
     let depth = flows.depth[i];
     let sums = brought_to(
         &flows.outlet,
-        &feet.bod,
-        &feet.nitrogenous,
-        &feet.oxygen,
-        &feet.used,
+        &by_reach.bod,
+        &by_reach.nitrogenous,
+        &by_reach.oxygen,
+        &by_reach.used,
         i,
     );
     let head = head_of(card, 1 < depth, flows.upstream[i] as u64, sums);
     line(i + 1, depth, flow as u64, flows.mass[i], head);
-    foot_of(flow, less(head.bod), less(head.nitrogenous), oxygen, false)
+    brought_by(flow, less(head.bod), less(head.nitrogenous), oxygen, false)
 }
 
 // Stored foot oxygen of reach i + 1.
@@ -96,14 +96,14 @@ fn reaches(cards: Cards, flows: FlowTable, first: u32, step: u32)
     requires { ⌜ Lawful (cardList cards) × Flows (cardList cards) × Tabled (cardList cards) (length (cardList cards)) flows ⌝ }
 {
     let count = reach_count(cards.count);
-    let mut feet = no_feet();
+    let mut by_reach = nothing_brought();
     let mut i: usize = 0;
     while i < count {
-        let foot = reach(cards, flows, feet, i, foot_oxygen(first, step, i));
-        feet.bod[i] = foot.bod;
-        feet.nitrogenous[i] = foot.nitrogenous;
-        feet.oxygen[i] = foot.oxygen;
-        feet.used[i] = foot.used;
+        let brings = reach(cards, flows, by_reach, i, foot_oxygen(first, step, i));
+        by_reach.bod[i] = brings.bod;
+        by_reach.nitrogenous[i] = brings.nitrogenous;
+        by_reach.oxygen[i] = brings.oxygen;
+        by_reach.used[i] = brings.used;
         i = i + 1;
     }
 }

@@ -87,12 +87,12 @@ instant-bounded Q L c saturated r B G R T most mass deep k pQ pL pd ps sk pr r1 
     }
 
 -- a take leaves the concentrations, and of M no smaller a part than of the flow
-taken-bounded : (Qm Q h c mass left deep rest k : Fraction) → Positive Qm → Nonneg Q → Q *ᶠ mass ≼ Qm *ᶠ left → Q *ᶠ deep ≼ Qm *ᶠ rest
-    → Bounded (Qm *ᶠ h) (Qm *ᶠ c) Qm mass deep k → Bounded (Q *ᶠ h) (Q *ᶠ c) Q left rest k
-taken-bounded Qm Q h c mass left deep rest k p pQ hm hd b =
+taken-bounded : (Qm Q h c mass remaining deep rest k : Fraction) → Positive Qm → Nonneg Q → Q *ᶠ mass ≼ Qm *ᶠ remaining → Q *ᶠ deep ≼ Qm *ᶠ rest
+    → Bounded (Qm *ᶠ h) (Qm *ᶠ c) Qm mass deep k → Bounded (Q *ᶠ h) (Q *ᶠ c) Q remaining rest k
+taken-bounded Qm Q h c mass remaining deep rest k p pQ hm hd b =
     record {
-      demands-above = certify-over Qm p (Qm ∷ Q ∷ h ∷ mass ∷ left ∷ []) no-equations (slack hm ⊞ pQ ⊠ slack (b .demands-above)) (search quote depth 40 fits 9999) tt;
-      oxygen-below = certify-over Qm p (Qm ∷ Q ∷ h ∷ c ∷ mass ∷ left ∷ deep ∷ rest ∷ []) no-equations (slack hm ⊞ slack hd ⊞ pQ ⊠ slack (b .oxygen-below)) (search quote depth 40 fits 9999) tt;
+      demands-above = certify-over Qm p (Qm ∷ Q ∷ h ∷ mass ∷ remaining ∷ []) no-equations (slack hm ⊞ pQ ⊠ slack (b .demands-above)) (search quote depth 40 fits 9999) tt;
+      oxygen-below = certify-over Qm p (Qm ∷ Q ∷ h ∷ c ∷ mass ∷ remaining ∷ deep ∷ rest ∷ []) no-equations (slack hm ⊞ slack hd ⊞ pQ ⊠ slack (b .oxygen-below)) (search quote depth 40 fits 9999) tt;
       oxygen-above = certify-over Qm p (Qm ∷ Q ∷ c ∷ k ∷ []) no-equations (pQ ⊠ slack (b .oxygen-above)) (search quote depth 40 fits 9999) tt;
     }
 

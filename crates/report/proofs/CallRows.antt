@@ -3,7 +3,7 @@
 use mathlib.Core.Path.{_≡_, refl}
 use Prim.Native.Nat.{ℕ, _+_}
 use Rattle.river.specs.Refusal.{Answer, accepted, refused, refuse}
-use Rattle.report.specs.Call.{resultOf, leftBy}
+use Rattle.report.specs.Call.{resultOf, lentAfter}
 
 -- an accepted 3, and a refusal with number 4 at reach 2
 abbrev three : Answer ℕ
@@ -17,9 +17,9 @@ pub record CallRows : Type 0 where
   pub accepted-result : resultOf three ≡ 0
   pub refused-result : resultOf refusal ≡ 516
   -- what is accepted is written, and a refusal leaves what was there
-  pub written : leftBy _+_ three 4 ≡ 7
-  pub left : leftBy _+_ refusal 4 ≡ 4
+  pub written : lentAfter _+_ three 4 ≡ 7
+  pub untouched : lentAfter _+_ refusal 4 ≡ 4
 
 pub call-rows : CallRows
-unfolding resultOf leftBy
-call-rows = record { accepted-result = refl; refused-result = refl; written = refl; left = refl }
+unfolding resultOf lentAfter
+call-rows = record { accepted-result = refl; refused-result = refl; written = refl; untouched = refl }

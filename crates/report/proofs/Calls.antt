@@ -11,7 +11,7 @@ use Rattle.river.specs.declared.refusal.Refusal.{Refusal}
 use Rattle.river.specs.Refusal.{Answer, accepted, refused, outcomeOf, after as then}
 use Rattle.river.proofs.Answers.{never, after-accepted, after-refused}
 use Rattle.report.specs.held.Answers.{resultBy, Answers}
-use Rattle.report.specs.Call.{resultOf, leftBy, Called}
+use Rattle.report.specs.Call.{resultOf, lentAfter, Called}
 use Rattle.report.proofs.CallRows
 use Rattle.report.proofs.Calls.Numbers.{Numbered, read-refusal}
 
@@ -26,27 +26,27 @@ pub called :
     Numbered answer →
     (IsAccepted answer ↔ Exactly) →
     result ≡ resultOf answer →
-    after ≡ leftBy write answer before →
+    after ≡ lentAfter write answer before →
     Called answer write Exactly before after result
-unfolding resultOf leftBy
-called write (accepted a) numbered when e left =
+unfolding resultOf lentAfter
+called write (accepted a) numbered when e leaves =
     record {
       returns = e;
       refuses = λ h. absurd (h e);
       exactly = ((λ _. when .0 (record { value = a; is = refl })), λ _. e);
-      leaves = left;
-      writes = λ _. record { value = a; is = refl; written = left };
+      leaves = leaves;
+      writes = λ _. record { value = a; is = refl; written = leaves };
       untouched = λ h. absurd (h e);
     }
-called write {result = result} (refused r) numbered when e left =
+called write {result = result} (refused r) numbered when e leaves =
     let some : result ≡ 0 → ⊥ = λ z. omega (arith, numbered .0, z, e) in
     record {
       returns = e;
       refuses = read-refusal (refused r) numbered e;
       exactly = ((λ z. absurd (some z)), λ h. never (when .1 h .is));
-      leaves = left;
+      leaves = leaves;
       writes = λ z. absurd (some z);
-      untouched = λ _. left;
+      untouched = λ _. leaves;
     }
 
 -- ---- the program's own calls, below the entries
@@ -60,11 +60,11 @@ pub record Told {A B : Type 0} (answer : Answer A) (tell : A → B) (told : B) :
 module _ {A B Lent : Type 0} {answer : Answer A} {tell : A → B} {write : A → Lent → Lent} {outcome : Outcome} {told : B} {before : Lent} where
   -- a refusal, which leaves what was lent as it was
   pub answers-refusal : {r : Refusal} → answer ≡ refused r → outcome ≡ Outcome.Refused r → Answers answer tell write outcome told before before
-  unfolding leftBy
+  unfolding lentAfter
   answers-refusal e o =
       record {
         outcome-is = ap (λ (x : Outcome). outcomeOf x told) o ∙ sym (after-refused answer _ e);
-        leaves = sym (ap (λ (x : Answer A). leftBy write x before) e);
+        leaves = sym (ap (λ (x : Answer A). lentAfter write x before) e);
       }
 
   -- what was asked for
@@ -75,11 +75,11 @@ module _ {A B Lent : Type 0} {answer : Answer A} {tell : A → B} {write : A →
       told ≡ tell a →
       after ≡ write a before →
       Answers answer tell write outcome told before after
-  unfolding leftBy
+  unfolding lentAfter
   answers-value e o t w =
       record {
         outcome-is = ap₂ outcomeOf o t ∙ sym (after-accepted answer _ e);
-        leaves = w ∙ sym (ap (λ (x : Answer A). leftBy write x before) e);
+        leaves = w ∙ sym (ap (λ (x : Answer A). lentAfter write x before) e);
       }
 
 -- the result by an outcome is that by the answer

@@ -31,7 +31,7 @@ use Rattle.report.specs.Program.{oxygenAt, criticalOxygen, usedAbove, st
 use Rattle.report.specs.Distance.{allowanceAt, WithinAllowance}
 use Rattle.report.specs.Record.{hasNitrification, complement, fromComplement, recordSize, recordAt, readRecord, Figures}
 use Rattle.report.specs.held.Answers.{resultBy, ReportTold, AnswersReport}
-use Rattle.report.specs.Call.{resultOf, leftBy}
+use Rattle.report.specs.Call.{resultOf, lentAfter}
 use Rattle.report.specs.Report.{recordOf, reportSize, roomAnswer, reportAnswer, bufferReported, figuresRead, Accepted, UsedUpAbove, TellsReach, Reports}
 use Rattle.report.specs.Ties.{Tied}
 use Rattle.report.specs.held.Lines.{Ready}
@@ -92,11 +92,11 @@ answers file {room} river =
 -- the record of each reach of a reported river stands at its place
 pub record-stands :
     (file before : List ℕ) {after : List ℕ} →
-    after ≡ leftBy bufferReported (reportAnswer file (length before)) before →
+    after ≡ lentAfter bufferReported (reportAnswer file (length before)) before →
     (river : Accepted file (length before)) (i : ℕ) →
     i < length (river .cards) →
     Begins (recordOf (river .cards) i) (recordAt (recordSize (river .cards)) after i)
-unfolding leftBy
+unfolding lentAfter
 record-stands file before buffer river i l =
     rw (buffer, answers file river)
     (stands (recordOf (river .cards)) (recordSize (river .cards)) (λ j. record-length (hasNitrification (river .cards)) (reportedAt (river .cards) (suc j))) (length (river .cards)) i (drop (reportSize (river .cards)) before) l)
@@ -114,7 +114,7 @@ unfolding reportAnswer roomAnswer
 numbered file room = next (acceptFile file) _ (accept-numbered file) (λ _. search (needs, lit<))
 
 module _ (file before : List ℕ) where
-  module _ (bytes : AreBytes file) {after : List ℕ} (buffer : after ≡ leftBy bufferReported (reportAnswer file (length before)) before) (river : Accepted file (length before)) where
+  module _ (bytes : AreBytes file) {after : List ℕ} (buffer : after ≡ lentAfter bufferReported (reportAnswer file (length before)) before) (river : Accepted file (length before)) where
     is-river : IsRiver (river .cards)
     is-river = river-of-file file bytes (river .passes)
 
@@ -178,7 +178,7 @@ pub reports-of :
     (file before after : List ℕ) (result : ℕ) →
     AreBytes file →
     result ≡ resultOf (reportAnswer file (length before)) →
-    after ≡ leftBy bufferReported (reportAnswer file (length before)) before →
+    after ≡ lentAfter bufferReported (reportAnswer file (length before)) before →
     Reports file before after result
 reports-of file before after result bytes answer buffer =
     record {

@@ -25,7 +25,7 @@ use Rattle.flows.proofs.Acceptance.{accepts-exactly}
 use Rattle.river.proofs.Answers.{passed, went, need-true, need-false, after-accepted, after-refused}
 use Rattle.report.specs.Record.{complement, fromComplement}
 use Rattle.report.specs.held.Answers.{resultBy, MeansTold, AnswersMeans}
-use Rattle.report.specs.Call.{resultOf, leftBy}
+use Rattle.report.specs.Call.{resultOf, lentAfter}
 use Rattle.report.specs.Report.{firstRows}
 use Rattle.report.specs.Distance.{allowanceAt}
 use Rattle.report.specs.ExactMean.{exactMeanOxygen}
@@ -108,7 +108,7 @@ tabled-bytes {cards} t = same-rows (length cards) (λ i l. ap (λ (z : ℤ). fou
 pub table-written :
     (before : List ℕ) {after : List ℕ} {cards : List Card} {count : ℕ} {t : MeanTable} →
     count ≡ length cards →
-    after ≡ firstRows (storedRow (t .mean)) count ++ drop (meanBytes * count) before →
+    after ≡ firstRows (storedRow (t .stored)) count ++ drop (meanBytes * count) before →
     AllAveraged cards t →
     after ≡ bufferAveraged cards before
 table-written before n b h = rw (n, tabled-bytes (h .tabled)) at b
@@ -128,18 +128,18 @@ mean-back : (z : ℤ) (post : List ℕ) → fromComplement (complement z) ≡ z 
 mean-back z post e = simp (div-add-mod', e)
 
 -- the buffer among all that was lent
-buffer-left : (x : Answer (List Card)) (before : MeansLent) → leftBy meansWritten x before .buffer ≡ leftBy bufferAveraged x (before .buffer)
-unfolding leftBy
-buffer-left (accepted cards) before = refl
-buffer-left (refused r) before = refl
+buffer-after : (x : Answer (List Card)) (before : MeansLent) → lentAfter meansWritten x before .buffer ≡ lentAfter bufferAveraged x (before .buffer)
+unfolding lentAfter
+buffer-after (accepted cards) before = refl
+buffer-after (refused r) before = refl
 
-module _ (file before : List ℕ) (bytes : AreBytes file) {after : List ℕ} (buffer : after ≡ leftBy bufferAveraged (meanAnswer file (length before)) before) (river : Averaged file (length before)) where
+module _ (file before : List ℕ) (bytes : AreBytes file) {after : List ℕ} (buffer : after ≡ lentAfter bufferAveraged (meanAnswer file (length before)) before) (river : Averaged file (length before)) where
   is-river : IsRiver (river .cards)
   is-river = river-of-file file bytes (river .passes)
 
   -- the mean in the bytes is that of the reach
   mean-read : (i : ℕ) → i < length (river .cards) → meanRead after i ≡ meanAt (river .cards) (suc i)
-  unfolding meanRead leftBy
+  unfolding meanRead lentAfter
   mean-read i l =
       let r = mean-in-range is-river i l in
       let s : Begins (meanRow (river .cards) i) (drop (meanBytes * i) after) = rw (buffer, averaged file river) (stands (meanRow (river .cards)) meanBytes (λ j. refl) (length (river .cards)) i (drop (meansSize (river .cards)) before) l) in
@@ -186,33 +186,33 @@ pub means-of :
     (file before after : List ℕ) (units₀ units : ℤ) (remainder₀ remainder result : ℕ) →
     AreBytes file →
     result ≡ resultOf (meanAnswer file (length before)) →
-    lent after units remainder ≡ leftBy meansWritten (meanAnswer file (length before)) (lent before units₀ remainder₀) →
+    lent after units remainder ≡ lentAfter meansWritten (meanAnswer file (length before)) (lent before units₀ remainder₀) →
     Means file before after units₀ units remainder₀ remainder result
-unfolding leftBy
-means-of file before after units₀ units remainder₀ remainder result bytes answer left =
+unfolding lentAfter
+means-of file before after units₀ units remainder₀ remainder result bytes answer leaves =
     let x = meanAnswer file (length before) in
-    let buffer : after ≡ leftBy bufferAveraged x before = ap (λ (l : MeansLent). l .buffer) left ∙ buffer-left x _ in
+    let buffer : after ≡ lentAfter bufferAveraged x before = ap (λ (l : MeansLent). l .buffer) leaves ∙ buffer-after x _ in
     record {
-      call = called meansWritten x (numbered file (length before)) (answered file, λ river. record { value = river .cards; is = averaged file river }) answer left;
+      call = called meansWritten x (numbered file (length before)) (answered file, λ river. record { value = river .cards; is = averaged file river }) answer leaves;
       lawful = λ cards. accepts-exactly file cards bytes;
       each = tells-mean file before bytes buffer;
       all =
           λ river.
           tells-river-mean file before bytes buffer river units remainder
-          (ap (λ (l : MeansLent). l .mean) left ∙ ap (λ (a : Answer (List Card)). leftBy meansWritten a (lent before units₀ remainder₀) .mean) (averaged file river));
+          (ap (λ (l : MeansLent). l .mean) leaves ∙ ap (λ (a : Answer (List Card)). lentAfter meansWritten a (lent before units₀ remainder₀) .mean) (averaged file river));
     }
 
 -- the entry's contract for a refusal, and for means, by what the call below it answers
 module _ {file before after : List ℕ} (r : RiverMean) (bytes : AreBytes file) (h : AnswersMeans file before after r) where
   pub means-refusal : {result : ℕ} {refusal : Refusal} (units : ℤ) (remainder : ℕ) → r .outcome ≡ Outcome.Refused refusal → result ≡ resultBy (r .outcome) → Means file before after units units remainder remainder result
-  unfolding leftBy
+  unfolding lentAfter
   means-refusal {result} units remainder e c =
       let x = refusal-told (meanAnswer file (length before)) h e in
       means-of file before after units units remainder remainder result bytes (c ∙ result-is (r .outcome) h)
       (rw x (ap (λ (b : List ℕ). lent b units remainder) (rw x at (h .leaves))))
 
   pub means-river : (units units₀ : ℤ) (remainder₀ : ℕ) → r .outcome ≡ Outcome.Accepted → units ≡ oxygenOf (r .units) → Means file before after units₀ units remainder₀ (r .remainder) 0
-  unfolding resultOf leftBy
+  unfolding resultOf lentAfter
   means-river units units₀ remainder₀ e u =
       let t = value-told (meanAnswer file (length before)) h e in
       let mean : record { units = units; remainder = r .remainder } ≡ riverMean (t .value) = ap (λ (z : ℤ). record { units = z; remainder = r .remainder }) u ∙ ap (λ (m : MeansTold). m .mean) (t .told-is) in

@@ -11,7 +11,7 @@ use Rattle.river.specs.Refusal.{Answer, accepted, refused}
 use Rattle.river.specs.Rewrite.{rewriteAnswer, bufferRewritten, Rewritable, WritesBack}
 use Rattle.river.proofs.Answers.{never, no-refusal}
 use Rattle.report.specs.held.Answers.{resultBy}
-use Rattle.report.specs.Call.{resultOf, leftBy}
+use Rattle.report.specs.Call.{resultOf, lentAfter}
 use Rattle.report.specs.Rewrite.{fileWritten, Rewrites}
 use Rattle.report.proofs.Calls.{IsAccepted, called, outcome-result}
 use Rattle.report.proofs.Calls.Numbers.{Numbered, needs, next, read-numbered}
@@ -20,10 +20,10 @@ numbered : (file : List ℕ) (room : ℕ) → Numbered (rewriteAnswer file room)
 unfolding rewriteAnswer
 numbered file room = next (readFile file) _ (read-numbered file) (λ _. search (needs, lit<))
 
-left-written : (x : Answer Unit) (file before : List ℕ) → bufferRewritten x file before ≡ leftBy (λ _. fileWritten file) x before
-unfolding bufferRewritten leftBy
-left-written (accepted u) file before = refl
-left-written (refused r) file before = refl
+lent-rewritten : (x : Answer Unit) (file before : List ℕ) → bufferRewritten x file before ≡ lentAfter (λ _. fileWritten file) x before
+unfolding bufferRewritten lentAfter
+lent-rewritten (accepted u) file before = refl
+lent-rewritten (refused r) file before = refl
 
 module _ {file before after : List ℕ} where
   -- rewriting is accepted exactly where the file can be rewritten
@@ -35,4 +35,4 @@ module _ {file before after : List ℕ} where
   pub rewrites : {result : ℕ} (o : Outcome) → WritesBack file before o after → result ≡ resultBy o → Rewrites file before after result
   rewrites o w e =
       called (λ _. fileWritten file) (rewriteAnswer file (length before)) (numbered file (length before)) (rewritable o w)
-      (e ∙ outcome-result o tt ∙ ap resultOf (w .answer)) (w .buffer ∙ left-written (rewriteAnswer file (length before)) file before)
+      (e ∙ outcome-result o tt ∙ ap resultOf (w .answer)) (w .buffer ∙ lent-rewritten (rewriteAnswer file (length before)) file before)

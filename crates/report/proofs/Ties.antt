@@ -149,11 +149,11 @@ module _ {card : Card} {up : Feeders} (a : AcceptedReach card up) where
     reach-mean-stays =
         let Q = reachFlow card up in
         let n = rateOf Nitrogenous card in
-        let mean = mean-loses-nothing n (card .k2) (card .volume) Q (rates-pass a Nitrogenous) (h Nitrogenous) in
+        let mean-step = mean-loses-nothing n (card .k2) (card .volume) Q (rates-pass a Nitrogenous) (h Nitrogenous) in
         let step = step-loses-nothing n (card .k2) (card .volume) Q (rates-pass a Nitrogenous) (h Nitrogenous) in
         let kept = mean-deficit-tie (card .k1) (card .k2) (card .volume) Q (rates-pass a Bod) k in
         let nitrified : turnedMean card Q (demandAtHead Nitrogenous card up) ≡ 0 =
-        rw (mean-demand-kept (meanStepOf n (card .k2) (card .volume) Q) (stepOf n (card .k2) (card .volume) Q) (mean .0) (mean .1) (step .0) (step .1) (unitParts * demandAtHead Nitrogenous card up)) no-parts
+        rw (mean-demand-kept (meanStepOf n (card .k2) (card .volume) Q) (stepOf n (card .k2) (card .volume) Q) (mean-step .0) (mean-step .1) (step .0) (step .1) (unitParts * demandAtHead Nitrogenous card up)) no-parts
         in
         nothing-taken _ (saturationOf card) (demandAtHead Bod card up) (oxygenAtHead card up) (mean-bod-tie (card .k1) (card .k2) (card .volume) Q (rates-pass a Bod) (h Bod) .1) kept nitrified (tied-loss card Q _ middle kept s)
 

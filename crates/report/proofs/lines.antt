@@ -1,5 +1,5 @@
 -- Laws of the lines of a report.
 pub mod Lines
-pub mod Feet
+pub mod Bringing
 pub mod Used
 pub mod Reaches

@@ -13,9 +13,9 @@ resultOf (accepted a) = 0
 resultOf (refused r) = codeOf r
 
 -- what was lent, afterwards: written where the answer is accepted, and as it was after a refusal
-unfoldable pub leftBy : {A Lent : Type 0} → (write : A → Lent → Lent) → Answer A → (before : Lent) → Lent
-leftBy write (accepted a) before = write a before
-leftBy write (refused r) before = before
+unfoldable pub lentAfter : {A Lent : Type 0} → (write : A → Lent → Lent) → Answer A → (before : Lent) → Lent
+lentAfter write (accepted a) before = write a before
+lentAfter write (refused r) before = before
 
 -- the answer is accepted, and what was lent is written
 pub record IsWritten {A Lent : Type 0} (answer : Answer A) (write : A → Lent → Lent) (before after : Lent) : Type 0 where
@@ -32,7 +32,7 @@ pub record Called {A Lent : Type 0} (answer : Answer A) (write : A → Lent → 
   -- it is 0 exactly where this holds
   pub exactly : (result ≡ 0) ↔ Exactly
   -- all that was lent, by the answer
-  pub leaves : after ≡ leftBy write answer before
+  pub leaves : after ≡ lentAfter write answer before
   -- in short: a call that returns 0 writes it, and a refused call writes nothing
   pub writes : result ≡ 0 → IsWritten answer write before after
   pub untouched : (result ≡ 0 → ⊥) → after ≡ before

@@ -5,7 +5,7 @@ use mathlib.Core.Bool.{cond}
 use Prim.Native.Nat.{ℕ, suc, _*_}
 use lib.Dec.{eqb}
 use Rattle.decay.specs.Fraction.{Fraction, ofℕ, _-ᶠ_, _*ᶠ_, _÷_, _≈_}
-use Rattle.decay.specs.Exact.{foot, exponent}
+use Rattle.decay.specs.Exact.{steps, foot, exponent}
 use Rattle.decay.specs.Integral.{valueAt, integral, IntegralOf, meanOf, constant, timesTime, seriesTerms, shareTerms, allTerms}
 use Rattle.river.specs.declared.card.Card.{Card}
 use Rattle.river.specs.declared.source.Demand.the-variants.{Bod, Nitrogenous}
@@ -52,5 +52,5 @@ pub record IsMean (N : ℕ) (card : Card) (up : Feeders) : Type 0 where
   pub integrated : IntegralOf (oxygenTermsAt N card up) (integral (oxygenTermsAt N card up))
   pub mean :
       (card .volume ≡ 0 → ⊥) →
-      exactMeanOxygen N card up ≈ valueAt (suc (allTerms N)) (integral (oxygenTermsAt N card up)) (ofℕ foot) ÷ ofℕ foot
+      exactMeanOxygen N card up ≈ valueAt (suc (allTerms N)) (integral (oxygenTermsAt N card up)) (ofℕ foot) ÷ ofℕ steps
   pub still : card .volume ≡ 0 → exactMeanOxygen N card up ≈ exactOxygenAtHead N card up

@@ -54,7 +54,7 @@ pub record Weighted : Type 0 where
   pub units : ℤ
   pub remainder : ℕ
 
--- what is left of a signed number over a positive one that is rounded down: −(n + 1) over d leaves d − 1 − n mod d
+-- the remainder of a signed number over a positive one that is rounded down: −(n + 1) over d leaves d − 1 − n mod d
 unfoldable pub restOf : ℤ → ℕ → ℕ
 restOf (pos n) d = n % d
 restOf (negsuc n) d = d - 1 - n % d

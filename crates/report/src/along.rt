@@ -8,6 +8,7 @@ use crate::profile::UNIT_PARTS;
 use crate::status;
 use decay::factors::DemandFactors;
 use decay::factors::FOOT;
+use decay::factors::STEPS;
 use decay::fixed;
 use decay::mean as means_of;
 use decay::step;
@@ -31,7 +32,7 @@ ghost use Rattle.report.specs.Status.{isUsed};
 ghost use Rattle.report.specs.held.Along.{demandsAlong, AlongReady, AlongWith, AlongBelow, AlongHead, TellsNeverBelow};
 
 // The instant half way down a reach.
-const MIDDLE: u64 = FOOT / 2;
+const MIDDLE: u64 = STEPS / 2;
 
 // A demand in parts of a unit, at the foot of a reach and on average along it.
 pub struct DemandAlong {
@@ -67,12 +68,12 @@ pub fn nitrogenous_along(card: Card, flow: u32, start: u64) -> DemandAlong
         };
     }
     let step = step::step_of(rate, card.k2, card.volume, flow);
-    let mean = step::mean_step_of(rate, card.k2, card.volume, flow);
+    let mean_step = step::mean_step_of(rate, card.k2, card.volume, flow);
     let sums = means_of::demand_sums(step, start);
     let reached = sums.reached;
     DemandAlong {
         foot: reached,
-        mean: means_of::mean_demand(mean, sums),
+        mean: means_of::mean_demand(mean_step, sums),
     }
 }
 

@@ -51,5 +51,5 @@ pub fn loss_with(f: Factors, bed: Bed, m: u64) -> u64
     requires { ⌜ AreShares f × LossInRange f bed m ⌝ }
     ensures { λ r. ⌜ r ≡ lossWith f bed m ⌝ }
 {
-    fixed::product(fixed::ONE - f.kept, bed.eventual) + bed.linear * m / factors::FOOT
+    fixed::product(fixed::ONE - f.kept, bed.eventual) + bed.linear * m / factors::STEPS
 }

@@ -117,7 +117,7 @@ pub fn report_reach(
 {
     let line = line_at(card, reach, brought);
     record::put_record(report, at, status::reported(line), nitrified);
-    head::foot_of(
+    head::brought_by(
         reach.flow,
         line.foot_bod,
         line.foot_nitrogenous,
@@ -133,7 +133,7 @@ pub fn report_all(cards: Cards, flows: FlowTable, nitrified: bool, report: &mut 
 {
     let count = flow::reach_count(cards.count);
     let size = record::record_bytes(nitrified);
-    let mut feet = head::no_feet();
+    let mut by_reach = head::nothing_brought();
     let mut i: usize = 0;
     while i < count {
         let card = cards.at[i];
@@ -144,17 +144,17 @@ pub fn report_all(cards: Cards, flows: FlowTable, nitrified: bool, report: &mut 
         };
         let brought = head::brought_to(
             &flows.outlet,
-            &feet.bod,
-            &feet.nitrogenous,
-            &feet.oxygen,
-            &feet.used,
+            &by_reach.bod,
+            &by_reach.nitrogenous,
+            &by_reach.oxygen,
+            &by_reach.used,
             i,
         );
-        let foot = report_reach(card, reach, brought, nitrified, report, size * i);
-        feet.bod[i] = foot.bod;
-        feet.nitrogenous[i] = foot.nitrogenous;
-        feet.oxygen[i] = foot.oxygen;
-        feet.used[i] = foot.used;
+        let brings = report_reach(card, reach, brought, nitrified, report, size * i);
+        by_reach.bod[i] = brings.bod;
+        by_reach.nitrogenous[i] = brings.nitrogenous;
+        by_reach.oxygen[i] = brings.oxygen;
+        by_reach.used[i] = brings.used;
         i = i + 1;
     }
 }

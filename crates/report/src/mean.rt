@@ -33,13 +33,13 @@ pub const MEAN_SIZE: usize = 4;
 
 // What the foot of a reach brings, and beside it the stored mean oxygen of the reach as it is reported.
 pub struct ReachMean {
-    pub foot: Brought,
+    pub brings: Brought,
     pub mean: u32,
 }
 
 // The stored means of the reaches of a river, and their sums.
 pub struct MeanTable {
-    pub mean: [u32; REACHES],
+    pub stored: [u32; REACHES],
     pub weights: Weights,
 }
 
@@ -60,7 +60,7 @@ pub fn average_reach(card: Card, reach: ReachFlows, brought: Brought) -> ReachMe
     let p = along::along_of(card, reach.flow, head);
     let used = along::is_used_up(card, reach.flow, reach.depth, head, p, brought.used);
     ReachMean {
-        foot: head::foot_of(
+        brings: head::brought_by(
             reach.flow,
             p.foot_bod,
             p.foot_nitrogenous,
@@ -77,8 +77,8 @@ pub fn average_all(cards: Cards, flows: FlowTable) -> MeanTable
     ensures { λ r. ⌜ AllAveraged (cardList cards) r ⌝ }
 {
     let count = flow::reach_count(cards.count);
-    let mut feet = head::no_feet();
-    let mut mean = [0u32; REACHES];
+    let mut by_reach = head::nothing_brought();
+    let mut stored = [0u32; REACHES];
     let mut weights = weights::no_weights();
     let mut i: usize = 0;
     while i < count {
@@ -90,24 +90,24 @@ pub fn average_all(cards: Cards, flows: FlowTable) -> MeanTable
         };
         let brought = head::brought_to(
             &flows.outlet,
-            &feet.bod,
-            &feet.nitrogenous,
-            &feet.oxygen,
-            &feet.used,
+            &by_reach.bod,
+            &by_reach.nitrogenous,
+            &by_reach.oxygen,
+            &by_reach.used,
             i,
         );
         let averaged = average_reach(card, reach, brought);
-        let foot = averaged.foot;
-        feet.bod[i] = foot.bod;
-        feet.nitrogenous[i] = foot.nitrogenous;
-        feet.oxygen[i] = foot.oxygen;
-        feet.used[i] = foot.used;
-        mean[i] = averaged.mean;
+        let brings = averaged.brings;
+        by_reach.bod[i] = brings.bod;
+        by_reach.nitrogenous[i] = brings.nitrogenous;
+        by_reach.oxygen[i] = brings.oxygen;
+        by_reach.used[i] = brings.used;
+        stored[i] = averaged.mean;
         let volume = status::counted(brought.used, card.volume);
         weights = weights::weigh(weights, volume, averaged.mean);
         i = i + 1;
     }
-    MeanTable { mean, weights }
+    MeanTable { stored, weights }
 }
 
 // Puts the first stored means of a table in their places.
@@ -152,7 +152,7 @@ pub fn mean(file: &[u8], means: &mut [u8]) -> RiverMean
             if weights.volume == 0 {
                 return refused(refusal::refuse(16, 0));
             }
-            put_table(means, &table.mean, count);
+            put_table(means, &table.stored, count);
             let q = weights::divide(weights);
             RiverMean {
                 outcome,

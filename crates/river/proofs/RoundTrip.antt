@@ -116,7 +116,7 @@ accepted-outcome (Outcome.Refused r) a e = never e
 
 -- Rewriting a file.
 
-module _ (file before left : List ℕ) (o : Outcome) (bytes : AreBytes file) (answer : outcomeOf o tt ≡ rewriteAnswer file (length before)) where
+module _ (file before exit : List ℕ) (o : Outcome) (bytes : AreBytes file) (answer : outcomeOf o tt ≡ rewriteAnswer file (length before)) where
   only-rewritable : o ≡ Outcome.Accepted → Rewritable file (length before)
   unfolding rewriteAnswer
   only-rewritable e =
@@ -128,7 +128,7 @@ module _ (file before left : List ℕ) (o : Outcome) (bytes : AreBytes file) (an
   unfolding rewriteAnswer
   all-rewritable w = accepted-outcome o tt (answer ∙ after-accepted _ _ (reads-exactly file (w .river) bytes .1 (w .is-file)) ∙ need-true _ _ _ _ (le-leb _ _ (w .holds)))
 
-  writes-back : left ≡ bufferRewritten (rewriteAnswer file (length before)) file before → WritesBack file before o left
+  writes-back : exit ≡ bufferRewritten (rewriteAnswer file (length before)) file before → WritesBack file before o exit
   writes-back buffer = record { answer = answer; exactly = (only-rewritable, all-rewritable); buffer = buffer }
 
 -- the outcome of a writing, its length aside
@@ -159,9 +159,9 @@ module _ {file : List ℕ} {r : Reading} (bytes : AreBytes file) (reads : Reads 
       writes-back file before before (r .outcome) bytes (ap (λ (o : Outcome). outcomeOf o tt) e ∙ sym same) (sym (ap (λ (a : Answer Unit). bufferRewritten a file before) same))
 
   -- THEOREM: writing what was read gives the same bytes, or 12 where the buffer is shorter
-  pub written-back : {before left : List ℕ} {w : Written} {o : Outcome} → r .outcome ≡ Outcome.Accepted → Writes (length (cardList (r .cards))) (riverRead r) before w left → endOf w ≡ o → WritesBack file before o left
+  pub written-back : {before exit : List ℕ} {w : Written} {o : Outcome} → r .outcome ≡ Outcome.Accepted → Writes (length (cardList (r .cards))) (riverRead r) before w exit → endOf w ≡ o → WritesBack file before o exit
   unfolding rewriteAnswer
-  written-back {before} {left} {w} {o} e writes end =
+  written-back {before} {exit} {w} {o} e writes end =
       let x = riverRead r in
       let test = leb (length file) (length before) in
       let read : readFile file ≡ accepted x = sym (reads .answer) ∙ ap (λ (y : Outcome). outcomeOf y x) e in
@@ -169,7 +169,7 @@ module _ {file : List ℕ} {r : Reading} (bytes : AreBytes file) (reads : Reads 
       let same : rewriteAnswer file (length before) ≡ need test 12 0 (accepted tt) = after-accepted _ _ read in
       let written : writtenOf w ≡ need test 12 0 (accepted (length file)) =
       writes .answer ∙ lawful-answer x (length before) (f .lawful) ∙ ap (λ (s : List ℕ). need (leb (length s) (length before)) 12 0 (accepted (length s))) (sym (f .bytes)) in
-      writes-back file before left o bytes (ap (λ (y : Outcome). outcomeOf y tt) (sym end) ∙ same-end test (length file) w written ∙ sym same)
+      writes-back file before exit o bytes (ap (λ (y : Outcome). outcomeOf y tt) (sym end) ∙ same-end test (length file) w written ∙ sym same)
       (writes .buffer ∙
       ap (λ (a : Answer ℕ). bufferWritten a x before) written ∙
       same-buffer test file before x (f .bytes) ∙
@@ -178,26 +178,26 @@ module _ {file : List ℕ} {r : Reading} (bytes : AreBytes file) (reads : Reads 
 -- Reading what was written.
 
 -- what was written lies within the buffer
-pub written-fits : (x : River) (before left : List ℕ) (w : Written) → Writes (length (x .cards)) x before w left → length left ≡ length before → WrittenFits w (length left)
-written-fits x before left (Written.Length l) writes e = omega (arith, has-room (length (x .cards)) x (length before) l (sym (writes .answer)) .1)
-written-fits x before left (Written.Refused r) writes e = tt
+pub written-fits : (x : River) (before exit : List ℕ) (w : Written) → Writes (length (x .cards)) x before w exit → length exit ≡ length before → WrittenFits w (length exit)
+written-fits x before exit (Written.Length l) writes e = omega (arith, has-room (length (x .cards)) x (length before) l (sym (writes .answer)) .1)
+written-fits x before exit (Written.Refused r) writes e = tt
 
 -- the answer of a writing and of the reading after it
-came-back : (x : River) (before left : List ℕ) (w : Written) → LoadsFit (x .cards) → Writes (length (x .cards)) x before w left → after (writtenOf w) (λ l. readFile (take l left)) ≡ riverBack x (length before)
+came-back : (x : River) (before exit : List ℕ) (w : Written) → LoadsFit (x .cards) → Writes (length (x .cards)) x before w exit → after (writtenOf w) (λ l. readFile (take l exit)) ≡ riverBack x (length before)
 unfolding bufferWritten
-came-back x before left (Written.Length l) h writes =
+came-back x before exit (Written.Length l) h writes =
     let p = writes-only-lawful x (length before) l h (sym (writes .answer)) in
     after-accepted _ _ refl ∙
     ap readFile (ap (take l) (writes .buffer) ∙ take-at (encode x) (drop l before) l (p .size)) ∙
     reads-lawful x (p .lawful) ∙
     sym (after-accepted _ _ (sym (writes .answer)))
-came-back x before left (Written.Refused r) h writes = after-refused _ _ refl ∙ sym (after-refused _ _ (sym (writes .answer)))
+came-back x before exit (Written.Refused r) h writes = after-refused _ _ refl ∙ sym (after-refused _ _ (sym (writes .answer)))
 
 -- THEOREM: reading what was written gives the same river
 pub reads-back :
-    {x : River} {before left : List ℕ} {w : Written} {r : Reading}
-    → LoadsFit (x .cards) → Writes (length (x .cards)) x before w left → Yields (after (writtenOf w) (λ l. readFile (take l left))) r → ReadsBack x before r left
-reads-back {x} {before} {left} {w} {r} h writes reads =
+    {x : River} {before exit : List ℕ} {w : Written} {r : Reading}
+    → LoadsFit (x .cards) → Writes (length (x .cards)) x before w exit → Yields (after (writtenOf w) (λ l. readFile (take l exit))) r → ReadsBack x before r exit
+reads-back {x} {before} {exit} {w} {r} h writes reads =
     record {
       answer = answer;
       exactly = (only, λ p. accepted-outcome (r .outcome) _ (answer ∙ after-accepted _ _ (writes-lawful x (length before) (p .lawful) (p .fits))));
@@ -206,7 +206,7 @@ reads-back {x} {before} {left} {w} {r} h writes reads =
     }
   where
     answer : answerOf r ≡ riverBack x (length before)
-    answer = reads .answer ∙ came-back x before left w h writes
+    answer = reads .answer ∙ came-back x before exit w h writes
 
     came : r .outcome ≡ Outcome.Accepted → riverBack x (length before) ≡ accepted (riverRead r)
     came e = sym answer ∙ ap (λ (o : Outcome). outcomeOf o (riverRead r)) e

@@ -52,6 +52,6 @@ abbrev pub marked : List ℕ → Mark → Bool
 marked s m = eqb (byteAt s 0) (m .first) && eqb (byteAt s 1) (m .second)
 
 -- bytes are put at a place of a buffer, and the rest of it is kept; the next place is behind them
-pub record Put (before : List ℕ) (at : ℕ) (bytes left : List ℕ) (next : ℕ) : Type 0 where
-  pub buffer : left ≡ sets before at bytes
+pub record Put (before : List ℕ) (at : ℕ) (bytes exit : List ℕ) (next : ℕ) : Type 0 where
+  pub buffer : exit ≡ sets before at bytes
   pub place : next ≡ at + length bytes

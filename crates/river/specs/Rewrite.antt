@@ -30,12 +30,12 @@ pub record Rewritable (file : List ℕ) (room : ℕ) : Type 0 where
   pub holds : length file ≤ room
 
 -- a file is read and written back: the outcome, when it is accepted, and the whole buffer
-pub record WritesBack (file before : List ℕ) (o : Outcome) (left : List ℕ) : Type 0 where
+pub record WritesBack (file before : List ℕ) (o : Outcome) (exit : List ℕ) : Type 0 where
   pub answer : outcomeOf o tt ≡ rewriteAnswer file (length before)
   pub exactly : (o ≡ Outcome.Accepted) ↔ Rewritable file (length before)
-  pub buffer : left ≡ bufferRewritten (rewriteAnswer file (length before)) file before
+  pub buffer : exit ≡ bufferRewritten (rewriteAnswer file (length before)) file before
 
--- what a writing has left lies within a buffer of so many bytes
+-- what a writing has put lies within a buffer of so many bytes
 abbrev pub WrittenFits : Written → ℕ → Type 0
 WrittenFits (Written.Length l) room = l ≤ room
 WrittenFits (Written.Refused r) room = Unit
@@ -45,8 +45,8 @@ abbrev pub riverBack : River → ℕ → Answer River
 riverBack x room = after (writeAnswer (length (x .cards)) x room) (λ _. accepted x)
 
 -- a river is written and its file is read: the reading, when it is accepted, the river that it has, and the whole buffer
-pub record ReadsBack (x : River) (before : List ℕ) (r : Reading) (left : List ℕ) : Type 0 where
+pub record ReadsBack (x : River) (before : List ℕ) (r : Reading) (exit : List ℕ) : Type 0 where
   pub answer : answerOf r ≡ riverBack x (length before)
   pub exactly : (r .outcome ≡ Outcome.Accepted) ↔ HasRoom x (length before) (length (encode x))
   pub same : r .outcome ≡ Outcome.Accepted → riverRead r ≡ x
-  pub buffer : left ≡ bufferWritten (writeAnswer (length (x .cards)) x (length before)) x before
+  pub buffer : exit ≡ bufferWritten (writeAnswer (length (x .cards)) x (length before)) x before

@@ -82,9 +82,9 @@ writtenOf (Written.Length l) = accepted l
 writtenOf (Written.Refused r) = refused r
 
 -- what a write of a river with n reaches is: its answer and the whole buffer
-pub record Writes (n : ℕ) (r : River) (before : List ℕ) (w : Written) (left : List ℕ) : Type 0 where
+pub record Writes (n : ℕ) (r : River) (before : List ℕ) (w : Written) (exit : List ℕ) : Type 0 where
   pub answer : writtenOf w ≡ writeAnswer n r (length before)
-  pub buffer : left ≡ bufferWritten (writtenOf w) r before
+  pub buffer : exit ≡ bufferWritten (writtenOf w) r before
 
 -- what writing accepts: a lawful river whose file has room
 pub record HasRoom (r : River) (room l : ℕ) : Type 0 where

@@ -34,7 +34,7 @@ pub fn rewrite(file: &[u8], out: &mut [u8]) -> Outcome
     }
 }
 
-// The file that a writing has left at the start of a buffer is read, or the writing's refusal is handed on.
+// The file that a writing has put at the start of a buffer is read, or the writing's refusal is handed on.
 fn read_written(w: Written, out: &[u8]) -> Reading
     requires { ⌜ WrittenFits w (length (now out)) ⌝ }
     ensures { λ r. ⌜ Yields (after (writtenOf w) (λ l. readFile (take l (now (out .entry))))) r ⌝ }

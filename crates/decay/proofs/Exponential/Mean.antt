@@ -5,7 +5,7 @@ use Prim.Native.Nat.{ℕ, zero, suc, _*_, _^_, _≤_, _<_}
 use native.Mathlib.Omega.{arith}
 use lib.Dec.{lit<}
 use Rattle.decay.specs.Fraction.{Fraction, ofℕ, _+ᶠ_, -ᶠ_, _-ᶠ_, _*ᶠ_, _÷_, _≈_, _≼_}
-use Rattle.decay.specs.Exact.{foot, sum, exponent, S, F}
+use Rattle.decay.specs.Exact.{steps, foot, sum, exponent, S, F}
 use Rattle.decay.specs.Integral.{valueAt, integral, meanOf, IntegralOf, seriesTerms, shareTerms, allTerms, meanS, meanF}
 use Rattle.decay.proofs.Algebra.{≈-refl, ≈-sym, ≈-trans, +ᶠ-cong, *ᶠ-cong, -ᶠ-cong, quote, ring, ring-by, none, _&_, _⋅_, slack, number, _⊞_, _⊠_, multiple, certify, certify-times, positive-whole, ÷-cancel-pos, ÷-cong, ÷-reciprocal, Small, Within, sized, small-weaken, _⊞ˢ_, within-by, ofℕ-suc}
 use Rattle.decay.proofs.Exponential.Terms.{S-cong}
@@ -46,7 +46,7 @@ firstF N k1 k2 v Q = valueAt (suc (allTerms N)) (integral (shareTerms N k1 k2 v 
 
 -- the average over the instants before the foot
 abbrev pub averageOf : (ℕ → Fraction) → Fraction
-averageOf f = sum f foot ÷ ofℕ foot
+averageOf f = sum f steps ÷ ofℕ steps
 
 -- ---- steps summed up
 
@@ -60,25 +60,25 @@ gathered a g b z (suc n) h =
     (gathered a g b z n (λ m l. h m (omega arith)) ⊞ˢ h n (omega arith))
 
 -- then a at the foot over its time is the average of g, up to b
-averaged : (a g : ℕ → Fraction) (b : Fraction) → a 0 ≈ ofℕ 0 → ((m : ℕ) → suc m ≤ foot → Small (a (suc m) -ᶠ a m -ᶠ g m) b) → Within (a foot ÷ ofℕ foot) (averageOf g) b
+averaged : (a g : ℕ → Fraction) (b : Fraction) → a 0 ≈ ofℕ 0 → ((m : ℕ) → suc m ≤ foot → Small (a (suc m) -ᶠ a m -ᶠ g m) b) → Within (a foot ÷ ofℕ steps) (averageOf g) b
 averaged a g b z h =
     let s = gathered a g b z foot h in
-    let p = ÷-cancel-pos (a foot) (positive-whole {n = foot} (lit< tt)) in
-    let q = ÷-cancel-pos (sum g foot) (positive-whole {n = foot} (lit< tt)) in
+    let p = ÷-cancel-pos (a foot) (positive-whole {n = steps} (lit< tt)) in
+    let q = ÷-cancel-pos (sum g steps) (positive-whole {n = steps} (lit< tt)) in
     record {
-      high = certify-times 1_023 (b ∷ a foot ∷ sum g foot ∷ (a foot ÷ ofℕ foot) ∷ averageOf g ∷ []) (slack (s .high) ⊞ multiple (ofℕ 1) p ⊞ multiple (ofℕ 1) (≈-sym q)) (search quote depth 40 fits 9999) tt;
-      low = certify-times 1_023 (b ∷ a foot ∷ sum g foot ∷ (a foot ÷ ofℕ foot) ∷ averageOf g ∷ []) (slack (s .low) ⊞ multiple (ofℕ 1) (≈-sym p) ⊞ multiple (ofℕ 1) q) (search quote depth 40 fits 9999) tt;
+      high = certify-times 1_023 (b ∷ a foot ∷ sum g steps ∷ (a foot ÷ ofℕ steps) ∷ averageOf g ∷ []) (slack (s .high) ⊞ multiple (ofℕ 1) p ⊞ multiple (ofℕ 1) (≈-sym q)) (search quote depth 40 fits 9999) tt;
+      low = certify-times 1_023 (b ∷ a foot ∷ sum g steps ∷ (a foot ÷ ofℕ steps) ∷ averageOf g ∷ []) (slack (s .low) ⊞ multiple (ofℕ 1) (≈-sym p) ⊞ multiple (ofℕ 1) q) (search quote depth 40 fits 9999) tt;
     }
 
 average-scale : (c : Fraction) (f : ℕ → Fraction) → averageOf (λ m. c *ᶠ f m) ≈ averageOf f *ᶠ c
 average-scale c f =
-    ring-by (c ∷ averageOf f ∷ averageOf (λ m. c *ᶠ f m) ∷ sum f foot ∷ sum (λ m. c *ᶠ f m) foot ∷ (ofℕ 1 ÷ ofℕ foot) ∷ [])
-    (ofℕ 1 ⋅ ÷-reciprocal (sum (λ m. c *ᶠ f m) foot) (ofℕ foot) & c ⋅ ÷-reciprocal (sum f foot) (ofℕ foot) & (ofℕ 1 ÷ ofℕ foot) ⋅ sum-scale c f foot & none) (search quote depth 40 fits 9999) tt
+    ring-by (c ∷ averageOf f ∷ averageOf (λ m. c *ᶠ f m) ∷ sum f steps ∷ sum (λ m. c *ᶠ f m) steps ∷ (ofℕ 1 ÷ ofℕ steps) ∷ [])
+    (ofℕ 1 ⋅ ÷-reciprocal (sum (λ m. c *ᶠ f m) steps) (ofℕ steps) & c ⋅ ÷-reciprocal (sum f steps) (ofℕ steps) & (ofℕ 1 ÷ ofℕ steps) ⋅ sum-scale c f foot & none) (search quote depth 40 fits 9999) tt
 
 average-add : (f g : ℕ → Fraction) → averageOf (λ m. f m +ᶠ g m) ≈ averageOf f +ᶠ averageOf g
 average-add f g =
-    ring-by (averageOf f ∷ averageOf g ∷ averageOf (λ m. f m +ᶠ g m) ∷ sum f foot ∷ sum g foot ∷ sum (λ m. f m +ᶠ g m) foot ∷ (ofℕ 1 ÷ ofℕ foot) ∷ [])
-    (ofℕ 1 ⋅ ÷-reciprocal (sum (λ m. f m +ᶠ g m) foot) (ofℕ foot) & ofℕ 1 ⋅ ÷-reciprocal (sum f foot) (ofℕ foot) & ofℕ 1 ⋅ ÷-reciprocal (sum g foot) (ofℕ foot) & (ofℕ 1 ÷ ofℕ foot) ⋅ sum-add f g foot & none) (search quote depth 40 fits 9999) tt
+    ring-by (averageOf f ∷ averageOf g ∷ averageOf (λ m. f m +ᶠ g m) ∷ sum f steps ∷ sum g steps ∷ sum (λ m. f m +ᶠ g m) steps ∷ (ofℕ 1 ÷ ofℕ steps) ∷ [])
+    (ofℕ 1 ⋅ ÷-reciprocal (sum (λ m. f m +ᶠ g m) steps) (ofℕ steps) & ofℕ 1 ⋅ ÷-reciprocal (sum f steps) (ofℕ steps) & ofℕ 1 ⋅ ÷-reciprocal (sum g steps) (ofℕ steps) & (ofℕ 1 ÷ ofℕ steps) ⋅ sum-add f g foot & none) (search quote depth 40 fits 9999) tt
 
 -- ---- the means from averages at one term more
 
@@ -89,7 +89,7 @@ pub S-mean : {N : ℕ} → 40 ≤ N → (k v Q : ℕ) → 0 < Q → k * v ≤ 34
     → Within (meanS N k v Q) (averageOf (λ m. S (suc N) (exponent k v Q m)) *ᶠ firstS N k v Q) (ofℕ 1 ÷ ofℕ (2 ^ 60))
 unfolding meanOf firstS
 S-mean {N} n k v Q p h =
-    within-by (÷-cong (series-integral N y (ofℕ foot)) (≈-refl (ofℕ foot)))
+    within-by (÷-cong (series-integral N y (ofℕ steps)) (≈-refl (ofℕ steps)))
     (≈-trans (*ᶠ-cong (≈-refl (averageOf (λ m. S (suc N) (exponent k v Q m)))) (series-integral N y (ofℕ 1))) (≈-sym (average-scale (upto N y (ofℕ 1)) (λ m. S (suc N) (exponent k v Q m)))))
     (averaged (λ m. upto N y (ofℕ m)) (λ m. upto N y (ofℕ 1) *ᶠ S (suc N) (exponent k v Q m)) (ofℕ 1 ÷ ofℕ (2 ^ 60)) (upto-head N y) step)
   where

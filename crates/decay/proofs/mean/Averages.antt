@@ -5,7 +5,7 @@ use Prim.Native.Nat.{ℕ, zero, suc, _+_, _*_, _≤_}
 use native.Mathlib.Nat.{le-trans, mul-le-mul, mul-le-mul-right}
 use native.Mathlib.Numerals.{add-one}
 use native.Mathlib.Omega.{arith}
-use Rattle.decay.specs.Exact.{foot}
+use Rattle.decay.specs.Exact.{steps, foot}
 use Rattle.decay.specs.Fixed.{one}
 use Rattle.decay.specs.held.Step.{RatesPass, stepOf, meanStepOf}
 use Rattle.decay.specs.held.Factors.{SoundStep, AreShares, nextDemand, demandFrom, demandIn, headFactors, nextFactors, factorsAt}
@@ -88,13 +88,13 @@ average-range {step} sound =
     }
 
 -- THEOREM: means are shares
-pub mean-demand-range : {mean step : Step} → SoundStep mean → SoundStep step → (start : ℕ) → meanDemand mean step start .left + meanDemand mean step start .turned ≤ start
+pub mean-demand-range : {mean-step step : Step} → SoundStep mean-step → SoundStep step → (start : ℕ) → meanDemand mean-step step start .left + meanDemand mean-step step start .turned ≤ start
 unfolding meanDemand
 mean-demand-range {step = step} sound-mean sound start =
     let k = moved (averageDemand start step) sound-mean in
     omega (arith, average-demand-range sound start)
 
-pub mean-range : {mean step : Step} → SoundStep mean → SoundStep step → AreShares (meanFactors mean step)
+pub mean-range : {mean-step step : Step} → SoundStep mean-step → SoundStep step → AreShares (meanFactors mean-step step)
 unfolding meanFactors
 mean-range sound-mean sound = next-range sound-mean (average-range sound)
 
@@ -103,9 +103,9 @@ abbrev averaged : (ℕ → DemandFactors) → DemandFactors
 averaged d = record { left = average (λ m. d m .left); turned = average (λ m. d m .turned) }
 
 -- the demand among the factors starts with one
-pub mean-starts-with-one : (mean step : Step) → demandIn (meanFactors mean step) ≡ meanDemand mean step one
+pub mean-starts-with-one : (mean-step step : Step) → demandIn (meanFactors mean-step step) ≡ meanDemand mean-step step one
 unfolding meanFactors nextFactors meanDemand
-mean-starts-with-one mean step = ap (λ (d : ℕ → DemandFactors). nextDemand mean (averaged d)) (fun-ext (starts-with-one step))
+mean-starts-with-one mean-step step = ap (λ (d : ℕ → DemandFactors). nextDemand mean-step (averaged d)) (fun-ext (starts-with-one step))
 
 -- at each instant before the foot, none later than 1,023, the head's deficit has lost at most 1,023 filled shares
 kept-sum : {step : Step} → SoundStep step → (m : ℕ) → m ≤ foot → m * one ≤ sumTo (λ i. factorsAt step i .kept) m + m * (1_023 * step .filled)
@@ -116,27 +116,27 @@ kept-sum {step} sound (suc m) l =
     omega (arith, kept-sum sound m (omega arith), deficit-lost sound m, mul-le-mul-right (step .filled) before)
 
 -- on average the head's deficit has lost at most as much as the foot may
-pub mean-deficit-lost : {mean step : Step} → SoundStep mean → SoundStep step → mean .filled ≤ step .filled → one ≤ meanFactors mean step .kept + foot * step .filled
+pub mean-deficit-lost : {mean-step step : Step} → SoundStep mean-step → SoundStep step → mean-step .filled ≤ step .filled → one ≤ meanFactors mean-step step .kept + steps * step .filled
 unfolding meanFactors nextFactors
-mean-deficit-lost {mean} {step} sound-mean sound h =
-    omega (arith, kept-sum sound foot (omega arith), share-below (averageFactors step .kept) (mean .filled) (average-range sound .deficit))
+mean-deficit-lost {mean-step} {step} sound-mean sound h =
+    omega (arith, kept-sum sound steps (omega arith), share-below (averageFactors step .kept) (mean-step .filled) (average-range sound .deficit))
 
 -- a demand of which nothing is lost stays what it is
-pub mean-demand-kept : (mean step : Step) → mean .lost ≡ 0 → mean .spent ≡ 0 → step .lost ≡ 0 → step .spent ≡ 0 → (start : ℕ) → meanDemand mean step start ≡ record { left = start; turned = 0 }
+pub mean-demand-kept : (mean-step step : Step) → mean-step .lost ≡ 0 → mean-step .spent ≡ 0 → step .lost ≡ 0 → step .spent ≡ 0 → (start : ℕ) → meanDemand mean-step step start ≡ record { left = start; turned = 0 }
 unfolding meanDemand demandFrom
-mean-demand-kept mean step a b c d start =
-    ap (λ (d : ℕ → DemandFactors). nextDemand mean (averaged d)) (fun-ext (demand-kept step c d start))
-    ∙ ap (nextDemand mean) (cc (average-same start, average-same 0))
-    ∙ demand-kept mean a b start 1
+mean-demand-kept mean-step step a b c d start =
+    ap (λ (d : ℕ → DemandFactors). nextDemand mean-step (averaged d)) (fun-ext (demand-kept step c d start))
+    ∙ ap (nextDemand mean-step) (cc (average-same start, average-same 0))
+    ∙ demand-kept mean-step a b start 1
 
 -- THEOREM: a rate k1 of 0, or no volume, keeps all BOD on average, and k2 likewise the head's deficit
 pub mean-bod-tie : (k1 k2 volume flow : ℕ) → RatesPass k1 k2 volume flow → k1 * volume ≡ 0 → (meanFactorsOf k1 k2 volume flow .left ≡ one) × (meanFactorsOf k1 k2 volume flow .turned ≡ 0)
 mean-bod-tie k1 k2 volume flow p h =
-    let mean = meanStepOf k1 k2 volume flow in
+    let mean-step = meanStepOf k1 k2 volume flow in
     let step = stepOf k1 k2 volume flow in
     let m = mean-loses-nothing k1 k2 volume flow p h in
     let s = step-loses-nothing k1 k2 volume flow p h in
-    let e = mean-starts-with-one mean step ∙ mean-demand-kept mean step (m .0) (m .1) (s .0) (s .1) one in
+    let e = mean-starts-with-one mean-step step ∙ mean-demand-kept mean-step step (m .0) (m .1) (s .0) (s .1) one in
     (ap (λ (d : DemandFactors). d .left) e, ap (λ (d : DemandFactors). d .turned) e)
 
 pub mean-deficit-tie : (k1 k2 volume flow : ℕ) → RatesPass k1 k2 volume flow → k2 * volume ≡ 0 → meanFactorsOf k1 k2 volume flow .kept ≡ one

@@ -2,7 +2,7 @@
 -- by the means over one step.
 use mathlib.Core.Path.{_≡_}
 use Prim.Native.Nat.{ℕ, zero, suc, _+_, _*_, _/_, _≤_}
-use Rattle.decay.specs.Exact.{foot}
+use Rattle.decay.specs.Exact.{steps}
 use Rattle.decay.specs.Fixed.{one}
 use Rattle.decay.specs.held.Step.{meanStepOf, stepOf}
 use Rattle.decay.specs.held.Factors.{AreShares, nextDemand, demandFrom, nextFactors, factorsAt}
@@ -19,7 +19,7 @@ sumTo f (suc m) = sumTo f m + f m
 
 -- the average over the instants before the foot, rounded down
 abbrev pub average : (ℕ → ℕ) → ℕ
-average f = sumTo f foot / foot
+average f = sumTo f steps / steps
 
 -- the average of a demand that starts with so many parts
 abbrev pub averageDemand : (start : ℕ) → Step → DemandFactors
@@ -35,12 +35,12 @@ averageFactors s =
     }
 
 -- the mean of a demand over a reach with this step and this mean step
-unfoldable pub meanDemand : (mean step : Step) (start : ℕ) → DemandFactors
-meanDemand mean step start = nextDemand mean (averageDemand start step)
+unfoldable pub meanDemand : (mean-step step : Step) (start : ℕ) → DemandFactors
+meanDemand mean-step step start = nextDemand mean-step (averageDemand start step)
 
 -- the means of the factors
-unfoldable pub meanFactors : (mean step : Step) → Factors
-meanFactors mean step = nextFactors mean (averageFactors step)
+unfoldable pub meanFactors : (mean-step step : Step) → Factors
+meanFactors mean-step step = nextFactors mean-step (averageFactors step)
 
 -- the means of the factors of a reach
 abbrev pub meanFactorsOf : (k1 k2 volume Q : ℕ) → Factors
@@ -80,9 +80,9 @@ pub record FactorsSummed (step : Step) (m : ℕ) (s : FactorSums) : Type 0 where
 -- sums of at most 1,024 instants
 pub record DemandSumsFit (d : DemandSums) : Type 0 where
   pub reached : d .reached .left + d .reached .turned ≤ one
-  pub sums : d .left + d .turned ≤ foot * one
+  pub sums : d .left + d .turned ≤ steps * one
 
 pub record FactorSumsFit (f : FactorSums) : Type 0 where
   pub reached : AreShares (f .reached)
-  pub bod : f .left + f .turned ≤ foot * one
-  pub deficit : f .kept ≤ foot * one
+  pub bod : f .left + f .turned ≤ steps * one
+  pub deficit : f .kept ≤ steps * one

@@ -7,10 +7,10 @@ use Rattle.decay_vectors.proofs.after.Statement.{statement}
 use Rattle.decay_vectors.proofs.after.Tie as tie
 
 abbrev Inv-loop : tie.InvT-loop
-Inv-loop s steps f₀ i₀ f i = AreShares f × (i ≤ steps)
+Inv-loop s foot f₀ i₀ f i = AreShares f × (i ≤ foot)
 
 abbrev μ-loop : tie.MeasureT-loop
-μ-loop s steps f₀ i₀ f i = steps - i
+μ-loop s foot f₀ i₀ f i = foot - i
 
 loop-holds : tie.Need-loop-holds Inv-loop μ-loop
 loop-holds c = (c .pre .1, omega arith)

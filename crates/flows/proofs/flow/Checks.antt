@@ -155,8 +155,8 @@ module _ {cards : List Card} {i : ℕ} {t : FlowTable} (h : Underway cards i t �
             depth = λ a. no-refusal (sym a ∙ f);
           }
 
-      pub next-passed : {take left : ℕ} → take ≡ takeOf card → left ≡ remainingMass take (u .flow + card .inflow) (u .mass + own)
-          → NextChecked cards i (record { outcome = o; upstream = u .flow; flow = u .flow + card .inflow - take; mass = left; depth = u .deepest + 1 })
+      pub next-passed : {take remaining : ℕ} → take ≡ takeOf card → remaining ≡ remainingMass take (u .flow + card .inflow) (u .mass + own)
+          → NextChecked cards i (record { outcome = o; upstream = u .flow; flow = u .flow + card .inflow - take; mass = remaining; depth = u .deepest + 1 })
       next-passed et el =
           record {
             answer = next-answer;

@@ -16,9 +16,9 @@ by-min P a b p q = go (decLe a b)
     go (yes h) = rw (min-eq-left h) p
     go (no h) = let k : b ≤ a = omega arith in rw (min-eq-right k) q
 
--- where d is left of M by a take that draws w for each litre a second, and r of the flow, d is no smaller a part than r
-share-left : (r take w d : ℕ) → (r + take) * w ≤ d + take * w → r * (d + take * w) ≤ (r + take) * d
-share-left r take w d h =
+-- where d remains of M after a take that draws w for each litre a second, and r of the flow, d is no smaller a part than r
+share-remains : (r take w d : ℕ) → (r + take) * w ≤ d + take * w → r * (d + take * w) ≤ (r + take) * d
+share-remains r take w d h =
     let k : r * w ≤ d = omega arith in
     omega (arith, mul-le-mul-left take k)
 
@@ -34,14 +34,14 @@ remaining-scaled take Qm Mm l h = by-min (λ m. (Qm - take) * Mm ≤ Qm * m) _ _
 
     fallen : (Qm - take) * Mm ≤ Qm * (Mm - take * (Mm / Qm))
     fallen =
-        rw (flow, mass) at (share-left (Qm - take) take (Mm / Qm) (Mm - take * (Mm / Qm)) (rw (flow, mass) (mul-div-le Mm Qm)))
+        rw (flow, mass) at (share-remains (Qm - take) take (Mm / Qm) (Mm - take * (Mm / Qm)) (rw (flow, mass) (mul-div-le Mm Qm)))
 
     cut : (Qm - take) * Mm ≤ Qm * (massLimit * (Qm - take))
     cut = omega (arith, mul-le-mul-left (Qm - take) h)
 
--- so a value that Mm bounds before the take is bounded by M after it, where r is left of the flow
-pub still-within : (Qm r Mm left k b : ℕ) → 0 < Qm → r * Mm ≤ Qm * left → Qm * b ≤ k * Mm → r * b ≤ k * left
-still-within Qm r Mm left k b p h e =
+-- so a value that Mm bounds before the take is bounded by M after it, where r remains of the flow
+pub still-within : (Qm r Mm remaining k b : ℕ) → 0 < Qm → r * Mm ≤ Qm * remaining → Qm * b ≤ k * Mm → r * b ≤ k * remaining
+still-within Qm r Mm remaining k b p h e =
     le-of-mul-le-mul-left (omega (arith, mul-le-mul-left k h, mul-le-mul-left r e)) p
 
 -- THEOREM: without a take, and with a take of 0, flow and undecayed BOD of a reach that passes stay as they are

@@ -16,7 +16,7 @@ use Rattle.river.specs.declared.source.Demand.the-variants.{Bod, Nitrogenous}
 use Rattle.river.specs.declared.source.Source.{Source}
 use Rattle.flows.specs.declared.flow.FlowTable.{FlowTable}
 use Rattle.flows.specs.declared.head.Brought.{Brought}
-use Rattle.flows.specs.declared.head.FootTable.{FootTable}
+use Rattle.flows.specs.declared.head.BroughtTable.{BroughtTable}
 use Rattle.flows.specs.declared.head.Head.{Head}
 use Rattle.river.specs.Card.{blank}
 use Rattle.river.specs.Described.{InRange}
@@ -91,10 +91,10 @@ fedBy flows i = ltb 1 (getD (flows .depth) i 0)
 abbrev pub quBy : FlowTable → ℕ → ℕ
 quBy flows i = getD (flows .upstream) i 0
 
-abbrev pub broughtBy : FlowTable → FootTable → ℕ → Brought
-broughtBy flows feet i = broughtTo (flows .outlet) (feet .bod) (feet .nitrogenous) (feet .oxygen) (feet .used) i
+abbrev pub broughtByTables : FlowTable → BroughtTable → ℕ → Brought
+broughtByTables flows by-reach i = broughtTo (flows .outlet) (by-reach .bod) (by-reach .nitrogenous) (by-reach .oxygen) (by-reach .used) i
 
-module _ {cards : List Card} {flows : FlowTable} {feet : FootTable} {i : ℕ} (h : HeadTabled cards flows feet i) where
+module _ {cards : List Card} {flows : FlowTable} {by-reach : BroughtTable} {i : ℕ} (h : HeadTabled cards flows by-reach i) where
   -- the tables of the reaches before
   prior : Tabled cards i flows
   prior = first-tabled (le-of-lt (h .within)) (h .tabled)
@@ -103,20 +103,20 @@ module _ {cards : List Card} {flows : FlowTable} {feet : FootTable} {i : ℕ} (h
   here = h .sound .each i (h .within)
 
   -- what the feeders bring
-  sum-demands : feederSum (flows .outlet) (feet .bod) i + feederSum (flows .outlet) (feet .nitrogenous) i ≤ 1000 * massOf (above cards (suc i))
+  sum-demands : feederSum (flows .outlet) (by-reach .bod) i + feederSum (flows .outlet) (by-reach .nitrogenous) i ≤ 1000 * massOf (above cards (suc i))
   sum-demands =
       rw (sum-of-feeders masses-add (mass-table prior) (suc i)) at
-      (sums-scaled (flows .outlet) (feet .bod) (feet .nitrogenous) (flows .mass) 1000 i (suc i) (λ j l. rw (prior .mass j l) (h .carried .demands j l)))
+      (sums-scaled (flows .outlet) (by-reach .bod) (by-reach .nitrogenous) (flows .mass) 1000 i (suc i) (λ j l. rw (prior .mass j l) (h .carried .demands j l)))
 
-  sum-oxygen : feederSum (flows .outlet) (feet .oxygen) i ≤ storedLimit * flowOf (above cards (suc i))
+  sum-oxygen : feederSum (flows .outlet) (by-reach .oxygen) i ≤ storedLimit * flowOf (above cards (suc i))
   sum-oxygen =
       rw (sum-of-feeders flows-add (flow-table prior) (suc i)) at
-      (sum-scaled (flows .outlet) (feet .oxygen) (flows .flow) storedLimit i (suc i) (λ j l. rw (prior .flow j l) (h .carried .oxygen j l)))
+      (sum-scaled (flows .outlet) (by-reach .oxygen) (flows .flow) storedLimit i (suc i) (λ j l. rw (prior .flow j l) (h .carried .oxygen j l)))
 
   pub reach-few : i < 128
   reach-few = omega (arith, h .within, h .lawful .few)
 
-  pub sums-fit : BroughtFits (flows .outlet) (feet .bod) (feet .nitrogenous) (feet .oxygen) i
+  pub sums-fit : BroughtFits (flows .outlet) (by-reach .bod) (by-reach .nitrogenous) (by-reach .oxygen) i
   sums-fit =
       record {
         few = reach-few;
@@ -154,7 +154,7 @@ module _ {cards : List Card} {flows : FlowTable} {feet : FootTable} {i : ℕ} (h
 
   -- the same of the card that the program works with
   module _ {card : Card} (ec : card ≡ cardOf cards (suc i)) where
-    module _ {Qu : ℕ} {brought : Brought} (eq : Qu ≡ quBy flows i) (es : brought ≡ broughtBy flows feet i) where
+    module _ {Qu : ℕ} {brought : Brought} (eq : Qu ≡ quBy flows i) (es : brought ≡ broughtByTables flows by-reach i) where
       pub head-input : HeadInput card (fedBy flows i) Qu brought
       head-input =
           rw (es, eq, qu-here, fed-here, ec)

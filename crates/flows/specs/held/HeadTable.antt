@@ -1,4 +1,4 @@
--- The tables that the program keeps of the reaches' feet, and what the head of a reach needs and promises. Nothing here has to be believed
+-- The tables that the program keeps of what reaches bring, and what the head of a reach needs and promises. Nothing here has to be believed
 -- of the paper: laws tie the tables to its definitions.
 use mathlib.Core.Path.{_≡_}
 use mathlib.Core.Bool.{Bool, true, false, _||_}
@@ -12,7 +12,7 @@ use Rattle.river.specs.declared.source.Demand.the-variants.{Bod, Nitrogenous}
 use Rattle.river.specs.declared.source.Source.{Source}
 use Rattle.flows.specs.declared.flow.FlowTable.{FlowTable}
 use Rattle.flows.specs.declared.head.Brought.{Brought}
-use Rattle.flows.specs.declared.head.FootTable.{FootTable}
+use Rattle.flows.specs.declared.head.BroughtTable.{BroughtTable}
 use Rattle.flows.specs.declared.head.Head.{Head}
 use Rattle.river.specs.Card.{FieldsInRange, Lawful}
 use Rattle.flows.specs.Saturation.{SaturationInRange}
@@ -60,26 +60,26 @@ pub record OxygenReady (card : Card) (fed : Bool) (Qu sum : ℕ) : Type 0 where
   pub ready : HeadReady card fed Qu
   pub within : sum ≤ storedLimit * Qu
 
--- tables of no feet
-abbrev pub noFeet : FootTable
-noFeet = record { bod = replicate 128 0; nitrogenous = replicate 128 0; oxygen = replicate 128 0; used = replicate 128 false }
+-- tables of nothing brought
+abbrev pub nothingBrought : BroughtTable
+nothingBrought = record { bod = replicate 128 0; nitrogenous = replicate 128 0; oxygen = replicate 128 0; used = replicate 128 false }
 
 -- what a foot brings: flow × each demand and flow × stored oxygen, and whether oxygen is used up there or above
-abbrev pub footOf : (flow bod nitrogenous oxygen : ℕ) (used : Bool) → Brought
-footOf flow bod nitrogenous oxygen used =
+abbrev pub broughtBy : (flow bod nitrogenous oxygen : ℕ) (used : Bool) → Brought
+broughtBy flow bod nitrogenous oxygen used =
     record { bod = flow * bod; nitrogenous = flow * nitrogenous; oxygen = flow * oxygen; used = used }
 
--- tables with the foot of reach i + 1 entered
-abbrev pub withFoot : FootTable → ℕ → Brought → FootTable
-withFoot feet i foot =
+-- tables with what reach i + 1 brings entered
+abbrev pub broughtEntered : BroughtTable → ℕ → Brought → BroughtTable
+broughtEntered by-reach i brought =
     record {
-      bod = set (feet .bod) i (foot .bod);
-      nitrogenous = set (feet .nitrogenous) i (foot .nitrogenous);
-      oxygen = set (feet .oxygen) i (foot .oxygen);
-      used = set (feet .used) i (foot .used);
+      bod = set (by-reach .bod) i (brought .bod);
+      nitrogenous = set (by-reach .nitrogenous) i (brought .nitrogenous);
+      oxygen = set (by-reach .oxygen) i (brought .oxygen);
+      used = set (by-reach .used) i (brought .used);
     }
 
--- what is brought with one more foot, and what that needs
+-- what is brought with what one more feeder brings, and what that needs
 abbrev pub broughtWith : Brought → (bod nitrogenous oxygen : ℕ) (used : Bool) → Brought
 broughtWith brought bod nitrogenous oxygen used =
     record {
@@ -89,12 +89,12 @@ broughtWith brought bod nitrogenous oxygen used =
       used = used || brought .used;
     }
 
-pub record FootFits (brought : Brought) (QL QLn QC : ℕ) : Type 0 where
+pub record BroughtWithFits (brought : Brought) (QL QLn QC : ℕ) : Type 0 where
   pub bod : brought .bod + QL < 2 ^ 64
   pub nitrogenous : brought .nitrogenous + QLn < 2 ^ 64
   pub oxygen : brought .oxygen + QC < 2 ^ 64
 
--- what the feeders of reach i among the first n reaches bring, by tables of outlets and of what each foot brings
+-- what the feeders of reach i among the first n reaches bring, by tables of outlets and of what each reach brings
 abbrev pub broughtAmong : (outlets of-bod of-nitrogenous of-oxygen : List ℕ) (of-used : List Bool) (n i : ℕ) → Brought
 broughtAmong outlets of-bod of-nitrogenous of-oxygen of-used n i =
     record {
@@ -127,28 +127,28 @@ pub record HeadOf (card : Card) (fed : Bool) (Qu : ℕ) (brought : Brought) (r :
   pub nitrogenous : r .nitrogenous ≡ headDemand (sourceOf Nitrogenous card) fed Qu (brought .nitrogenous)
   pub oxygen : oxygenOf (r .oxygen) ≡ headOxygen card fed Qu (oxygenSumOf Qu (brought .oxygen))
 
--- the bounds that the foot of reach i + 1 has: flow × both demands is at most 1,000 × M, and stored oxygen fits four bytes
-pub record FootWithin (cards : List Card) (i : ℕ) (foot : Brought) : Type 0 where
-  pub demands : foot .bod + foot .nitrogenous ≤ 1_000 * massAt cards (suc i)
-  pub oxygen : foot .oxygen ≤ storedLimit * flowAt cards (suc i)
+-- the bounds of what reach i + 1 brings: flow × both demands is at most 1,000 × M, and stored oxygen fits four bytes
+pub record BroughtWithin (cards : List Card) (i : ℕ) (brought : Brought) : Type 0 where
+  pub demands : brought .bod + brought .nitrogenous ≤ 1_000 * massAt cards (suc i)
+  pub oxygen : brought .oxygen ≤ storedLimit * flowAt cards (suc i)
 
--- tables of 128 feet
-pub record FullFeet (feet : FootTable) : Type 0 where
-  pub bod : length (feet .bod) ≡ 128
-  pub nitrogenous : length (feet .nitrogenous) ≡ 128
-  pub oxygen : length (feet .oxygen) ≡ 128
-  pub used : length (feet .used) ≡ 128
+-- tables of 128 reaches
+pub record BroughtFull (by-reach : BroughtTable) : Type 0 where
+  pub bod : length (by-reach .bod) ≡ 128
+  pub nitrogenous : length (by-reach .nitrogenous) ≡ 128
+  pub oxygen : length (by-reach .oxygen) ≡ 128
+  pub used : length (by-reach .used) ≡ 128
 
--- tables of what the feet of the first n reaches bring, in these bounds
-pub record Carried (cards : List Card) (feet : FootTable) (n : ℕ) : Type 0 where
-  pub full : FullFeet feet
-  pub demands : (j : ℕ) → j < n → getD (feet .bod) j 0 + getD (feet .nitrogenous) j 0 ≤ 1_000 * massAt cards (suc j)
-  pub oxygen : (j : ℕ) → j < n → getD (feet .oxygen) j 0 ≤ storedLimit * flowAt cards (suc j)
+-- tables of what the first n reaches bring, in these bounds
+pub record Carried (cards : List Card) (by-reach : BroughtTable) (n : ℕ) : Type 0 where
+  pub full : BroughtFull by-reach
+  pub demands : (j : ℕ) → j < n → getD (by-reach .bod) j 0 + getD (by-reach .nitrogenous) j 0 ≤ 1_000 * massAt cards (suc j)
+  pub oxygen : (j : ℕ) → j < n → getD (by-reach .oxygen) j 0 ≤ storedLimit * flowAt cards (suc j)
 
--- the tables before the head of reach i + 1: an accepted river, its flows and the feet of the reaches before
-pub record HeadTabled (cards : List Card) (flows : FlowTable) (feet : FootTable) (i : ℕ) : Type 0 where
+-- the tables before the head of reach i + 1: an accepted river, its flows and what the reaches before bring
+pub record HeadTabled (cards : List Card) (flows : FlowTable) (by-reach : BroughtTable) (i : ℕ) : Type 0 where
   pub lawful : Lawful cards
   pub sound : Flows cards
   pub within : i < length cards
   pub tabled : Tabled cards (length cards) flows
-  pub carried : Carried cards feet i
+  pub carried : Carried cards by-reach i

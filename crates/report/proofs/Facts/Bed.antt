@@ -8,7 +8,7 @@ use native.Mathlib.Omega.{arith}
 use borrow.Author.Tests.{eqb-false}
 use lib.Dec.{eqb, lit<}
 use Rattle.decay.specs.Fraction.{Fraction, _≈_, _≼_, ofℕ, _+ᶠ_, -ᶠ_, _-ᶠ_, _*ᶠ_, _÷_, distance}
-use Rattle.decay.specs.Exact.{foot, exponent, S}
+use Rattle.decay.specs.Exact.{steps, foot, exponent, S}
 use Rattle.decay.specs.Fixed.{one, product}
 use Rattle.decay.specs.held.Promise.{share, deficitDistance}
 use Rattle.decay.proofs.fixed.Digits.{one-pos}
@@ -66,13 +66,13 @@ exact-eventual s k gone =
     ring-by (ofℕ s ∷ gone ∷ x ∷ c ∷ (ofℕ 1 ÷ ofℕ k) ∷ []) (ofℕ 1_000_000 ⋅ ÷-reciprocal (ofℕ s *ᶠ gone) (ofℕ k) & gone ⋅ ÷-reciprocal (ofℕ (1_000_000 * s)) (ofℕ k) & no-equations) (search quote depth 40 fits 9999) tt
 
 -- without aeration
-linear-loss : (SV Q m : ℕ) → 0 < Q → m ≤ foot → Within (ofℕ (SV * 625 / (54 * Q) * m / foot)) (ofℕ 1_000_000 *ᶠ (ofℕ (SV * m) ÷ ofℕ (86_400 * 1_024 * Q))) (ofℕ 2)
+linear-loss : (SV Q m : ℕ) → 0 < Q → m ≤ foot → Within (ofℕ (SV * 625 / (54 * Q) * m / steps)) (ofℕ 1_000_000 *ᶠ (ofℕ (SV * m) ÷ ofℕ (86_400 * 1_024 * Q))) (ofℕ 2)
 linear-loss SV Q m p l =
     let t = SV * 625 / (54 * Q) in
     let part = share-of m foot (lit< tt) l in
-    within-by (≈-refl (ofℕ (t * m / foot))) (exact-linear SV Q m p)
+    within-by (≈-refl (ofℕ (t * m / steps))) (exact-linear SV Q m p)
     (linear-near (part .0) (part .1) (quotient-floored (SV * 625) (omega arith))
-    (floored-by (≈-trans (÷-cong (ofℕ-* t m) (≈-refl (ofℕ foot))) (over-product (ofℕ t) (ofℕ m) (ofℕ foot))) (quotient-floored (t * m) (lit< tt))))
+    (floored-by (≈-trans (÷-cong (ofℕ-* t m) (≈-refl (ofℕ steps))) (over-product (ofℕ t) (ofℕ m) (ofℕ steps))) (quotient-floored (t * m) (lit< tt))))
 
 -- with aeration
 eventual-loss : (s k kept : ℕ) (S₂ : Fraction) → 0 < k → kept ≤ one → Within (share kept) S₂ deficitDistance → Within (ofℕ (product (one - kept) (1_000_000 * s / k))) (ofℕ 1_000_000 *ᶠ (ofℕ s *ᶠ (ofℕ 1 -ᶠ S₂) ÷ ofℕ k)) (ofℕ 2 +ᶠ deficitDistance *ᶠ ofℕ (1_000_000 * s / k + 1))
@@ -101,7 +101,7 @@ loss-by-near {card} {up} own f S₂ h near-deficit m l = by-case (eqb (card .k2)
     bed : Bool → Bed
     bed t = bedBy t (card .k2) s (card .volume) Q
 
-    by-case : (t : Bool) → eqb (card .k2) 0 ≡ t → Within (ofℕ (product (one - f .kept) (bed t .eventual) + bed t .linear * m / foot)) (ofℕ 1_000_000 *ᶠ cond t (ofℕ (s * card .volume * m) ÷ ofℕ (86_400 * 1_024 * Q)) (ofℕ s *ᶠ (ofℕ 1 -ᶠ S₂) ÷ ofℕ (card .k2))) (ofℕ 2 +ᶠ deficitDistance *ᶠ ofℕ (bed t .eventual + 1))
+    by-case : (t : Bool) → eqb (card .k2) 0 ≡ t → Within (ofℕ (product (one - f .kept) (bed t .eventual) + bed t .linear * m / steps)) (ofℕ 1_000_000 *ᶠ cond t (ofℕ (s * card .volume * m) ÷ ofℕ (86_400 * 1_024 * Q)) (ofℕ s *ᶠ (ofℕ 1 -ᶠ S₂) ÷ ofℕ (card .k2))) (ofℕ 2 +ᶠ deficitDistance *ᶠ ofℕ (bed t .eventual + 1))
     by-case true e =
         within-weaken
         (within-by (ofℕ-≈ (rw (product-zero (one - f .kept) 0 refl, zero-add))) (≈-refl _) (linear-loss (s * card .volume) Q m (flow-remains (own .flows)) l))

@@ -6,7 +6,7 @@ use Prim.Native.Nat.{ℕ, zero, suc, _*_, _≤_}
 use native.Mathlib.Omega.{arith}
 use lib.Dec.{eqb, lit<}
 use Rattle.decay.specs.Fraction.{Fraction, _≈_, ofℕ, _+ᶠ_, -ᶠ_, _-ᶠ_, _*ᶠ_, _÷_}
-use Rattle.decay.specs.Exact.{foot, exponent, power, sum}
+use Rattle.decay.specs.Exact.{steps, foot, exponent, power, sum}
 use Rattle.decay.specs.Integral.{valueAt, integral, meanOf, constant, timesTime, seriesTerms, shareTerms, allTerms}
 use Rattle.decay.proofs.Algebra.{quote, ring, ring-by, _⋅_, _&_, none as no-equations, ≈-refl, ≈-trans, *ᶠ-cong, positive-whole, ÷-cancel-pos, ÷-reciprocal}
 use Rattle.decay.proofs.Exponential.Sequence.{Same}
@@ -140,10 +140,10 @@ integral-line a (suc zero) = nothing-over (ofℕ 1)
 integral-line a (suc (suc zero)) = ≈-refl (a ÷ ofℕ 2)
 integral-line a (suc (suc (suc j))) = nothing-over (ofℕ (suc (suc (suc j))))
 
-over-foot : (a b : Fraction) → b ≈ ofℕ foot *ᶠ a → b ÷ ofℕ foot ≈ a
-over-foot a b e =
-    ≈-trans (÷-reciprocal b (ofℕ foot))
-    (ring-by (a ∷ b ∷ (ofℕ 1 ÷ ofℕ foot) ∷ []) ((ofℕ 1 ÷ ofℕ foot) ⋅ e & a ⋅ ÷-cancel-pos (ofℕ 1) (positive-whole {n = foot} (lit< tt)) & no-equations) (search quote depth 40 fits 9999) tt)
+over-steps : (a b : Fraction) → b ≈ ofℕ steps *ᶠ a → b ÷ ofℕ steps ≈ a
+over-steps a b e =
+    ≈-trans (÷-reciprocal b (ofℕ steps))
+    (ring-by (a ∷ b ∷ (ofℕ 1 ÷ ofℕ steps) ∷ []) ((ofℕ 1 ÷ ofℕ steps) ⋅ e & a ⋅ ÷-cancel-pos (ofℕ 1) (positive-whole {n = steps} (lit< tt)) & no-equations) (search quote depth 40 fits 9999) tt)
 
 module _ (N : ℕ) (some : 1 ≤ N) where
   -- THEOREM: the value at instant m is linear
@@ -165,19 +165,19 @@ module _ (N : ℕ) (some : 1 ≤ N) where
   mean-linear =
       record {
         combined = λ a b c f g h. over-combined a b _ _ _ (value-combined a b (integral c) (integral f) (integral g) (integral-combined a b c f g h) (suc (allTerms N)) (ofℕ foot));
-        still = λ a. over-foot a _ (value-line a (integral (constant a)) (integral-still a) N (ofℕ foot));
-        line = λ a. over-foot (ofℕ middle *ᶠ a) _ (line-up-to a N some);
+        still = λ a. over-steps a _ (value-line a (integral (constant a)) (integral-still a) N (ofℕ foot));
+        line = λ a. over-steps (ofℕ middle *ᶠ a) _ (line-up-to a N some);
       }
     where
-      over-combined : (a b x y z : Fraction) → x ≈ a *ᶠ y +ᶠ b *ᶠ z → x ÷ ofℕ foot ≈ a *ᶠ (y ÷ ofℕ foot) +ᶠ b *ᶠ (z ÷ ofℕ foot)
+      over-combined : (a b x y z : Fraction) → x ≈ a *ᶠ y +ᶠ b *ᶠ z → x ÷ ofℕ steps ≈ a *ᶠ (y ÷ ofℕ steps) +ᶠ b *ᶠ (z ÷ ofℕ steps)
       over-combined a b x y z e =
-          let r = ofℕ 1 ÷ ofℕ foot in
-          ring-by (a ∷ b ∷ x ∷ y ∷ z ∷ (x ÷ ofℕ foot) ∷ (y ÷ ofℕ foot) ∷ (z ÷ ofℕ foot) ∷ r ∷ []) (ofℕ 1 ⋅ ÷-reciprocal x (ofℕ foot) & a ⋅ ÷-reciprocal y (ofℕ foot) & b ⋅ ÷-reciprocal z (ofℕ foot) & r ⋅ e & no-equations) (search quote depth 40 fits 9999) tt
+          let r = ofℕ 1 ÷ ofℕ steps in
+          ring-by (a ∷ b ∷ x ∷ y ∷ z ∷ (x ÷ ofℕ steps) ∷ (y ÷ ofℕ steps) ∷ (z ÷ ofℕ steps) ∷ r ∷ []) (ofℕ 1 ⋅ ÷-reciprocal x (ofℕ steps) & a ⋅ ÷-reciprocal y (ofℕ steps) & b ⋅ ÷-reciprocal z (ofℕ steps) & r ⋅ e & no-equations) (search quote depth 40 fits 9999) tt
 
-      line-up-to : (a : Fraction) (n : ℕ) → 1 ≤ n → valueAt (suc (suc n)) (integral (timesTime (constant a))) (ofℕ foot) ≈ ofℕ foot *ᶠ (ofℕ middle *ᶠ a)
+      line-up-to : (a : Fraction) (n : ℕ) → 1 ≤ n → valueAt (suc (suc n)) (integral (timesTime (constant a))) (ofℕ foot) ≈ ofℕ steps *ᶠ (ofℕ middle *ᶠ a)
       line-up-to a zero h = absurd (omega arith)
       line-up-to a (suc n) h =
           let half = timesTime (constant (a ÷ ofℕ 2)) in
           let value = valueAt (suc (suc n)) half (ofℕ foot) in
           ≈-trans (value-times (integral (timesTime (constant a))) half (integral-line a) (suc (suc n)) (ofℕ foot))
-          (ring-by (a ∷ (a ÷ ofℕ 2) ∷ value ∷ []) (ofℕ foot ⋅ value-line (a ÷ ofℕ 2) half (λ j. ≈-refl (half j)) n (ofℕ foot) & ofℕ 524_288 ⋅ ÷-cancel-pos a (positive-whole {n = 2} (lit< tt)) & no-equations) (search quote depth 40 fits 9999) tt)
+          (ring-by (a ∷ (a ÷ ofℕ 2) ∷ value ∷ []) (ofℕ steps ⋅ value-line (a ÷ ofℕ 2) half (λ j. ≈-refl (half j)) n (ofℕ foot) & ofℕ 524_288 ⋅ ÷-cancel-pos a (positive-whole {n = 2} (lit< tt)) & no-equations) (search quote depth 40 fits 9999) tt)

@@ -3,7 +3,7 @@ use mathlib.Core.Path.{_≡_, sym, ap, ap₂, _∙_}
 use Prim.Native.Nat.{ℕ, _*_, _/_, _≤_, _<_}
 use native.Mathlib.Nat.{le-refl, zero-mul}
 use native.Mathlib.Omega.{arith}
-use Rattle.decay.specs.Exact.{foot}
+use Rattle.decay.specs.Exact.{steps, foot}
 use Rattle.decay.specs.Fixed.{one, product}
 use Rattle.decay.specs.held.Step.{RatesPass, stepOf, meanStepOf}
 use Rattle.decay.specs.held.Factors.{SoundStep, AreShares, nextDemand, nextFactors}
@@ -41,7 +41,7 @@ use Rattle.report.proofs.lines.Lines.{start-range, start-bed}
 pub sound : {step : Step} {k k2 volume flow : ℕ} → step ≡ stepOf k k2 volume flow → RatesPass k k2 volume flow → SoundStep step
 sound e p = rw e (step-sound _ _ _ _ p)
 
-pub mean-sound : {mean : Step} {k k2 volume flow : ℕ} → mean ≡ meanStepOf k k2 volume flow → RatesPass k k2 volume flow → SoundStep mean
+pub mean-sound : {mean-step : Step} {k k2 volume flow : ℕ} → mean-step ≡ meanStepOf k k2 volume flow → RatesPass k k2 volume flow → SoundStep mean-step
 mean-sound e p = rw e (mean-step-sound _ _ _ _ p)
 
 -- without nitrification all of a demand stays
@@ -54,7 +54,7 @@ idle-along card flow start z p =
     sym (ap₂ (λ (f d : DemandFactors). record { foot = f; mean = d }) (demand-kept _ (s .0) (s .1) start foot) (mean-demand-kept _ _ (m .0) (m .1) (s .0) (s .1) start))
 
 -- with it, its sums give foot and mean
-pub demands-made : (card : Card) (flow start : ℕ) {step mean : Step} (d : DemandSums) → step ≡ stepOf (rateOf Nitrogenous card) (card .k2) (card .volume) flow → mean ≡ meanStepOf (rateOf Nitrogenous card) (card .k2) (card .volume) flow → DemandSummed start step foot d → record { foot = d .reached; mean = nextDemand mean (record { left = d .left / foot; turned = d .turned / foot }) } ≡ demandsAlong card flow start
+pub demands-made : (card : Card) (flow start : ℕ) {step mean-step : Step} (d : DemandSums) → step ≡ stepOf (rateOf Nitrogenous card) (card .k2) (card .volume) flow → mean-step ≡ meanStepOf (rateOf Nitrogenous card) (card .k2) (card .volume) flow → DemandSummed start step foot d → record { foot = d .reached; mean = nextDemand mean-step (record { left = d .left / steps; turned = d .turned / steps }) } ≡ demandsAlong card flow start
 unfolding meanDemand
 demands-made card flow start d e m s = rw (m, s .left, s .turned, s .reached, e)
 
@@ -62,7 +62,7 @@ pub demand-sums-few : {start : ℕ} {step : Step} {d : DemandSums} → SoundStep
 demand-sums-few sound few s = demand-sums-fit sound few (le-refl foot) s
 
 -- the factors at the foot and the means, from the sums of a reach that is ready
-module _ {step mean : Step} {demand : DemandAlong} {start : Start} {bed : Bed} (r : AlongReady step mean demand start bed) {f : FactorSums} (s : FactorsSummed step foot f) where
+module _ {step mean-step : Step} {demand : DemandAlong} {start : Start} {bed : Bed} (r : AlongReady step mean-step demand start bed) {f : FactorSums} (s : FactorsSummed step foot f) where
   pub sums-fit : FactorSumsFit f
   sums-fit = factor-sums-fit (r .sound) (le-refl foot) s
 
@@ -72,8 +72,8 @@ module _ {step mean : Step} {demand : DemandAlong} {start : Start} {bed : Bed} (
   pub foot-bod-few : product (f .reached .left) (start .bod) ≤ 1_000_000_000
   foot-bod-few = omega (arith, share-below (f .reached .left) (start .bod) (omega (arith, sums-fit .reached .bod)), r .start-range .demands)
 
-  module _ {g : Factors} (e : g ≡ nextFactors mean (record { left = f .left / foot; turned = f .turned / foot; kept = f .kept / foot })) where
-    mean-is : g ≡ meanFactors mean step
+  module _ {g : Factors} (e : g ≡ nextFactors mean-step (record { left = f .left / steps; turned = f .turned / steps; kept = f .kept / steps })) where
+    mean-is : g ≡ meanFactors mean-step step
     unfolding meanFactors
     mean-is = e ∙ rw (s .left, s .turned, s .kept)
 
@@ -91,7 +91,7 @@ module _ {step mean : Step} {demand : DemandAlong} {start : Start} {bed : Bed} (
         oxygenOf (p .«foot_oxygen») ≡ oxygenOver start bed (f .reached) (demand .foot) foot →
         oxygenOf (p .mean) ≡ oxygenOver start bed g (demand .mean) middle →
         p .loss ≡ lossWith (f .reached) bed foot →
-        AlongWith step mean demand start bed p
+        AlongWith step mean-step demand start bed p
     along-made a b c d h =
         record {
           foot-bod = a ∙ ap (λ (x : Factors). product (x .left) (start .bod)) (s .reached);
@@ -102,12 +102,12 @@ module _ {step mean : Step} {demand : DemandAlong} {start : Start} {bed : Bed} (
         }
 
 -- the steps of a reach, its nitrogenous BOD, saturation and bed
-module _ (card : Card) (flow : ℕ) (head : Head) {step mean : Step} {demand : DemandAlong} {saturated : ℕ} {bed : Bed} (e : step ≡ stepOf (card .k1) (card .k2) (card .volume) flow) (m : mean ≡ meanStepOf (card .k1) (card .k2) (card .volume) flow) (d : demand ≡ demandsAlong card flow (unitParts * head .nitrogenous)) (t : saturated ≡ saturationOf card) (b : bed ≡ bedOf card flow) where
+module _ (card : Card) (flow : ℕ) (head : Head) {step mean-step : Step} {demand : DemandAlong} {saturated : ℕ} {bed : Bed} (e : step ≡ stepOf (card .k1) (card .k2) (card .volume) flow) (m : mean-step ≡ meanStepOf (card .k1) (card .k2) (card .volume) flow) (d : demand ≡ demandsAlong card flow (unitParts * head .nitrogenous)) (t : saturated ≡ saturationOf card) (b : bed ≡ bedOf card flow) where
   abbrev start : Start
   start = record { bod = head .bod; nitrogenous = head .nitrogenous; oxygen = head .oxygen; saturation = saturated }
 
   -- are what it asks
-  pub along-ready : LineReady card flow → HeadFits head → head .oxygen < 4_294_967_296 → AlongReady step mean demand start bed
+  pub along-ready : LineReady card flow → HeadFits head → head .oxygen < 4_294_967_296 → AlongReady step mean-step demand start bed
   along-ready p h fits =
       let rates = p .rates Bod in
       let other = p .rates Nitrogenous in
@@ -122,7 +122,7 @@ module _ (card : Card) (flow : ℕ) (head : Head) {step mean : Step} {demand : D
       }
 
   -- and give its figures
-  pub along-below : {p : ReachAlong} → AlongWith step mean demand start bed p → AlongBelow card flow (head .bod) (head .nitrogenous) (oxygenOf (head .oxygen)) p
+  pub along-below : {p : ReachAlong} → AlongWith step mean-step demand start bed p → AlongBelow card flow (head .bod) (head .nitrogenous) (oxygenOf (head .oxygen)) p
   unfolding demandAlong turnedAlong lossAlong oxygenAlong factorsAlong partsAlong meanAlong factorsMean turnedMean
   along-below {p} made =
       let h : AlongWith (stepOf (card .k1) (card .k2) (card .volume) flow) (meanStepOf (card .k1) (card .k2) (card .volume) flow) (demandsAlong card flow (unitParts * head .nitrogenous)) (record { bod = head .bod; nitrogenous = head .nitrogenous; oxygen = head .oxygen; saturation = saturationOf card }) (bedOf card flow) p = rw (e, m, d, t, b) at made in

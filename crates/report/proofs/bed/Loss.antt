@@ -7,7 +7,7 @@ use native.Mathlib.Nat.{div-le-of-le-mul, div-le-self, div-mul-le-self, le-of-mu
 use native.Mathlib.Omega.{arith}
 use lib.Dec.{eqb}
 use lib.IntN.{ℤ, pos, _-ℤ_, +ℤ-idr}
-use Rattle.decay.specs.Exact.{foot}
+use Rattle.decay.specs.Exact.{steps, foot}
 use Rattle.decay.specs.Fixed.{one, product}
 use Rattle.decay.specs.held.Step.{RatesPass, stepOf}
 use Rattle.decay.specs.held.Factors.{SoundStep, factorsAt}
@@ -65,11 +65,11 @@ tied-loss card Q f m h z = go (eqb (card .k2) 0)
     go false = still-loss f _ m h (zero-mul m)
 
 -- where the head's deficit has lost no more than the foot may, a bed in range takes no more than its limit
-loss-where : {f : Factors} {step : Step} {bed : Bed} → one ≤ f .kept + foot * step .filled → BedInRange step bed → (m : ℕ) → m ≤ foot → LossInRange f bed m
+loss-where : {f : Factors} {step : Step} {bed : Bed} → one ≤ f .kept + steps * step .filled → BedInRange step bed → (m : ℕ) → m ≤ foot → LossInRange f bed m
 unfolding lossWith product
 loss-where {f} {step} {bed} h r m l =
     let lost = one - f .kept in
-    let most : lost * bed .eventual ≤ foot * step .filled * bed .eventual = mul-le-mul-right (bed .eventual) (omega arith) in
+    let most : lost * bed .eventual ≤ steps * step .filled * bed .eventual = mul-le-mul-right (bed .eventual) (omega arith) in
     record {
       eventual = r .eventual;
       linear = omega (arith, r .loss);
@@ -82,7 +82,7 @@ pub loss-in-range : {step : Step} {bed : Bed} → SoundStep step → BedInRange 
 loss-in-range {step} sound r m l = loss-where (omega (arith, deficit-lost sound m, mul-le-mul-right (step .filled) l)) r m l
 
 -- THEOREM: nor does it on average
-pub mean-loss-in-range : {mean step : Step} {bed : Bed} → SoundStep mean → SoundStep step → mean .filled ≤ step .filled → BedInRange step bed → LossInRange (meanFactors mean step) bed middle
+pub mean-loss-in-range : {mean-step step : Step} {bed : Bed} → SoundStep mean-step → SoundStep step → mean-step .filled ≤ step .filled → BedInRange step bed → LossInRange (meanFactors mean-step step) bed middle
 mean-loss-in-range sound-mean sound h r = loss-where (mean-deficit-lost sound-mean sound h) r middle (omega arith)
 
 -- the loss in the end is largest for the largest demand and the smallest k2
@@ -95,7 +95,7 @@ eventual-small card Q h = go (eqb (card .k2) 0)
     go false = omega (arith, h, div-le-self (1_000_000 * sludgeOf card) (card .k2))
 
 -- the products behind check 14, for a step that fills a share f, with the loss c in the end
-cancelled : (f c k s v Q : ℕ) → 0 < Q → c * k ≤ 1_000_000 * s → f * (88_473_600 * Q) ≤ k * v * one → s * v ≤ 432_000 * Q → foot * f * c ≤ one * lossLimit
+cancelled : (f c k s v Q : ℕ) → 0 < Q → c * k ≤ 1_000_000 * s → f * (88_473_600 * Q) ≤ k * v * one → s * v ≤ 432_000 * Q → steps * f * c ≤ one * lossLimit
 cancelled f c k s v Q p hc hf hs =
     le-of-mul-le-mul-right {k = 86_400 * Q} (omega (arith, mul-le-mul-right c hf, mul-le-mul-right (v * one) hc, mul-le-mul-left (1_000_000 * one) hs)) (omega arith)
 

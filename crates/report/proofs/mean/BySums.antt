@@ -4,7 +4,7 @@ use mathlib.Core.Path.{_≡_}
 use Prim.Native.Nat.{ℕ, zero, suc, _*_, _/_}
 use native.Mathlib.Numerals.{add-one}
 use lib.IntN.{ℤ, pos, _-ℤ_}
-use Rattle.decay.specs.Exact.{foot}
+use Rattle.decay.specs.Exact.{steps, foot}
 use Rattle.decay.specs.held.Step.{stepOf, meanStepOf}
 use Rattle.decay.specs.held.Factors.{nextDemand, headFactors, nextFactors}
 use Rattle.decay.specs.held.Mean.{meanDemand, meanFactors, nextDemandSums, nextFactorSums, DemandSummed, FactorsSummed}
@@ -45,21 +45,21 @@ demand-summed start step zero = demand-sums-begin start step
 demand-summed start step (suc m) = rw add-one at (demand-sums-next (demand-summed start step m))
 
 -- the means that these sums give
-unfoldable pub factorsBySums : (mean step : Step) → Factors
-factorsBySums mean step =
+unfoldable pub factorsBySums : (mean-step step : Step) → Factors
+factorsBySums mean-step step =
     let s = factorSums step foot in
-    nextFactors mean (record { left = s .left / foot; turned = s .turned / foot; kept = s .kept / foot })
+    nextFactors mean-step (record { left = s .left / steps; turned = s .turned / steps; kept = s .kept / steps })
 
-factors-by-sums : (mean step : Step) → meanFactors mean step ≡ factorsBySums mean step
+factors-by-sums : (mean-step step : Step) → meanFactors mean-step step ≡ factorsBySums mean-step step
 unfolding meanFactors factorsBySums
-factors-by-sums mean step = let s = factors-summed step foot in rw (s .left, s .turned, s .kept)
+factors-by-sums mean-step step = let s = factors-summed step foot in rw (s .left, s .turned, s .kept)
 
-unfoldable pub demandBySums : (mean step : Step) (start : ℕ) → DemandFactors
-demandBySums mean step start = let s = demandSums start step foot in nextDemand mean (record { left = s .left / foot; turned = s .turned / foot })
+unfoldable pub demandBySums : (mean-step step : Step) (start : ℕ) → DemandFactors
+demandBySums mean-step step start = let s = demandSums start step foot in nextDemand mean-step (record { left = s .left / steps; turned = s .turned / steps })
 
-demand-by-sums : (mean step : Step) (start : ℕ) → meanDemand mean step start ≡ demandBySums mean step start
+demand-by-sums : (mean-step step : Step) (start : ℕ) → meanDemand mean-step step start ≡ demandBySums mean-step step start
 unfolding meanDemand demandBySums
-demand-by-sums mean step start = let s = demand-summed start step foot in rw (s .left, s .turned)
+demand-by-sums mean-step step start = let s = demand-summed start step foot in rw (s .left, s .turned)
 
 -- mean oxygen of a reach, which these give
 unfoldable pub meanBySums : Card → Feeders → ℤ

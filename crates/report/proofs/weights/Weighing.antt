@@ -39,7 +39,7 @@ quotient-fits n volume h = div-le-of-le-mul volume (omega (arith, mul-comm store
 
 -- ---- the quotient of stored means
 
--- what is left of a sum of volume × stored oxygen is what is left of that of volume × oxygen
+-- the remainder of a sum of volume × stored oxygen is that of the sum of volume × oxygen
 below-zero : (n k d q r : ℕ) → q * d + r ≡ n → r < d → n < k * d → d - 1 - (k * d - suc n) % d ≡ r
 below-zero n k d q r e l h =
     let fewer : suc q ≤ k = lt-of-mul-lt-mul-right d (let m : q * d < k * d = omega arith in m) in

@@ -34,21 +34,21 @@ demandsAlong card Q start =
     }
 
 -- what this asks of a reach: sound steps, of which the mean one fills no more, a start and a bed in range, and parts that are at most those at the head
-pub record AlongReady (step mean : Step) (demand : DemandAlong) (start : Start) (bed : Bed) : Type 0 where
+pub record AlongReady (step mean-step : Step) (demand : DemandAlong) (start : Start) (bed : Bed) : Type 0 where
   pub sound : SoundStep step
-  pub mean-sound : SoundStep mean
-  pub fills : mean .filled ≤ step .filled
+  pub mean-sound : SoundStep mean-step
+  pub fills : mean-step .filled ≤ step .filled
   pub start-range : StartInRange start
   pub bed-range : BedInRange step bed
   pub foot-parts : demand .foot .left + demand .foot .turned ≤ startParts start
   pub mean-parts : demand .mean .left + demand .mean .turned ≤ startParts start
 
 -- the reach along its way then: the demands and oxygen at the foot, oxygen where the means of the factors hold, and the loss to its bed at the foot
-pub record AlongWith (step mean : Step) (demand : DemandAlong) (start : Start) (bed : Bed) (p : ReachAlong) : Type 0 where
+pub record AlongWith (step mean-step : Step) (demand : DemandAlong) (start : Start) (bed : Bed) (p : ReachAlong) : Type 0 where
   pub foot-bod : p .«foot_bod» ≡ product (factorsAt step foot .left) (start .bod)
   pub foot-nitrogenous : p .«foot_nitrogenous» ≡ demand .foot .left / unitParts
   pub foot-oxygen : oxygenOf (p .«foot_oxygen») ≡ oxygenOver start bed (factorsAt step foot) (demand .foot) foot
-  pub mean-oxygen : oxygenOf (p .mean) ≡ oxygenOver start bed (meanFactors mean step) (demand .mean) middle
+  pub mean-oxygen : oxygenOf (p .mean) ≡ oxygenOver start bed (meanFactors mean-step step) (demand .mean) middle
   pub loss : p .loss ≡ lossWith (factorsAt step foot) bed foot
 
 -- a reach with flow Q along its way, with head BOD L, head nitrogenous BOD Ln and head oxygen C: the figures of its foot, its mean, and the loss to its

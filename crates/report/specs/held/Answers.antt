@@ -8,7 +8,7 @@ use Rattle.river.specs.declared.card.Card.{Card}
 use Rattle.river.specs.declared.refusal.Outcome.{Outcome}
 use Rattle.river.specs.Refusal.{Answer, accepted, after as then, codeOf, outcomeOf}
 use Rattle.flows.specs.held.Stored.{oxygenOf}
-use Rattle.report.specs.Call.{leftBy}
+use Rattle.report.specs.Call.{lentAfter}
 use Rattle.report.specs.Record.{hasNitrification}
 use Rattle.report.specs.Report.{reportAnswer, bufferReported}
 use Rattle.report.specs.Mean.{Weighted, riverMean, meanAnswer, bufferAveraged}
@@ -23,7 +23,7 @@ resultBy (Outcome.Refused r) = codeOf r
 -- a call of the program with this answer: the outcome and what is told beside it, and what the call was lent, before and after
 pub record Answers {A B Lent : Type 0} (answer : Answer A) (tell : A → B) (write : A → Lent → Lent) (outcome : Outcome) (told : B) (before after : Lent) : Type 0 where
   pub outcome-is : outcomeOf outcome told ≡ then answer (λ a. accepted (tell a))
-  pub leaves : after ≡ leftBy write answer before
+  pub leaves : after ≡ lentAfter write answer before
 
 -- reporting tells of a river how many reaches it has, and whether it has nitrification
 pub record ReportTold : Type 0 where

@@ -2,7 +2,7 @@
 use mathlib.Core.Bool.{Bool, true, false}
 use Prim.Native.Nat.{ℕ, _+_, _*_, _-_, _/_, _≤_}
 use lib.Dec.{eqb}
-use Rattle.decay.specs.Exact.{foot}
+use Rattle.decay.specs.Exact.{steps, foot}
 use Rattle.decay.specs.Fixed.{one, product}
 use Rattle.decay.specs.held.Digits.{small}
 use Rattle.decay.specs.declared.step.Step.{Step}
@@ -28,7 +28,7 @@ noBed = record { eventual = 0; linear = 0 }
 -- the oxygen lost to a bed at instant m, where these factors hold: of the loss in the end the share that the head's deficit has lost too, or
 -- m / 1024 of the loss at the foot; each rounded down
 unfoldable pub lossWith : Factors → Bed → (m : ℕ) → ℕ
-lossWith f bed m = product (one - f .kept) (bed .eventual) + bed .linear * m / foot
+lossWith f bed m = product (one - f .kept) (bed .eventual) + bed .linear * m / steps
 
 -- what is asked of a reach's card and flow: the demand has two bytes, and check 14 passes
 pub record BedPasses (card : Card) (Q : ℕ) : Type 0 where
@@ -49,4 +49,4 @@ pub record LossInRange (f : Factors) (bed : Bed) (m : ℕ) : Type 0 where
 -- at no instant of a reach with this step does a bed take more
 pub record BedInRange (step : Step) (bed : Bed) : Type 0 where
   pub eventual : bed .eventual ≤ small
-  pub loss : foot * step .filled * bed .eventual + one * bed .linear ≤ one * lossLimit
+  pub loss : steps * step .filled * bed .eventual + one * bed .linear ≤ one * lossLimit

@@ -1,4 +1,4 @@
--- What the program holds between the reaches of an accepted river: what the feet of the reaches reported so far bring. A function that reports a
+-- What the program holds between the reaches of an accepted river: what the reaches reported so far bring. A function that reports a
 -- reach is handed its card, its flows and what its feeders bring, and no table, which would be copied for each reach; what it promises holds for every river and tables that these may be of.
 use mathlib.Core.Path.{_≡_}
 use mathlib.Core.Bool.{Bool, false}
@@ -11,7 +11,7 @@ use Rattle.river.specs.declared.card.Card.{Card}
 use Rattle.flows.specs.declared.flow.FlowTable.{FlowTable}
 use Rattle.flows.specs.declared.flow.ReachFlows.{ReachFlows}
 use Rattle.flows.specs.declared.head.Brought.{Brought}
-use Rattle.flows.specs.declared.head.FootTable.{FootTable}
+use Rattle.flows.specs.declared.head.BroughtTable.{BroughtTable}
 use Rattle.flows.specs.declared.head.Head.{Head}
 use Rattle.river.specs.declared.source.Demand.{Demand}
 use Rattle.river.specs.Card.{Lawful}
@@ -20,7 +20,7 @@ use Rattle.flows.specs.Saturation.{SaturationInRange}
 use Rattle.river.specs.declared.source.Demand.the-variants.{Bod, Nitrogenous}
 use Rattle.flows.specs.Flow.{Flows, cardOf, above, flowAt, massAt}
 use Rattle.flows.specs.held.FlowTable.{flowsBy, Tabled}
-use Rattle.flows.specs.held.HeadTable.{demandLimit, footOf, broughtTo, FootWithin, Carried}
+use Rattle.flows.specs.held.HeadTable.{demandLimit, broughtBy, broughtTo, BroughtWithin, Carried}
 use Rattle.flows.specs.held.Stored.{oxygenOf, storedOf}
 use Rattle.report.specs.held.Bed.{BedPasses, lossLimit}
 use Rattle.report.specs.Program.{demandAtHead, oxygenAtHead, figuresAt}
@@ -42,17 +42,17 @@ pub record HeadFits (head : Head) : Type 0 where
   pub low : head .bod + head .nitrogenous + lossLimit ≤ head .oxygen
 
 -- what the foot of a reach with this flow and these figures brings
-abbrev pub footBy : (flow : ℕ) → Figures → Brought
-footBy flow f = footOf flow (f .foot-bod) (f .foot-nitrogenous) (storedOf (f .foot-oxygen)) (isUsed (f .status))
+abbrev pub broughtByFigures : (flow : ℕ) → Figures → Brought
+broughtByFigures flow f = broughtBy flow (f .foot-bod) (f .foot-nitrogenous) (storedOf (f .foot-oxygen)) (isUsed (f .status))
 
--- tables of what the feet of the first n reaches bring
-pub record FeetOf (cards : List Card) (feet : FootTable) (n : ℕ) : Type 0 where
-  pub bod : (j : ℕ) → j < n → getD (feet .bod) j 0 ≡ footBy (flowAt cards (suc j)) (figuresAt cards (suc j)) .bod
+-- tables of what the first n reaches bring
+pub record BroughtTabled (cards : List Card) (by-reach : BroughtTable) (n : ℕ) : Type 0 where
+  pub bod : (j : ℕ) → j < n → getD (by-reach .bod) j 0 ≡ broughtByFigures (flowAt cards (suc j)) (figuresAt cards (suc j)) .bod
   pub nitrogenous :
-      (j : ℕ) → j < n → getD (feet .nitrogenous) j 0 ≡ footBy (flowAt cards (suc j)) (figuresAt cards (suc j)) .nitrogenous
-  pub oxygen : (j : ℕ) → j < n → getD (feet .oxygen) j 0 ≡ footBy (flowAt cards (suc j)) (figuresAt cards (suc j)) .oxygen
-  pub used : (j : ℕ) → j < n → getD (feet .used) j false ≡ footBy (flowAt cards (suc j)) (figuresAt cards (suc j)) .used
-  pub carried : Carried cards feet n
+      (j : ℕ) → j < n → getD (by-reach .nitrogenous) j 0 ≡ broughtByFigures (flowAt cards (suc j)) (figuresAt cards (suc j)) .nitrogenous
+  pub oxygen : (j : ℕ) → j < n → getD (by-reach .oxygen) j 0 ≡ broughtByFigures (flowAt cards (suc j)) (figuresAt cards (suc j)) .oxygen
+  pub used : (j : ℕ) → j < n → getD (by-reach .used) j false ≡ broughtByFigures (flowAt cards (suc j)) (figuresAt cards (suc j)) .used
+  pub carried : Carried cards by-reach n
 
 -- the flows of an accepted river
 pub record Ready (cards : List Card) (flows : FlowTable) : Type 0 where
@@ -65,18 +65,19 @@ pub record LineOf (cards : List Card) (i : ℕ) (line : Line) : Type 0 where
   pub figures : figuresIn line ≡ figuresAt cards (suc i)
   pub mass : flowAt cards (suc i) * (line .«head_bod» + line .«head_nitrogenous») ≤ 1000 * massAt cards (suc i)
 
--- what a line needs: there is an accepted river with flows and feet, one of whose reaches has this card and these flows and is brought this
+-- what a line needs: there is an accepted river with flows and what its reaches bring, one of which has this card and these flows and is brought
+-- this
 pub record LineAt (card : Card) (reach : ReachFlows) (brought : Brought) : Type 0 where
   pub cards : List Card
   pub flows : FlowTable
-  pub feet : FootTable
+  pub by-reach : BroughtTable
   pub i : ℕ
   pub ready : Ready cards flows
-  pub feet-are : FeetOf cards feet i
+  pub brought-tabled : BroughtTabled cards by-reach i
   pub within : i < length cards
   pub own : card ≡ cardOf cards (suc i)
   pub flows-are : reach ≡ flowsBy flows i
-  pub brought-is : brought ≡ broughtTo (flows .outlet) (feet .bod) (feet .nitrogenous) (feet .oxygen) (feet .used) i
+  pub brought-is : brought ≡ broughtTo (flows .outlet) (by-reach .bod) (by-reach .nitrogenous) (by-reach .oxygen) (by-reach .used) i
 
 -- the head of reach i + 1: each demand and oxygen, in the ranges that a line asks, and its demands are at most the undecayed BOD
 pub record HeadOfReach (cards : List Card) (i : ℕ) (head : Head) : Type 0 where
@@ -101,13 +102,13 @@ pub record PlacedAt (card : Card) (reach : ReachFlows) (brought : Brought) (nitr
   pub room : at + recordSize (line .cards) ≤ long
 
 -- what reach i + 1 hands on: what its foot brings, in bounds
-pub record FootOf (cards : List Card) (i : ℕ) (foot : Brought) : Type 0 where
-  pub brings : foot ≡ footBy (flowAt cards (suc i)) (figuresAt cards (suc i))
-  pub within : FootWithin cards i foot
+pub record HandsOn (cards : List Card) (i : ℕ) (brought : Brought) : Type 0 where
+  pub brings : brought ≡ broughtByFigures (flowAt cards (suc i)) (figuresAt cards (suc i))
+  pub within : BroughtWithin cards i brought
 
 -- that, and the report with its record at a place
 pub record ReachReported (cards : List Card) (i at : ℕ) (before after : List ℕ) (r : Brought) : Type 0 where
-  pub foot : FootOf cards i r
+  pub hands-on : HandsOn cards i r
   pub report : after ≡ sets before at (recordOf cards i)
 
 -- for every such river the call tells this and leaves the report so

@@ -9,7 +9,7 @@ use Rattle.flows.specs.declared.head.Brought.{Brought}
 use Rattle.river.specs.Bytes.{fourBytes}
 use Rattle.flows.specs.held.Stored.{storedLimit, oxygenOf, oxygenSumOf}
 use Rattle.report.specs.Record.{complement}
-use Rattle.report.specs.held.Lines.{LineAt, FootOf}
+use Rattle.report.specs.held.Lines.{LineAt, HandsOn}
 use Rattle.report.specs.Mean.{meanAt, countedVolumeAt, volumeSum, weightedSum}
 use Rattle.report.specs.held.Weights.{wholeSum, volumeLimit, sumLimit}
 use Rattle.report.specs.declared.mean.ReachMean.{ReachMean}
@@ -18,7 +18,7 @@ use Rattle.report.specs.declared.weights.Weights.{Weights}
 
 -- what reach i + 1 hands on, and its mean as it is reported
 pub record ReachAveraged (cards : List Card) (i : ℕ) (r : ReachMean) : Type 0 where
-  pub foot : FootOf cards i (r .foot)
+  pub hands-on : HandsOn cards i (r .brings)
   pub mean : oxygenOf (r .mean) ≡ meanAt cards (suc i)
 
 -- for every river that the card, the flows and what is brought may be of
@@ -41,7 +41,7 @@ pub record MeansTabled (cards : List Card) (n : ℕ) (means : List ℕ) : Type 0
 
 -- what the means of a river are to be: a table of them, and their sums
 pub record AllAveraged (cards : List Card) (t : MeanTable) : Type 0 where
-  pub tabled : MeansTabled cards (length cards) (t .mean)
+  pub tabled : MeansTabled cards (length cards) (t .stored)
   pub weighed : Weighs cards (length cards) (t .weights)
 
 -- the bytes of a stored mean in a table

@@ -43,6 +43,6 @@ pub record Divisible (w : Weights) : Type 0 where
   pub low : w .low ≤ sumLimit 128
   pub fits : wholeSum w ≤ storedLimit * w .volume
 
--- the mean and what is left
+-- the mean and its remainder
 abbrev pub quotientOf : Weights → Quotient
 quotientOf w = record { units = wholeSum w / w .volume; remainder = wholeSum w % w .volume }

@@ -114,17 +114,17 @@ encodeCards-append (c ∷ a) b =
     sym (append-assoc (encodeCard c) (encodeCards a) (encodeCards b))
 
 -- the first i cards stand in a buffer from a place on
-pub record Placed (r : River) (before : List ℕ) (start i : ℕ) (left : List ℕ) (next : ℕ) : Type 0 where
-  pub put : Put before start (encodeCards (take i (r .cards))) left next
-  pub same : length left ≡ length before
+pub record Placed (r : River) (before : List ℕ) (start i : ℕ) (exit : List ℕ) (next : ℕ) : Type 0 where
+  pub put : Put before start (encodeCards (take i (r .cards))) exit next
+  pub same : length exit ≡ length before
 
 module _ (r : River) (before : List ℕ) (start : ℕ) where
   pub place-start : Placed r before start 0 before start
   place-start = record { put = record { buffer = refl; place = omega arith }; same = refl }
 
-  module _ {i : ℕ} {left : List ℕ} {next : ℕ} (p : Placed r before start i left next) where
-    pub place-more : {c : Card} {after : List ℕ} {k : ℕ} → drop i (r .cards) ≡ c ∷ drop (i + 1) (r .cards) → Put left next (encodeCard c) after k
-        → length after ≡ length left → Placed r before start (i + 1) after k
+  module _ {i : ℕ} {exit : List ℕ} {next : ℕ} (p : Placed r before start i exit next) where
+    pub place-more : {c : Card} {after : List ℕ} {k : ℕ} → drop i (r .cards) ≡ c ∷ drop (i + 1) (r .cards) → Put exit next (encodeCard c) after k
+        → length after ≡ length exit → Placed r before start (i + 1) after k
     place-more {c} {after} {k} e q l =
         record {
           put = subst (λ (x : List ℕ). Put before start x after k) bytes (chain (p .put) q);
@@ -141,7 +141,7 @@ module _ (r : River) (before : List ℕ) (start : ℕ) where
             ap encodeCards (sym more)
 
     pub place-room : {c : Card} → drop i (r .cards) ≡ c ∷ drop (i + 1) (r .cards) → start ≡ openingSize (r .factors) → length (encode r) ≤ length before
-        → next + sizeOf c ≤ length left
+        → next + sizeOf c ≤ length exit
     place-room {c} e f h =
         let all : length (encodeCards (r .cards)) ≡ length (encodeCards (take i (r .cards))) + length (encodeCards (drop i (r .cards))) =
         ap (λ (x : List Card). length (encodeCards x)) (sym (take-append-drop i (r .cards))) ∙
@@ -154,7 +154,7 @@ module _ (r : River) (before : List ℕ) (start : ℕ) where
         omega (arith, p .put .place, p .same, length-encode r, length-encodeCard c)
 
     pub place-end : {first : List ℕ} → length (r .cards) ≤ i → Put first 0 (encodeOpening (length (r .cards)) (r .factors)) before start
-        → Put first 0 (encode r) left next
+        → Put first 0 (encode r) exit next
     unfolding encode
     place-end h q =
-        chain q (subst (λ (x : List Card). Put before start (encodeCards x) left next) (take-all i (r .cards) h) (p .put))
+        chain q (subst (λ (x : List Card). Put before start (encodeCards x) exit next) (take-all i (r .cards) h) (p .put))

@@ -36,9 +36,9 @@ module _ (n : ℕ) (r : River) (before : List ℕ) where
         (after-accepted _ _ p ∙
         need-false _ _ _ _ (lt-leb (length (encode r)) (length before) (omega arith))))
 
-    pub writes : {left : List ℕ} {l : ℕ} → k ≤ length before → Put before 0 (encode r) left l → Writes n r before (Written.Length l) left
+    pub writes : {exit : List ℕ} {l : ℕ} → k ≤ length before → Put before 0 (encode r) exit l → Writes n r before (Written.Length l) exit
     unfolding writeAnswer bufferWritten
-    writes {left} {l} h put =
+    writes {exit} {l} h put =
         let same : length (encode r) ≡ l = omega (arith, put .place) in
         record {
           answer =

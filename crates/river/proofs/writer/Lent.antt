@@ -214,22 +214,22 @@ pub record Puts (x : River) (before : List ℕ) (p : Putting) (buffer : List ℕ
   so-far : PutAs (p .answer) x before p buffer
 
 module _ (x : River) (before : List ℕ) where
-  put-stops : {p : Putting} {r : Refusal} {left : List ℕ} → Unput p r before left → refused r ≡ writeAnswer (length (x .cards)) x (length before) → Puts x before p left
+  put-stops : {p : Putting} {r : Refusal} {exit : List ℕ} → Unput p r before exit → refused r ≡ writeAnswer (length (x .cards)) x (length before) → Puts x before p exit
   unfolding bufferWritten
-  put-stops {p} {r} {left} u e =
+  put-stops {p} {r} {exit} u e =
       record {
         few = omega (arith, u .due);
         within = omega (arith, u .due);
         so-far =
-            subst (λ (w : Written). PutAs w x before p left) (sym (u .answer))
+            subst (λ (w : Written). PutAs w x before p exit) (sym (u .answer))
             (record { due = u .due; result = record { answer = e; buffer = u .buffer } });
       }
 
-  module _ {s : Checking} {p : Putting} {left : List ℕ} (g : ChecksAll x s) (h : PutsStart s before p left) (same : length left ≡ length before) where
+  module _ {s : Checking} {p : Putting} {exit : List ℕ} (g : ChecksAll x s) (h : PutsStart s before p exit) (same : length exit ≡ length before) where
     passed-all : s .check ≡ Outcome.Accepted → checkRiver (length (x .cards)) x ≡ accepted tt
     passed-all e = passed-check (checkRiver (length (x .cards)) x) (sym (g .check) ∙ e)
 
-    begins-as : (k : Outcome) → s .check ≡ k → (length before < s .length) ⊎ (s .length ≤ length before) → Puts x before p left
+    begins-as : (k : Outcome) → s .check ≡ k → (length before < s .length) ⊎ (s .length ≤ length before) → Puts x before p exit
     unfolding writeAnswer
     begins-as (Outcome.Refused r) e f = put-stops (h .stops e) (sym (after-refused _ _ (refused-check (checkRiver (length (x .cards)) x) (sym (g .check) ∙ e))))
     begins-as Outcome.Accepted e (inl less) = put-stops (h .short e less) (refuses-room (length (x .cards)) x before (passed-all e) (g .size e) less .answer)
@@ -240,21 +240,21 @@ module _ (x : River) (before : List ℕ) where
           few = omega (arith, b .due, g .few);
           within = omega arith;
           so-far =
-              subst (λ (w : Written). PutAs w x before p left) (sym (b .answer))
+              subst (λ (w : Written). PutAs w x before p exit) (sym (b .answer))
               (record {
                 checked = passed-all e;
                 due = d;
                 size = g .size e;
                 fits = room;
-                mid = left;
+                mid = exit;
                 start = p .next;
-                opening = subst (λ (y : List ℕ). Put before 0 y left (p .next)) (λ i. encodeOpening (g .due e i) (g .factors e i)) (b .opening);
+                opening = subst (λ (y : List ℕ). Put before 0 y exit (p .next)) (λ i. encodeOpening (g .due e i) (g .factors e i)) (b .opening);
                 same = same;
-                placed = subst (λ (i : ℕ). Placed x left (p .next) i left (p .next)) (sym (h .none)) (place-start x left (p .next));
+                placed = subst (λ (i : ℕ). Placed x exit (p .next) i exit (p .next)) (sym (h .none)) (place-start x exit (p .next));
               });
         }
 
-    pub begins : Puts x before p left
+    pub begins : Puts x before p exit
     begins = begins-as (s .check) refl (either (length before) (s .length) (ltb (length before) (s .length)) refl)
 
   module _ {p : Putting} {buffer : List ℕ} (g : Puts x before p buffer) where
@@ -266,16 +266,16 @@ module _ (x : River) (before : List ℕ) where
             place-room x (q .mid) (q .start) (q .placed) f (omega (arith, q .opening .place)) (omega (arith, q .same, q .size, q .fits))
         room-as (Written.Refused r) q = absurd (let z : ⊥ = omega (arith, q .due) in z)
 
-    pub more : {c : Card} {t : Putting} {left : List ℕ} → p .put < p .due → drop (p .put) (x .cards) ≡ c ∷ drop (p .put + 1) (x .cards)
-        → PutsNext p c buffer t left → length left ≡ length buffer → Puts x before t left
-    more {c} {t} {left} less f n same =
+    pub more : {c : Card} {t : Putting} {exit : List ℕ} → p .put < p .due → drop (p .put) (x .cards) ≡ c ∷ drop (p .put + 1) (x .cards)
+        → PutsNext p c buffer t exit → length exit ≡ length buffer → Puts x before t exit
+    more {c} {t} {exit} less f n same =
         record {
           few = omega (arith, n .due, g .few);
           within = omega (arith, n .due, g .within);
-          so-far = subst (λ (w : Written). PutAs w x before t left) (sym (n .answer)) (more-as (p .answer) (g .so-far));
+          so-far = subst (λ (w : Written). PutAs w x before t exit) (sym (n .answer)) (more-as (p .answer) (g .so-far));
         }
       where
-        more-as : (w : Written) → PutAs w x before p buffer → PutAs w x before t left
+        more-as : (w : Written) → PutAs w x before p buffer → PutAs w x before t exit
         more-as (Written.Length l) q =
             record {
               checked = q .checked;
@@ -286,7 +286,7 @@ module _ (x : River) (before : List ℕ) where
               start = q .start;
               opening = q .opening;
               same = q .same;
-              placed = subst (λ (i : ℕ). Placed x (q .mid) (q .start) i left (t .next)) (sym (n .put)) (place-more x (q .mid) (q .start) (q .placed) f (n .card) same);
+              placed = subst (λ (i : ℕ). Placed x (q .mid) (q .start) i exit (t .next)) (sym (n .put)) (place-more x (q .mid) (q .start) (q .placed) f (n .card) same);
             }
         more-as (Written.Refused r) q = absurd (let z : ⊥ = omega (arith, q .due) in z)
 
@@ -301,5 +301,5 @@ module _ (x : River) (before : List ℕ) where
             (writes (length (x .cards)) x before (q .checked) (q .size) (q .fits) put)
         ends-as (Written.Refused r) q = q .result
 
-pub put-fewer : {p t : Putting} {c : Card} {buffer left : List ℕ} → p .put < p .due → PutsNext p c buffer t left → t .due - t .put < p .due - p .put
+pub put-fewer : {p t : Putting} {c : Card} {buffer exit : List ℕ} → p .put < p .due → PutsNext p c buffer t exit → t .due - t .put < p .due - p .put
 put-fewer less n = omega (arith, n .due, n .put)

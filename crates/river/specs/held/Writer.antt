@@ -45,25 +45,25 @@ pub record ChecksAll (r : River) (s : Checking) : Type 0 where
   pub size : s .check ≡ Outcome.Accepted → s .length ≡ length (encode r)
 
 -- the start of putting: nothing after a refusal, 12 where the buffer is short, else the opening
-pub record Unput (p : Putting) (r : Refusal) (before left : List ℕ) : Type 0 where
+pub record Unput (p : Putting) (r : Refusal) (before exit : List ℕ) : Type 0 where
   pub answer : p .answer ≡ Written.Refused r
   pub due : p .due ≡ 0
-  pub buffer : left ≡ before
+  pub buffer : exit ≡ before
 
-pub record OpeningPut (s : Checking) (before : List ℕ) (p : Putting) (left : List ℕ) : Type 0 where
+pub record OpeningPut (s : Checking) (before : List ℕ) (p : Putting) (exit : List ℕ) : Type 0 where
   pub answer : p .answer ≡ Written.Length (s .length)
   pub due : p .due ≡ s .due
-  pub opening : Put before 0 (encodeOpening (s .due) (s .factors)) left (p .next)
+  pub opening : Put before 0 (encodeOpening (s .due) (s .factors)) exit (p .next)
 
-pub record PutsStart (s : Checking) (before : List ℕ) (p : Putting) (left : List ℕ) : Type 0 where
+pub record PutsStart (s : Checking) (before : List ℕ) (p : Putting) (exit : List ℕ) : Type 0 where
   pub none : p .put ≡ 0
-  pub stops : {r : Refusal} → s .check ≡ Outcome.Refused r → Unput p r before left
-  pub short : s .check ≡ Outcome.Accepted → length before < s .length → Unput p (refuse 12 0) before left
-  pub begins : s .check ≡ Outcome.Accepted → s .length ≤ length before → OpeningPut s before p left
+  pub stops : {r : Refusal} → s .check ≡ Outcome.Refused r → Unput p r before exit
+  pub short : s .check ≡ Outcome.Accepted → length before < s .length → Unput p (refuse 12 0) before exit
+  pub begins : s .check ≡ Outcome.Accepted → s .length ≤ length before → OpeningPut s before p exit
 
 -- one card more is put
-pub record PutsNext (p : Putting) (c : Card) (buffer : List ℕ) (q : Putting) (left : List ℕ) : Type 0 where
+pub record PutsNext (p : Putting) (c : Card) (buffer : List ℕ) (q : Putting) (exit : List ℕ) : Type 0 where
   pub answer : q .answer ≡ p .answer
   pub due : q .due ≡ p .due
   pub put : q .put ≡ p .put + 1
-  pub card : Put buffer (p .next) (encodeCard c) left (q .next)
+  pub card : Put buffer (p .next) (encodeCard c) exit (q .next)

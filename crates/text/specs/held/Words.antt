@@ -43,6 +43,6 @@ abbrev pub meanHeld : (means : List ℕ) → ℕ → ℤ
 meanHeld means i = meanRead means (pred i)
 
 -- a word of at most so many bytes is put at a place of a buffer, and the rest of it is kept; the next place is behind the word
-pub record PutWithin (most : ℕ) (before : List ℕ) (at : ℕ) (word left : List ℕ) (next : ℕ) : Type 0 where
-  pub put : Put before at word left next
+pub record PutWithin (most : ℕ) (before : List ℕ) (at : ℕ) (word exit : List ℕ) (next : ℕ) : Type 0 where
+  pub put : Put before at word exit next
   pub within : next ≤ at + most

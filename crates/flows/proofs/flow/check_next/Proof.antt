@@ -71,12 +71,12 @@ cast-t15 c = omega (arith, remaining-mass-requires (c .before .before .before) t
 
 returns-2 : tie.Need-returns-2
 returns-2 c =
-    let left = c .before .before in
-    let take = left .before in
+    let remaining = c .before .before in
+    let take = remaining .before in
     let check = check-at take in
     let own = check .before .before in
     λ here.
-    next-passed (here .underway, here .within) (here .gathered) (here .own) (own .own-mass .ensures) (add-one _) (check .check .ensures) (take .take-of .ensures) (left .remaining-mass .ensures)
+    next-passed (here .underway, here .within) (here .gathered) (here .own) (own .own-mass .ensures) (add-one _) (check .check .ensures) (take .take-of .ensures) (remaining .remaining-mass .ensures)
 
 pub check-next-spec : {M : Type 1} → statement M
 check-next-spec =

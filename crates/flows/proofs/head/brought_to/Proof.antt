@@ -8,7 +8,7 @@ use borrow.Author.Needs.{needs}
 use Rattle.flows.specs.held.FlowTable.{tableSum, tableAny}
 use Rattle.flows.specs.held.HeadTable.{broughtAmong}
 use Rattle.flows.proofs.flow.Table.{Scanned, scanned-all}
-use Rattle.flows.proofs.head.Feet.{foot-fits, foot-gathered, foot-passed}
+use Rattle.flows.proofs.head.Bringing.{brought-with-fits, brought-gathered, brought-passed}
 use Rattle.flows.proofs.head.brought_to.Statement.{statement}
 use Rattle.flows.proofs.head.brought_to.Tie as tie
 
@@ -22,21 +22,21 @@ loop-holds : tie.Need-loop-holds Inv-loop μ-loop
 unfolding tableSum tableAny
 loop-holds c = record { within = omega arith; so-far = refl }
 
-with-foot-requires : tie.Need-with-foot-requires Inv-loop μ-loop
-with-foot-requires c κs =
+brought-with-requires : tie.Need-brought-with-requires Inv-loop μ-loop
+brought-with-requires c κs =
     let test = c .before .before .before .before in
     let loop = test .before .before .before in
     let start = loop .before in
     let a = start .args in
-    foot-fits (a .outlet .now) (a .bod .now) (a .nitrogenous .now) (a .oxygen .now) (a .used .now) (a .i + 1) (loop .loop .inv) (omega arith) (test .if1 .taken) (rw add-one (start .pre .bod)) (rw add-one (start .pre .nitrogenous)) (rw add-one (start .pre .oxygen))
+    brought-with-fits (a .outlet .now) (a .bod .now) (a .nitrogenous .now) (a .oxygen .now) (a .used .now) (a .i + 1) (loop .loop .inv) (omega arith) (test .if1 .taken) (rw add-one (start .pre .bod)) (rw add-one (start .pre .nitrogenous)) (rw add-one (start .pre .oxygen))
 
 loop-again : tie.Need-loop-again Inv-loop μ-loop
 loop-again c =
     let loop = c .before .before .before in
     let a = loop .before .args in
     ⊎-elim
-    (λ w. foot-gathered (a .outlet .now) (a .bod .now) (a .nitrogenous .now) (a .oxygen .now) (a .used .now) (a .i + 1) (loop .loop .inv) (omega arith) (w .0 .taken) (w .6 ∙ w .5 .ensures))
-    (λ w. foot-passed (a .outlet .now) (a .bod .now) (a .nitrogenous .now) (a .oxygen .now) (a .used .now) (a .i + 1) (loop .loop .inv) (omega arith) (w .0 .left) (w .1))
+    (λ w. brought-gathered (a .outlet .now) (a .bod .now) (a .nitrogenous .now) (a .oxygen .now) (a .used .now) (a .i + 1) (loop .loop .inv) (omega arith) (w .0 .taken) (w .6 ∙ w .5 .ensures))
+    (λ w. brought-passed (a .outlet .now) (a .bod .now) (a .nitrogenous .now) (a .oxygen .now) (a .used .now) (a .i + 1) (loop .loop .inv) (omega arith) (w .0 .left) (w .1))
     (c .if1 .came)
 
 returns : tie.Need-returns Inv-loop μ-loop
@@ -52,14 +52,14 @@ brought-to-spec =
     (λ cast-reach. search needs)
     loop-holds
     (λ element-copy-out-if1. omega arith)
-    (λ mul-with-foot. omega arith)
-    (λ element-copy-out-with-foot. omega arith)
-    (λ mul-with-foot-2. omega arith)
-    (λ element-copy-out-with-foot-2. omega arith)
-    (λ mul-with-foot-3. omega arith)
-    (λ element-copy-out-with-foot-3. omega arith)
-    (λ element-copy-out-with-foot-4. omega arith)
-    with-foot-requires
+    (λ mul-brought-with. omega arith)
+    (λ element-copy-out-brought-with. omega arith)
+    (λ mul-brought-with-2. omega arith)
+    (λ element-copy-out-brought-with-2. omega arith)
+    (λ mul-brought-with-3. omega arith)
+    (λ element-copy-out-brought-with-3. omega arith)
+    (λ element-copy-out-brought-with-4. omega arith)
+    brought-with-requires
     (λ add-j. omega arith)
     (λ loop-less. omega arith)
     loop-again

@@ -1,4 +1,4 @@
--- `head_vectors::shown::reach` meets its contract: a foot with at most the head's demands stays in bounds.
+-- `head_vectors::shown::reach` meets its contract: a foot with at most the head's demands brings what is in bounds.
 use borrow.Author.Needs.{needs}
 use mathlib.Core.Path.{_≡_, refl}
 use Prim.Native.Nat.{_+_}
@@ -7,7 +7,7 @@ use lib.ListN.{getD}
 use Rattle.river.specs.Card.{cardList, blank}
 use Rattle.flows.proofs.flow.Count.{card-of-river}
 use Rattle.flows.proofs.head.Heads.{sums-fit, head-input, head-within, flow-bounded}
-use Rattle.flows.proofs.head.Feet.{foot-within}
+use Rattle.flows.proofs.head.Bringing.{brought-within}
 use Rattle.head_vectors.proofs.shown.reach.Statement.{statement}
 use Rattle.head_vectors.proofs.shown.reach.Tie as tie
 
@@ -16,14 +16,14 @@ own : (s : tie.Start) → getD (s .args .t1 .at) (s .args .i) blank ≡ getD (ca
 own s = card-of-river (s .args .t1) (s .args .i) (s .pre .within)
 
 -- the places before the demands that are brought were asked, and the head behind them
-abbrev feet-at : tie.After-brought-to-arg5 → tie.After-feet
-feet-at c = c .before .before .before .before
+abbrev by-reach-at : tie.After-brought-to-arg5 → tie.After-by-reach
+by-reach-at c = c .before .before .before .before
 
-abbrev depth-at : tie.After-feet → tie.After-depth
+abbrev depth-at : tie.After-by-reach → tie.After-depth
 depth-at c = c .before .before .before
 
 abbrev start-of : tie.After-brought-to-arg5 → tie.Start
-start-of c = depth-at (feet-at c) .before .before .before
+start-of c = depth-at (by-reach-at c) .before .before .before
 
 abbrev head-at : tie.After-less2 → tie.After-head-of
 head-at c = c .before .before .before .before
@@ -39,16 +39,16 @@ head-of-requires c κs =
     let s = start-of (c .before .before) in
     head-input (s .pre) (own s) refl (c .before .brought-to .ensures)
 
-foot-of-requires : tie.Need-foot-of-requires
-foot-of-requires c κs = flow-bounded (start-of-head (head-at c) .pre)
+brought-by-requires : tie.Need-brought-by-requires
+brought-by-requires c κs = flow-bounded (start-of-head (head-at c) .pre)
 
 returns : tie.Need-returns
 returns c =
     let head = head-at (c .before) in
     let s = start-of-head head in
     let r = head .head-of .result in
-    rw (c .foot-of .ensures)
-    (foot-within (r .bod + r .nitrogenous) (c .before .before .less .result) (c .before .less2 .result) (s .pre .tabled .flow (s .args .i) (s .pre .within))
+    rw (c .brought-by .ensures)
+    (brought-within (r .bod + r .nitrogenous) (c .before .before .less .result) (c .before .less2 .result) (s .pre .tabled .flow (s .args .i) (s .pre .within))
     (omega (arith, c .before .before .less .ensures, c .before .less2 .ensures))
     (head-within (s .pre) (own s) refl (head .before .before .brought-to .ensures) (head .head-of .ensures))
     (omega arith))
@@ -74,5 +74,5 @@ reach-spec =
     (λ line-requires κs. search needs)
     (λ less-requires κs. search needs)
     (λ less-requires-2 κs. search needs)
-    foot-of-requires
+    brought-by-requires
     returns)

@@ -1,6 +1,6 @@
 -- `report::lines::head_at` meets its contract: the head is that of the reach. Assumes nothing.
 use borrow.Author.Needs.{needs}
-use Rattle.report.proofs.lines.Feet.{head-asked, head-here}
+use Rattle.report.proofs.lines.Bringing.{head-asked, head-here}
 use Rattle.report.proofs.lines.head_at.Statement.{statement}
 use Rattle.report.proofs.lines.head_at.Tie as tie
 

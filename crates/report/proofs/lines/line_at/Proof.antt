@@ -1,6 +1,6 @@
 -- `report::lines::line_at` meets its contract: the line below the head of the reach is that of the reach. Assumes nothing.
 use borrow.Author.Needs.{needs}
-use Rattle.report.proofs.lines.Feet.{line-ready, line-of-reach}
+use Rattle.report.proofs.lines.Bringing.{line-ready, line-of-reach}
 use Rattle.report.proofs.lines.line_at.Statement.{statement}
 use Rattle.report.proofs.lines.line_at.Tie as tie
 

@@ -1,5 +1,5 @@
 -- `report::lines::report_all` meets its contract. The loop's invariant: the records of the first i reaches stand in the report,
--- the rest of it is as it was, and the tables have the feet of these reaches. The measure is how many reaches are left. Assumes nothing.
+-- the rest of it is as it was, and the tables have what these reaches bring. The measure is how many reaches are left. Assumes nothing.
 use mathlib.Core.Path.{_≡_, ap, _∙_}
 use mathlib.Core.Bool.{Bool}
 use mathlib.Core.List.{List}
@@ -12,11 +12,11 @@ use borrow.Author.Needs.{needs}
 use Rattle.river.specs.declared.card.Cards.{Cards}
 use Rattle.flows.specs.declared.flow.FlowTable.{FlowTable}
 use Rattle.flows.specs.declared.head.Brought.{Brought}
-use Rattle.flows.specs.declared.head.FootTable.{FootTable}
+use Rattle.flows.specs.declared.head.BroughtTable.{BroughtTable}
 use Rattle.river.specs.Card.{cardList, blank}
 use Rattle.flows.specs.held.FlowTable.{flowsBy}
-use Rattle.flows.specs.held.HeadTable.{withFoot}
-use Rattle.flows.proofs.head.Heads.{broughtBy}
+use Rattle.flows.specs.held.HeadTable.{broughtEntered}
+use Rattle.flows.proofs.head.Heads.{broughtByTables}
 use Rattle.report.specs.Program.{reportedAt}
 use Rattle.report.specs.Record.{hasNitrification, recordBytes, recordSize}
 use Rattle.report.specs.Report.{recordOf, reportSize}
@@ -27,18 +27,18 @@ use Rattle.report.proofs.lines.Reaches.{Reaches, none-yet, all-reaches,
 use Rattle.report.proofs.lines.report_all.Statement.{statement}
 use Rattle.report.proofs.lines.report_all.Tie as tie
 
-record Progress (cs : Cards) (flows : FlowTable) (report₀ : List ℕ) (count : ℕ) (nitrified : Bool) (size : ℕ) (report : List ℕ) (feet : FootTable) (i : ℕ) : Type 0 where
-  reaches : Reaches cs flows count feet i
+record Progress (cs : Cards) (flows : FlowTable) (report₀ : List ℕ) (count : ℕ) (nitrified : Bool) (size : ℕ) (report : List ℕ) (by-reach : BroughtTable) (i : ℕ) : Type 0 where
+  reaches : Reaches cs flows count by-reach i
   nitrification : nitrified ≡ hasNitrification (cardList cs)
   sized : size ≡ recordSize (cardList cs)
   room : reportSize (cardList cs) ≤ length report₀
   filled : Filled (recordOf (cardList cs)) (recordSize (cardList cs)) report₀ i report
 
 abbrev Inv-loop : tie.InvT-loop
-Inv-loop nitrified report₀ cards flows count size feet₀ i₀ report feet i = Progress cards flows report₀ count nitrified size report feet i
+Inv-loop nitrified report₀ cards flows count size by-reach₀ i₀ report by-reach i = Progress cards flows report₀ count nitrified size report by-reach i
 
 abbrev μ-loop : tie.MeasureT-loop
-μ-loop nitrified report₀ cards flows count size feet₀ i₀ report feet i = count - i
+μ-loop nitrified report₀ cards flows count size by-reach₀ i₀ report by-reach i = count - i
 
 reach-count-requires : tie.Need-reach-count-requires Inv-loop μ-loop
 reach-count-requires c κs = tt
@@ -46,15 +46,15 @@ reach-count-requires c κs = tt
 record-bytes-requires : tie.Need-record-bytes-requires Inv-loop μ-loop
 record-bytes-requires c κs = tt
 
-no-feet-requires : tie.Need-no-feet-requires Inv-loop μ-loop
-no-feet-requires c κs = tt
+nothing-brought-requires : tie.Need-nothing-brought-requires Inv-loop μ-loop
+nothing-brought-requires c κs = tt
 
 loop-holds : tie.Need-loop-holds Inv-loop μ-loop
 loop-holds c =
     let start = c .before .before .before .before in
     let pre = start .pre in
     record {
-      reaches = none-yet (simp length-map at (start .good .0 .1 .1 .0 .1 .0 .1)) (pre .0) (c .before .before .reach-count .ensures) (c .no-feet .ensures);
+      reaches = none-yet (simp length-map at (start .good .0 .1 .1 .0 .1 .0 .1)) (pre .0) (c .before .before .reach-count .ensures) (c .nothing-brought .ensures);
       nitrification = pre .2;
       sized = c .before .record-bytes .ensures ∙ ap recordBytes (pre .2);
       room = pre .1;
@@ -62,20 +62,20 @@ loop-holds c =
     }
 
 -- the record of the next reach has room, what it is handed, and the tables and the report with it
-module _ {cs : Cards} {flows : FlowTable} {report₀ : List ℕ} {count : ℕ} {nitrified : Bool} {size : ℕ} {report : List ℕ} {feet : FootTable} {i : ℕ} (p : Progress cs flows report₀ count nitrified size report feet i) (l : i < count) where
+module _ {cs : Cards} {flows : FlowTable} {report₀ : List ℕ} {count : ℕ} {nitrified : Bool} {size : ℕ} {report : List ℕ} {by-reach : BroughtTable} {i : ℕ} (p : Progress cs flows report₀ count nitrified size report by-reach i) (l : i < count) where
   room-for : size * i + recordSize (cardList cs) ≤ length report
   room-for = rw (p .sized, p .filled .same) (row-fits (recordSize (cardList cs)) (here (p .reaches) l) (p .room))
 
   place-small : size * i ≤ 40 * 128
   place-small = rw (p .sized) (mul-le-mul (record-bounds (hasNitrification (cardList cs)) .1) (le-of-lt (few (p .reaches) l)))
 
-  abbrev record-at : {brought : Brought} → brought ≡ broughtBy flows feet i → PlacedAt (getD (cs .at) i blank) (flowsBy flows i) brought nitrified (size * i) (length report)
+  abbrev record-at : {brought : Brought} → brought ≡ broughtByTables flows by-reach i → PlacedAt (getD (cs .at) i blank) (flowsBy flows i) brought nitrified (size * i) (length report)
   record-at e = record { line = handed (p .reaches) l e; nitrification = p .nitrification; room = room-for }
 
-  one-more : {after : List ℕ} {foot : Brought} → ReachReported (cardList cs) i (size * i) report after foot → Progress cs flows report₀ count nitrified size after (withFoot feet i foot) (i + 1)
+  one-more : {after : List ℕ} {brought : Brought} → ReachReported (cardList cs) i (size * i) report after brought → Progress cs flows report₀ count nitrified size after (broughtEntered by-reach i brought) (i + 1)
   one-more done =
       record {
-        reaches = handed-on (p .reaches) l (done .foot);
+        reaches = handed-on (p .reaches) l (done .hands-on);
         nitrification = p .nitrification;
         sized = p .sized;
         room = p .room;
@@ -84,15 +84,15 @@ module _ {cs : Cards} {flows : FlowTable} {report₀ : List ℕ} {count : ℕ} {
             (fill-more (recordOf (cardList cs)) (recordSize (cardList cs)) (λ j. record-length (hasNitrification (cardList cs)) (reportedAt (cardList cs) (suc j))) (p .filled) (rw (p .sized) at room-for) (rw (p .sized) at (done .report)));
       }
 
--- the places on the way to what is brought: the reach is one of the river, its card and its flows are read, and then the feet
+-- the places on the way to what is brought: the reach is one of the river, its card and its flows are read, and then what each reach brings
 abbrev card-at : tie.After-flows Inv-loop μ-loop → tie.After-card Inv-loop μ-loop
 card-at c = c .before .before .before .before
 
-abbrev feet-at : tie.After-brought-to-arg5 Inv-loop μ-loop → tie.After-feet Inv-loop μ-loop
-feet-at c = c .before .before .before .before
+abbrev by-reach-at : tie.After-brought-to-arg5 Inv-loop μ-loop → tie.After-by-reach Inv-loop μ-loop
+by-reach-at c = c .before .before .before .before
 
 abbrev test-of : tie.After-brought-to-arg5 Inv-loop μ-loop → tie.In-loop Inv-loop μ-loop
-test-of c = card-at (feet-at c .before .before) .before
+test-of c = card-at (by-reach-at c .before .before) .before
 
 abbrev brought-at : tie.After-slice-known2 Inv-loop μ-loop → tie.After-brought-to Inv-loop μ-loop
 brought-at c = c .before .before .before .before
@@ -112,8 +112,8 @@ report-reach-requires c κs =
     let test = test-of (c .before .before) in
     record-at (test .before .loop .inv) (test .loop-test .taken) (c .before .brought-to .ensures)
 
-element-write-feet : tie.Need-element-write-feet Inv-loop μ-loop
-element-write-feet c =
+element-write-by-reach : tie.Need-element-write-by-reach Inv-loop μ-loop
+element-write-by-reach c =
     let test = test-of (brought-at c .before) in
     few (test .before .loop .inv .reaches) (test .loop-test .taken)
 
@@ -142,7 +142,7 @@ report-all-spec =
     μ-loop
     reach-count-requires
     record-bytes-requires
-    no-feet-requires
+    nothing-brought-requires
     loop-holds
     (λ mul-card. search needs)
     (λ element-copy-out-card. search needs)
@@ -154,13 +154,13 @@ report-all-spec =
     brought-to-requires
     mul-report-reach
     report-reach-requires
-    (λ mul-feet. omega (arith, element-write-feet mul-feet))
-    element-write-feet
-    (λ mul-feet-2. omega (arith, element-write-feet mul-feet-2))
-    element-write-feet
-    (λ mul-feet-3. omega (arith, element-write-feet mul-feet-3))
-    element-write-feet
-    element-write-feet
+    (λ mul-by-reach. omega (arith, element-write-by-reach mul-by-reach))
+    element-write-by-reach
+    (λ mul-by-reach-2. omega (arith, element-write-by-reach mul-by-reach-2))
+    element-write-by-reach
+    (λ mul-by-reach-3. omega (arith, element-write-by-reach mul-by-reach-3))
+    element-write-by-reach
+    element-write-by-reach
     (λ add-i. omega arith)
     (λ loop-less. omega arith)
     loop-again

@@ -1,8 +1,8 @@
--- `report::lines::report_reach` meets its contract: the record put in place is that of the reach, and its foot and status are told.
+-- `report::lines::report_reach` meets its contract: the record put in place is that of the reach, and what its foot brings is told.
 -- Assumes nothing.
 use native.Mathlib.Omega.{arith}
 use borrow.Author.Needs.{needs}
-use Rattle.report.proofs.lines.Feet.{flow-small, reach-reported}
+use Rattle.report.proofs.lines.Bringing.{flow-small, reach-reported}
 use Rattle.report.proofs.lines.report_reach.Statement.{statement}
 use Rattle.report.proofs.lines.report_reach.Tie as tie
 
@@ -14,8 +14,8 @@ put-record-requires c κs =
     let p = start-of c .pre in
     rw (p .nitrification) (p .room)
 
-foot-of-requires : tie.Need-foot-of-requires
-foot-of-requires c κs = flow-small (start-of (c .before .before .before .before) .pre .line)
+brought-by-requires : tie.Need-brought-by-requires
+brought-by-requires c κs = flow-small (start-of (c .before .before .before .before) .pre .line)
 
 returns : tie.Need-returns
 returns c =
@@ -23,7 +23,7 @@ returns c =
     let shown = put .before in
     let made = shown .before .before .line-at in
     λ here.
-    reach-reported (here .line) (made .ensures (here .line)) _ _ _ (c .before .is-used .ensures) (c .foot-of .ensures) (omega (arith, made .ok))
+    reach-reported (here .line) (made .ensures (here .line)) _ _ _ (c .before .is-used .ensures) (c .brought-by .ensures) (omega (arith, made .ok))
     (rw (here .nitrification, shown .reported .ensures) at (put .put-record .ensures .buffer))
 
 pub report-reach-spec : {M : Type 1} → statement M
@@ -34,6 +34,6 @@ report-reach-spec =
     (λ reported-requires. search needs)
     put-record-requires
     (λ is-used-requires. search needs)
-    foot-of-requires
+    brought-by-requires
     (λ same-length. search needs)
     returns)

@@ -1,4 +1,5 @@
--- Tables of feet: one more foot stays in bounds, one step of the loop that gathers what feeders bring, and the sum of flow × stored oxygen over the feeders stands for that of flow × oxygen.
+-- Tables of what reaches bring: one more stays in bounds, one step of the loop that gathers what feeders bring, and the sum of flow × stored oxygen
+-- over the feeders stands for that of flow × oxygen.
 use mathlib.Core.Path.{_≡_, refl, sym, ap, ap₂, _∙_}
 use mathlib.Core.Bool.{Bool, true, false}
 use mathlib.Core.List.{List}
@@ -11,26 +12,26 @@ use lib.Dec.{eqb}
 use lib.IntN.{ℤ, pos, subℕ, _+ℤ_, _*ℤ_}
 use Rattle.river.specs.declared.card.Card.{Card}
 use Rattle.flows.specs.declared.head.Brought.{Brought}
-use Rattle.flows.specs.declared.head.FootTable.{FootTable}
+use Rattle.flows.specs.declared.head.BroughtTable.{BroughtTable}
 use Rattle.flows.specs.Flow.{Feeders, none, more, feedersAmong, joinedIf, flowOf, reachFlow, flowAt, massAt}
 use Rattle.flows.proofs.flow.Table.{entered, Scanned, scanned-next, sum-feeder, sum-other, any-feeder, any-other, sum-so-far}
 use Rattle.flows.proofs.head.Offset.{sub-add, times-sub}
 use Rattle.flows.specs.held.FlowTable.{onlyIf, tableSum}
 use Rattle.flows.specs.held.Stored.{storedZero, storedLimit, oxygenOf, oxygenSumOf}
-use Rattle.flows.specs.held.HeadTable.{noFeet, footOf, withFoot, FootFits, broughtWith, broughtAmong, FootWithin, FullFeet, Carried}
+use Rattle.flows.specs.held.HeadTable.{nothingBrought, broughtBy, broughtEntered, BroughtWithFits, broughtWith, broughtAmong, BroughtWithin, BroughtFull, Carried}
 use Rattle.river.specs.Card.{blank}
 
--- a foot whose demands together are at most a head's is in bounds
-pub foot-within : {cards : List Card} {i flow oxygen : ℕ} {used : Bool} (head bod nitrogenous : ℕ) → flow ≡ flowAt cards (suc i) → bod + nitrogenous ≤ head → flowAt cards (suc i) * head ≤ 1000 * massAt cards (suc i) → oxygen ≤ storedLimit → FootWithin cards i (footOf flow bod nitrogenous oxygen used)
-foot-within {cards} {i} head bod nitrogenous e falls mass small =
+-- what a foot brings is in bounds where its demands together are at most a head's
+pub brought-within : {cards : List Card} {i flow oxygen : ℕ} {used : Bool} (head bod nitrogenous : ℕ) → flow ≡ flowAt cards (suc i) → bod + nitrogenous ≤ head → flowAt cards (suc i) * head ≤ 1000 * massAt cards (suc i) → oxygen ≤ storedLimit → BroughtWithin cards i (broughtBy flow bod nitrogenous oxygen used)
+brought-within {cards} {i} head bod nitrogenous e falls mass small =
     rw e
     record {
       demands = omega (arith, mul-le-mul-left (flowAt cards (suc i)) falls, mass);
       oxygen = omega (arith, mul-le-mul-left (flowAt cards (suc i)) small);
     }
 
--- no feet are in bounds
-pub carried-none : (cards : List Card) → Carried cards noFeet 0
+-- nothing brought is in bounds
+pub carried-none : (cards : List Card) → Carried cards nothingBrought 0
 carried-none cards =
     record {
       full = record { bod = refl; nitrogenous = refl; oxygen = refl; used = refl };
@@ -38,37 +39,37 @@ carried-none cards =
       oxygen = λ j l. absurd (not-suc-le-zero l);
     }
 
--- one more foot in bounds
-pub carried-next : {cards : List Card} {feet : FootTable} {i : ℕ} {foot : Brought} → Carried cards feet i → i < 128 → FootWithin cards i foot → Carried cards (withFoot feet i foot) (suc i)
-carried-next {cards} {feet} {i} {foot} h few within =
+-- what one more reach brings, in bounds
+pub carried-next : {cards : List Card} {by-reach : BroughtTable} {i : ℕ} {brought : Brought} → Carried cards by-reach i → i < 128 → BroughtWithin cards i brought → Carried cards (broughtEntered by-reach i brought) (suc i)
+carried-next {cards} {by-reach} {i} {brought} h few within =
     record {
       full =
           record {
-            bod = length-set (feet .bod) i (foot .bod) ∙ full .bod;
-            nitrogenous = length-set (feet .nitrogenous) i (foot .nitrogenous) ∙ full .nitrogenous;
-            oxygen = length-set (feet .oxygen) i (foot .oxygen) ∙ full .oxygen;
-            used = length-set (feet .used) i (foot .used) ∙ full .used;
+            bod = length-set (by-reach .bod) i (brought .bod) ∙ full .bod;
+            nitrogenous = length-set (by-reach .nitrogenous) i (brought .nitrogenous) ∙ full .nitrogenous;
+            oxygen = length-set (by-reach .oxygen) i (brought .oxygen) ∙ full .oxygen;
+            used = length-set (by-reach .used) i (brought .used) ∙ full .used;
           };
       demands =
-          entered (feet .bod) i (foot .bod) (λ j x. x + getD (set (feet .nitrogenous) i (foot .nitrogenous)) j 0 ≤ 1000 * massAt cards (suc j)) (rw (full .bod) few)
-          (rw (getD-set-same (feet .nitrogenous) i (foot .nitrogenous) 0 (rw (full .nitrogenous) few)) (within .demands))
-          (λ j l. rw (getD-set-other (feet .nitrogenous) i j (foot .nitrogenous) 0 (λ (q : j ≡ i). omega arith)) (h .demands j l));
+          entered (by-reach .bod) i (brought .bod) (λ j x. x + getD (set (by-reach .nitrogenous) i (brought .nitrogenous)) j 0 ≤ 1000 * massAt cards (suc j)) (rw (full .bod) few)
+          (rw (getD-set-same (by-reach .nitrogenous) i (brought .nitrogenous) 0 (rw (full .nitrogenous) few)) (within .demands))
+          (λ j l. rw (getD-set-other (by-reach .nitrogenous) i j (brought .nitrogenous) 0 (λ (q : j ≡ i). omega arith)) (h .demands j l));
       oxygen =
-          entered (feet .oxygen) i (foot .oxygen) (λ j x. x ≤ storedLimit * flowAt cards (suc j)) (rw (full .oxygen) few) (within .oxygen) (h .oxygen);
+          entered (by-reach .oxygen) i (brought .oxygen) (λ j x. x ≤ storedLimit * flowAt cards (suc j)) (rw (full .oxygen) few) (within .oxygen) (h .oxygen);
     }
   where
-    full : FullFeet feet
+    full : BroughtFull by-reach
     full = h .full
 
 -- a scan for what the feeders of a reach bring
 module _ (outlets of-bod of-nitrogenous of-oxygen : List ℕ) (of-used : List Bool) (i : ℕ) {most n : ℕ} {held : Brought} (s : Scanned (λ (n : ℕ). broughtAmong outlets of-bod of-nitrogenous of-oxygen of-used n i) most n held) (l : n < most) where
-  pub foot-fits :
+  pub brought-with-fits :
       getD outlets n 0 ≡ i →
       tableSum outlets of-bod most i < 2 ^ 64 →
       tableSum outlets of-nitrogenous most i < 2 ^ 64 →
       tableSum outlets of-oxygen most i < 2 ^ 64 →
-      FootFits held (getD of-bod n 0) (getD of-nitrogenous n 0) (getD of-oxygen n 0)
-  foot-fits e p q r =
+      BroughtWithFits held (getD of-bod n 0) (getD of-nitrogenous n 0) (getD of-oxygen n 0)
+  brought-with-fits e p q r =
       rw (s .so-far)
       record {
         bod = lt-of-le-of-lt (sum-so-far outlets of-bod l e) p;
@@ -76,18 +77,18 @@ module _ (outlets of-bod of-nitrogenous of-oxygen : List ℕ) (of-used : List Bo
         oxygen = lt-of-le-of-lt (sum-so-far outlets of-oxygen l e) r;
       }
 
-  pub foot-gathered :
+  pub brought-gathered :
       getD outlets n 0 ≡ i →
       {next : Brought} →
       next ≡ broughtWith held (getD of-bod n 0) (getD of-nitrogenous n 0) (getD of-oxygen n 0) (getD of-used n false) →
       Scanned (λ (n : ℕ). broughtAmong outlets of-bod of-nitrogenous of-oxygen of-used n i) most (n + 1) next
-  foot-gathered h e =
+  brought-gathered h e =
       scanned-next (λ (b : Brought). broughtWith b (getD of-bod n 0) (getD of-nitrogenous n 0) (getD of-oxygen n 0) (getD of-used n false)) s l e
       (rw (sum-feeder outlets of-bod n i h, sum-feeder outlets of-nitrogenous n i h, sum-feeder outlets of-oxygen n i h, any-feeder outlets of-used n i h))
 
-  pub foot-passed :
+  pub brought-passed :
       (getD outlets n 0 ≡ i → ⊥) → {next : Brought} → next ≡ held → Scanned (λ (n : ℕ). broughtAmong outlets of-bod of-nitrogenous of-oxygen of-used n i) most (n + 1) next
-  foot-passed h e =
+  brought-passed h e =
       scanned-next (λ (b : Brought). b) s l e
       (rw (sum-other outlets of-bod n i h, sum-other outlets of-nitrogenous n i h, sum-other outlets of-oxygen n i h, any-other outlets of-used n i h))
 

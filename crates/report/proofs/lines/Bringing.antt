@@ -1,5 +1,5 @@
--- The head, the line and the foot of a reach of an accepted river, from the tables of flows and feet and from what is handed on of them.
--- Assumes nothing.
+-- The head and the line of a reach of an accepted river and what its foot brings, from the tables of flows and of what is brought, and from what
+-- is handed on of them. Assumes nothing.
 use mathlib.Core.Path.{_≡_, refl, sym, ap, ap₂, _∙_, subst}
 use mathlib.Core.Bool.{Bool, false, cond}
 use mathlib.Core.List.{List, [], _∷_}
@@ -19,7 +19,7 @@ use Rattle.river.specs.declared.card.Card.{Card}
 use Rattle.flows.specs.declared.flow.FlowTable.{FlowTable}
 use Rattle.flows.specs.declared.flow.ReachFlows.{ReachFlows}
 use Rattle.flows.specs.declared.head.Brought.{Brought}
-use Rattle.flows.specs.declared.head.FootTable.{FootTable}
+use Rattle.flows.specs.declared.head.BroughtTable.{BroughtTable}
 use Rattle.flows.specs.declared.head.Head.{Head}
 use Rattle.river.specs.declared.source.Demand.{Demand}
 use Rattle.river.specs.declared.source.Demand.the-variants.{Bod, Nitrogenous}
@@ -28,12 +28,12 @@ use Rattle.river.specs.Source.{sourceOf}
 use Rattle.flows.specs.Flow.{Feeders, flowLimit, cardOf, above, feedersAmong, fed, flowOf, reachFlow, flowAt, massAt, depthAt}
 use Rattle.flows.specs.held.FlowTable.{tableAny, feederSum}
 use Rattle.flows.specs.Head.{headDemand, headOxygen}
-use Rattle.flows.specs.held.HeadTable.{noFeet, footOf, withFoot, HeadInput, HeadOf, FootWithin, HeadTabled}
+use Rattle.flows.specs.held.HeadTable.{nothingBrought, broughtBy, broughtEntered, HeadInput, HeadOf, BroughtWithin, HeadTabled}
 use Rattle.flows.specs.held.Stored.{storedZero, oxygenOf, storedOf}
 use Rattle.flows.proofs.head.Offset.{sub-pos, sub-neg, minus}
 use Rattle.flows.proofs.flow.Table.{entered, entered-at, Adds, TableOf, sum-of-feeders, any-of-feeders}
-use Rattle.flows.proofs.head.Feet.{AddsFlowTimes, StoredTable, oxygen-of-feeders, foot-within, carried-none, carried-next}
-use Rattle.flows.proofs.head.Heads.{fedBy, quBy, broughtBy, flow-bounded, fed-here, qu-here, head-input, head-within}
+use Rattle.flows.proofs.head.Bringing.{AddsFlowTimes, StoredTable, oxygen-of-feeders, brought-within, carried-none, carried-next}
+use Rattle.flows.proofs.head.Heads.{fedBy, quBy, broughtByTables, flow-bounded, fed-here, qu-here, head-input, head-within}
 use Rattle.report.specs.held.Bed.{lossLimit}
 use Rattle.report.specs.Program.{demandSum, oxygenSum, demandAtHead, oxygenAtHead, demandAt, oxygenAt, usedAbove, figuresBelow, figuresOf, figuresAt, foot}
 use Rattle.report.specs.Ties.{footFigure}
@@ -41,7 +41,7 @@ use Rattle.report.specs.Record.{hasNitrification, encodeRecord, Figures}
 use Rattle.report.specs.held.LineFigures.{figuresIn}
 use Rattle.report.specs.Status.{isUsed, reported}
 use Rattle.report.specs.declared.record.Line.{Line}
-use Rattle.report.specs.held.Lines.{LineReady, HeadFits, footBy, Ready, FeetOf, LineOf, LineAt, HeadOfReach, FootOf, ReachReported}
+use Rattle.report.specs.held.Lines.{LineReady, HeadFits, broughtByFigures, Ready, BroughtTabled, LineOf, LineAt, HeadOfReach, HandsOn, ReachReported}
 use Rattle.report.proofs.Facts.Floor.{ofℤ-sub}
 use Rattle.report.proofs.lines.Used.{used-finds}
 use Rattle.report.proofs.Bounds.{mostBelow}
@@ -90,8 +90,8 @@ unfolding figuresOf demandAt
 foot-figure Bod card up = refl
 foot-figure Nitrogenous card up = refl
 
-module _ {cards : List Card} {flows : FlowTable} {feet : FootTable} {i : ℕ} (ready : Ready cards flows) (f : FeetOf cards feet i) (l : i < length cards) where
-  pub head-tabled : HeadTabled cards flows feet i
+module _ {cards : List Card} {flows : FlowTable} {by-reach : BroughtTable} {i : ℕ} (ready : Ready cards flows) (f : BroughtTabled cards by-reach i) (l : i < length cards) where
+  pub head-tabled : HeadTabled cards flows by-reach i
   head-tabled =
       record {
         lawful = ready .lawful;
@@ -112,7 +112,7 @@ module _ {cards : List Card} {flows : FlowTable} {feet : FootTable} {i : ℕ} (r
             value = λ j k. h j k ∙ ap (λ (n : ℕ). flowAt cards (suc j) * n) (foot-figure d (getD cards j blank) (feedersAmong cards j (suc j)));
           }
 
-  oxygen-table : StoredTable cards (λ card up. oxygenAt card up foot) (λ j. storedOf (figuresAt cards (suc j) .foot-oxygen)) (flows .outlet) (feet .oxygen) i
+  oxygen-table : StoredTable cards (λ card up. oxygenAt card up foot) (λ j. storedOf (figuresAt cards (suc j) .foot-oxygen)) (flows .outlet) (by-reach .oxygen) i
   unfolding figuresOf oxygenAt
   oxygen-table =
       record {
@@ -121,18 +121,18 @@ module _ {cards : List Card} {flows : FlowTable} {feet : FootTable} {i : ℕ} (r
         oxygen = λ j k. stored-back _ (instant-in-range (is-river ready) j (omega arith) foot (le-refl foot) .oxygen-low);
       }
 
-  pub used-table : tableAny (flows .outlet) (feet .used) i (suc i) ≡ usedAbove (above cards (suc i))
+  pub used-table : tableAny (flows .outlet) (by-reach .used) i (suc i) ≡ usedAbove (above cards (suc i))
   used-table = any-of-feeders used-finds (record { outlet = λ j k. ready .tabled .outlet j (omega arith); value = f .used }) (suc i)
 
   -- the head that these make is that of the reach
-  module _ {h : Head} (of : HeadOf (cardOf cards (suc i)) (fed (above cards (suc i))) (flowOf (above cards (suc i))) (broughtBy flows feet i) h) where
+  module _ {h : Head} (of : HeadOf (cardOf cards (suc i)) (fed (above cards (suc i))) (flowOf (above cards (suc i))) (broughtByTables flows by-reach i) h) where
     head-bod : h .bod ≡ demandAtHead Bod (cardOf cards (suc i)) (above cards (suc i))
     unfolding demandAtHead
-    head-bod = of .bod ∙ ap (headDemand (sourceOf Bod (cardOf cards (suc i))) (fed (above cards (suc i))) (flowOf (above cards (suc i)))) (demand-table Bod (feet .bod) (f .bod))
+    head-bod = of .bod ∙ ap (headDemand (sourceOf Bod (cardOf cards (suc i))) (fed (above cards (suc i))) (flowOf (above cards (suc i)))) (demand-table Bod (by-reach .bod) (f .bod))
 
     head-nitrogenous : h .nitrogenous ≡ demandAtHead Nitrogenous (cardOf cards (suc i)) (above cards (suc i))
     unfolding demandAtHead
-    head-nitrogenous = of .nitrogenous ∙ ap (headDemand (sourceOf Nitrogenous (cardOf cards (suc i))) (fed (above cards (suc i))) (flowOf (above cards (suc i)))) (demand-table Nitrogenous (feet .nitrogenous) (f .nitrogenous))
+    head-nitrogenous = of .nitrogenous ∙ ap (headDemand (sourceOf Nitrogenous (cardOf cards (suc i))) (fed (above cards (suc i))) (flowOf (above cards (suc i)))) (demand-table Nitrogenous (by-reach .nitrogenous) (f .nitrogenous))
 
     head-oxygen : oxygenOf (h .oxygen) ≡ oxygenAtHead (cardOf cards (suc i)) (above cards (suc i))
     unfolding oxygenAtHead
@@ -152,8 +152,8 @@ module _ {cards : List Card} {flows : FlowTable} {feet : FootTable} {i : ℕ} (r
 
 -- what is handed on of a reach
 module _ {card : Card} {reach : ReachFlows} {brought : Brought} (p : LineAt card reach brought) where
-  tabled : HeadTabled (p .cards) (p .flows) (p .feet) (p .i)
-  tabled = head-tabled (p .ready) (p .feet-are) (p .within)
+  tabled : HeadTabled (p .cards) (p .flows) (p .by-reach) (p .i)
+  tabled = head-tabled (p .ready) (p .brought-tabled) (p .within)
 
   pub flow-here : reach .flow ≡ flowAt (p .cards) (suc (p .i))
   flow-here = rw (p .flows-are) (p .ready .tabled .flow (p .i) (p .within))
@@ -162,7 +162,7 @@ module _ {card : Card} {reach : ReachFlows} {brought : Brought} (p : LineAt card
   depth-here = rw (p .flows-are) (p .ready .tabled .depth (p .i) (p .within))
 
   pub used-here : brought .used ≡ usedAbove (above (p .cards) (suc (p .i)))
-  used-here = rw (p .brought-is) (used-table (p .ready) (p .feet-are) (p .within))
+  used-here = rw (p .brought-is) (used-table (p .ready) (p .brought-tabled) (p .within))
 
   pub flow-small : reach .flow ≤ flowLimit
   flow-small = rw (p .flows-are) (flow-bounded tabled)
@@ -175,7 +175,7 @@ module _ {card : Card} {reach : ReachFlows} {brought : Brought} (p : LineAt card
   pub head-here : {h : Head} → HeadOf card (ltb 1 (reach .depth)) (reach .upstream) brought h → HeadOfReach (p .cards) (p .i) h
   head-here {h} of =
       let at-tables : HeadOf card (fedBy (p .flows) (p .i)) (quBy (p .flows) (p .i)) brought h = rw (p .flows-are) at of in
-      head-of-reach (p .ready) (p .feet-are) (p .within) (rw (p .brought-is, qu-here tabled, fed-here tabled, p .own) at at-tables)
+      head-of-reach (p .ready) (p .brought-tabled) (p .within) (rw (p .brought-is, qu-here tabled, fed-here tabled, p .own) at at-tables)
       (head-within tabled (p .own) refl (p .brought-is) at-tables)
 
   module _ {h : Head} (here : HeadOfReach (p .cards) (p .i) h) where
@@ -199,11 +199,11 @@ module _ {card : Card} {reach : ReachFlows} {brought : Brought} (p : LineAt card
 
   -- what a line says of its reach
   module _ {line : Line} (of : LineOf (p .cards) (p .i) line) where
-    brings : footOf (reach .flow) (line .«foot_bod») (line .«foot_nitrogenous») (line .«foot_oxygen») (isUsed (line .status)) ≡ footBy (flowAt (p .cards) (suc (p .i))) (figuresAt (p .cards) (suc (p .i)))
+    brings : broughtBy (reach .flow) (line .«foot_bod») (line .«foot_nitrogenous») (line .«foot_oxygen») (isUsed (line .status)) ≡ broughtByFigures (flowAt (p .cards) (suc (p .i))) (figuresAt (p .cards) (suc (p .i)))
     brings =
-        ap (λ (n : ℕ). footOf n (line .«foot_bod») (line .«foot_nitrogenous») (line .«foot_oxygen») (isUsed (line .status))) flow-here
-        ∙ ap (λ (n : ℕ). footOf (flowAt (p .cards) (suc (p .i))) (line .«foot_bod») (line .«foot_nitrogenous») n (isUsed (line .status))) (sym (stored-of (line .«foot_oxygen»)))
-        ∙ ap (footBy (flowAt (p .cards) (suc (p .i)))) (of .figures)
+        ap (λ (n : ℕ). broughtBy n (line .«foot_bod») (line .«foot_nitrogenous») (line .«foot_oxygen») (isUsed (line .status))) flow-here
+        ∙ ap (λ (n : ℕ). broughtBy (flowAt (p .cards) (suc (p .i))) (line .«foot_bod») (line .«foot_nitrogenous») n (isUsed (line .status))) (sym (stored-of (line .«foot_oxygen»)))
+        ∙ ap (broughtByFigures (flowAt (p .cards) (suc (p .i)))) (of .figures)
 
     foot-falls : line .«foot_bod» + line .«foot_nitrogenous» ≤ line .«head_bod» + line .«head_nitrogenous»
     foot-falls =
@@ -212,40 +212,40 @@ module _ {card : Card} {reach : ReachFlows} {brought : Brought} (p : LineAt card
         let n : line .«foot_nitrogenous» ≤ line .«head_nitrogenous» = rw (ap (λ (f : Figures). f .foot-nitrogenous) (of .figures), ap (λ (f : Figures). f .head-nitrogenous) (of .figures)) (t Nitrogenous) in
         omega (arith, b, n)
 
-    -- its foot and its record
+    -- what its foot brings, and its record
     pub reach-reported :
-        (at : ℕ) (before after : List ℕ) {foot : Brought} {used : Bool} →
+        (at : ℕ) (before after : List ℕ) {told : Brought} {used : Bool} →
         used ≡ isUsed (line .status) →
-        foot ≡ footOf (reach .flow) (line .«foot_bod») (line .«foot_nitrogenous») (line .«foot_oxygen») used →
+        told ≡ broughtBy (reach .flow) (line .«foot_bod») (line .«foot_nitrogenous») (line .«foot_oxygen») used →
         line .«foot_oxygen» < 4_294_967_296 →
         after ≡ sets before at (encodeRecord (hasNitrification (p .cards)) (reported (figuresIn line))) →
-        ReachReported (p .cards) (p .i) at before after foot
+        ReachReported (p .cards) (p .i) at before after told
     reach-reported at before after status e fits r =
         record {
-          foot =
+          hands-on =
               record {
-                brings = e ∙ ap (footOf (reach .flow) (line .«foot_bod») (line .«foot_nitrogenous») (line .«foot_oxygen»)) status ∙ brings;
-                within = rw e (foot-within (line .«head_bod» + line .«head_nitrogenous») (line .«foot_bod») (line .«foot_nitrogenous») flow-here foot-falls (of .mass) (omega arith));
+                brings = e ∙ ap (broughtBy (reach .flow) (line .«foot_bod») (line .«foot_nitrogenous») (line .«foot_oxygen»)) status ∙ brings;
+                within = rw e (brought-within (line .«head_bod» + line .«head_nitrogenous») (line .«foot_bod») (line .«foot_nitrogenous») flow-here foot-falls (of .mass) (omega arith));
               };
           report = r ∙ ap (λ (f : Figures). sets before at (encodeRecord (hasNitrification (p .cards)) (reported f))) (of .figures);
         }
 
--- the feet with that of one more reach
-pub feet-next : {cards : List Card} {feet : FootTable} {i : ℕ} {foot : Brought} → i < 128 → FeetOf cards feet i → FootOf cards i foot → FeetOf cards (withFoot feet i foot) (i + 1)
-feet-next {cards} {feet} {i} {foot} few f of =
+-- the tables with what one more reach brings
+pub brought-next : {cards : List Card} {by-reach : BroughtTable} {i : ℕ} {brought : Brought} → i < 128 → BroughtTabled cards by-reach i → HandsOn cards i brought → BroughtTabled cards (broughtEntered by-reach i brought) (i + 1)
+brought-next {cards} {by-reach} {i} {brought} few f of =
     let e = of .brings in
     rw add-one
     record {
-      bod = entered (feet .bod) i (foot .bod) (λ j x. x ≡ footBy (flowAt cards (suc j)) (figuresAt cards (suc j)) .bod) (rw (f .carried .full .bod) few) (ap (λ (b : Brought). b .bod) e) (f .bod);
-      nitrogenous = entered (feet .nitrogenous) i (foot .nitrogenous) (λ j x. x ≡ footBy (flowAt cards (suc j)) (figuresAt cards (suc j)) .nitrogenous) (rw (f .carried .full .nitrogenous) few) (ap (λ (b : Brought). b .nitrogenous) e) (f .nitrogenous);
-      oxygen = entered (feet .oxygen) i (foot .oxygen) (λ j x. x ≡ footBy (flowAt cards (suc j)) (figuresAt cards (suc j)) .oxygen) (rw (f .carried .full .oxygen) few) (ap (λ (b : Brought). b .oxygen) e) (f .oxygen);
-      used = entered-at (feet .used) i (foot .used) false (λ j x. x ≡ footBy (flowAt cards (suc j)) (figuresAt cards (suc j)) .used) (rw (f .carried .full .used) few) (ap (λ (b : Brought). b .used) e) (f .used);
+      bod = entered (by-reach .bod) i (brought .bod) (λ j x. x ≡ broughtByFigures (flowAt cards (suc j)) (figuresAt cards (suc j)) .bod) (rw (f .carried .full .bod) few) (ap (λ (b : Brought). b .bod) e) (f .bod);
+      nitrogenous = entered (by-reach .nitrogenous) i (brought .nitrogenous) (λ j x. x ≡ broughtByFigures (flowAt cards (suc j)) (figuresAt cards (suc j)) .nitrogenous) (rw (f .carried .full .nitrogenous) few) (ap (λ (b : Brought). b .nitrogenous) e) (f .nitrogenous);
+      oxygen = entered (by-reach .oxygen) i (brought .oxygen) (λ j x. x ≡ broughtByFigures (flowAt cards (suc j)) (figuresAt cards (suc j)) .oxygen) (rw (f .carried .full .oxygen) few) (ap (λ (b : Brought). b .oxygen) e) (f .oxygen);
+      used = entered-at (by-reach .used) i (brought .used) false (λ j x. x ≡ broughtByFigures (flowAt cards (suc j)) (figuresAt cards (suc j)) .used) (rw (f .carried .full .used) few) (ap (λ (b : Brought). b .used) e) (f .used);
       carried = carried-next (f .carried) few (of .within);
     }
 
--- no foot is entered yet
-pub no-feet-yet : (cards : List Card) → FeetOf cards noFeet 0
-no-feet-yet cards =
+-- nothing is entered yet
+pub nothing-brought-yet : (cards : List Card) → BroughtTabled cards nothingBrought 0
+nothing-brought-yet cards =
     record {
       bod = λ j l. absurd (not-suc-le-zero l);
       nitrogenous = λ j l. absurd (not-suc-le-zero l);
