@@ -2,5 +2,5 @@
 pub mod Fields
 pub mod Optional
 pub mod Described
-pub mod Feeder
+pub mod Ruled
 pub mod Rows

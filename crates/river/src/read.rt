@@ -356,7 +356,7 @@ fn card_at(s: &[u8], dam: Dam, optionals: Optionals) -> Card
     }
 }
 
-// A card of zeros: what is read where no byte is.
+// A card of zeros, with what reading finds where no byte is. It is not made by `card_at`, so that this has one caller, which takes it in.
 pub fn blank() -> Card
     ensures { λ r. ⌜ r ≡ blank ⌝ }
 {
@@ -364,7 +364,19 @@ pub fn blank() -> Card
     let read = read_optionals(&bytes[..], 0);
     let dam = read.dam;
     let optionals = read.optionals;
-    card_at(&bytes[..], dam, optionals)
+    Card {
+        outlet: 0,
+        temperature: 0,
+        k1: 0,
+        k2: 0,
+        volume: 0,
+        inflow: 0,
+        inflow_bod: 0,
+        inflow_oxygen: 0,
+        load: 0,
+        dam,
+        optionals,
+    }
 }
 
 // An outcome, and no reach.

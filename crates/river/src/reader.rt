@@ -101,30 +101,22 @@ pub fn begin(file: &[u8]) -> Progress
     }
 }
 
-// One reach more: its card, or the refusal, after which no reach is due.
-pub fn advance(p: Progress, reach: ReachRead) -> Progress
+// One reach more: its card, or the refusal, after which no reach is due. The card is put in its place, since new cards would be a copy of all.
+pub fn advance(mut p: Progress, reach: ReachRead) -> Progress
     requires { ⌜ (p .read < p .count) × (p .count ≤ 128) ⌝ }
     ensures { λ q. ⌜ Advances p reach q ⌝ }
 {
-    let mut at = p.at;
-    let count = p.count;
-    let read = p.read;
-    let factors = p.factors;
     let outcome = reach.outcome;
     let Outcome::Accepted = outcome else {
+        let at = p.at;
         return halted(at, outcome);
     };
-    let k = read as usize;
+    let k = p.read as usize;
     let card = reach.card;
-    at[k] = card;
-    Progress {
-        outcome,
-        at,
-        count,
-        read: read + 1,
-        next: reach.next,
-        factors,
-    }
+    p.at[k] = card;
+    p.read = p.read + 1;
+    p.next = reach.next;
+    p
 }
 
 // The reaches that are due, through a reader that is moved on to each.

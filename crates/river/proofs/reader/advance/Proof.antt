@@ -12,8 +12,8 @@ use Rattle.river.proofs.reader.advance.Tie as tie
 
 returns : tie.Need-returns
 returns c =
-    let told = c .before in
-    let start = told .before .before .before in
+    let told = c .before .before in
+    let start = told .before .before in
     let x = start .args .reach in
     let is = told .enum-told2 .given .1 in
     record {
@@ -21,17 +21,17 @@ returns c =
       fewer = rw (c .halted .ensures) (omega (arith, start .pre));
     }
 
-room : (c : tie.Start) → length (c .args .p .at) ≡ 128
+room : (c : tie.Start) → length (c .args .t1 .at) ≡ 128
 room c = search mapped-length
 
 returns-2 : tie.Need-returns-2
 returns-2 c =
     let told = c .before in
-    let start = told .before .before .before in
+    let start = told .before .before in
     let x = start .args .reach in
     let is = told .enum-told .given .1 in
     record {
-      goes = λ s g e. one-more s g (start .pre .0) (room start) (is-accepted (x .card) (e .answer) is) (e .place is) is;
+      goes = λ s g e. one-more s g (start .pre .0) (room start) (is-accepted (x .card) (e .answer) is) (e .place is) (g .opened (start .pre .0));
       fewer = omega arith;
     }
 
@@ -44,7 +44,7 @@ advance-spec =
     (λ halted-requires. search needs)
     returns
     (λ cast-k. search needs)
-    (λ mul-at. search needs)
-    (λ array-set-from-at. search needs)
-    (λ add-t17. search needs)
+    (λ mul-card. search needs)
+    (λ element-set-from-card. search needs)
+    (λ add-p. search needs)
     returns-2)
