@@ -76,10 +76,11 @@ def distances(text):
 
 def printed():
     """What the program prints. It is proved and built first; that it prints something else than is stored is no failure here."""
-    log = vectors.rt("check", "decay_vectors")
-    if "decay_vectors proved" not in log.stdout:
-        raise vectors.Failed(f"rt check decay_vectors failed:\n{log.stdout}")
-    return subprocess.run([os.path.join(vectors.ROOT, "target/bin/decay_vectors")], stdout=subprocess.PIPE, text=True, check=True).stdout
+    folder = os.path.join(vectors.ROOT, "crates/decay_vectors")
+    log = vectors.rt("run", folder=folder)
+    if log.returncode:
+        raise vectors.Failed(f"rt run failed in crates/decay_vectors:\n{log.stdout}")
+    return subprocess.run([os.path.join(folder, "out/decay_vectors")], stdout=subprocess.PIPE, text=True, check=True).stdout
 
 
 def make(write):
