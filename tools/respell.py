@@ -18,7 +18,8 @@ TOKEN = re.compile(r"[^\s(){}\[\];,.\"`]+")
 DECLARED = re.compile(
     r"^[ \t]*(?:(?:pub|unfoldable|abbrev|private|data|record|axiom)\s+)*([^\s(){};,.\"]+)\s*(?::|\{|\(|where)", re.M
 )
-MADE = ("Proof.antt", "Invariants.antt", "Answers.antt")
+# The file of a function's proof, in a folder of its own; a module of specs/ or proofs/ may be called Answers too.
+MADE = re.compile(r"/proofs/\S+/(Proof|Invariants|Answers)\.antt$")
 SHORT = re.compile(r"^[a-z][A-Z]'?$")
 
 # Facts and lemmas that a definition of the same words stands beside.
@@ -31,7 +32,14 @@ LOCAL = {
     "report/proofs/MeanOxygen.antt": ["in-range"],
     "report/proofs/lines/Bringing.antt": ["head-bod", "head-oxygen"],
 }
-FIELDS = {"report/proofs/Bench.antt": ["below-dam"], "flows/proofs/Bench.antt": ["below-dam"], "text/proofs/Bench.antt": ["river-mean"]}
+# Words of ours that the library has too, and the crates in which they are turned.
+ALSO = {
+    "at-end": "flows", "below-zero": "report text", "is-accepted": "river", "is-refused": "river", "cut-take": "river",
+    "ends-here": "decay", "first-is": "decay report", "joined-none": "report", "map-take": "text", "not-below": "decay report", "rest-is": "decay",
+}
+# Names that begin with the paper's S and F keep that and the dash behind it.
+SYMBOLS = {n: n[:2] + n[2:].replace("-", "_") for n in "S-composition-law F-composition-law S-zero-one S-at-zero S-tail-40".split()}
+FIELDS = {"text/proofs/Bench.antt": ["river-mean"]}
 
 
 def texts(root, *ends):
@@ -54,6 +62,13 @@ def library():
     return names
 
 
+def imported(text):
+    """The names that a file takes from the library."""
+    for path, names in re.findall(r"use ([^\s{;]+)\.\{([^}]*)\}", text):
+        if re.match(r"(mathlib|native|Prim|borrow|lib|denote|seplogic|mir|types|base|prog|sound|Rattle\.(std|core|io))\.", path):
+            yield from (n.strip().split(" as ")[0] for n in names.split(","))
+
+
 def wanted(word):
     if word.startswith("Rattle") or SHORT.match(word) or re.match(r"[A-Z]", word):
         return False
@@ -69,11 +84,14 @@ def snake(word):
 
 def turn(name, words, text):
     """The words of a piece of code in their new spelling."""
+    also = {w for w, crates in ALSO.items() if name.split("/")[0] in crates.split()}
     local, fields = LOCAL.get(name, []), FIELDS.get(name, [])
 
     def one(m):
         w = m.group(0)
-        if w not in words and w != "stored_of":
+        if w in SYMBOLS:
+            return SYMBOLS[w]
+        if w not in words and w not in also and w != "stored_of":
             return w
         behind_dot = m.start() > 0 and text[m.start() - 1] == "."
         if w == "stored_of":
@@ -98,8 +116,10 @@ def turned(name, words, text, comment):
 def main():
     crates = os.path.join(ROOT, "crates")
     taken, words = library(), set()
+    for p in texts(crates, ".antt", ".rt"):
+        taken.update(imported(read(p)))
     for p in texts(crates, ".antt"):
-        if os.path.basename(p) not in MADE:
+        if not MADE.search(p):
             plain = re.sub(r'"[^"\n]*"', " ", re.sub(r"--.*", "", read(p)))
             words.update(w for w in TOKEN.findall(plain) if wanted(w) and w not in taken)
     for p in texts(crates, ".antt", ".rt"):

@@ -1,7 +1,7 @@
 -- Fractions: a signed whole numerator over a positive whole denominator. Two fractions are compared by multiplying across, and so are errors.
 -- Equality, order and distance are those of the rational numbers; a fraction need not be in lowest terms.
 use Rattle.std.specs.Prelude.{◌≡◌, ℕ, zero, suc, ◌*◌, ◌<◌, ℤ, pos, negsuc, neg_ℤ, nat_abs, ◌+ℤ◌, ◌*ℤ◌, ◌≤ℤ◌}
-use Rattle.std.proofs.Common.{zero_le, suc_le_suc, mul-pos, lit<}
+use Rattle.std.proofs.Common.{zero-le, suc-le-suc, mul-pos, lit<}
 
 pub record Fraction : Type 0 where
   pub num : ℤ
@@ -51,8 +51,8 @@ a *ᶠ b = record { num = a.num *ℤ b.num; den = a.den * b.den; den_pos = mul-p
 -- d / n for a whole d and a signed n: the sign goes to the numerator, and the answer is 0 where n is 0
 unfoldable pub over : ℕ → ℤ → Fraction
 over d (pos zero) = of_ℕ 0
-over d (pos (suc n)) = record { num = pos d; den = suc n; den_pos = suc_le_suc zero_le }
-over d (negsuc n) = record { num = neg_ℤ (pos d); den = suc n; den_pos = suc_le_suc zero_le }
+over d (pos (suc n)) = record { num = pos d; den = suc n; den_pos = suc-le-suc zero-le }
+over d (negsuc n) = record { num = neg_ℤ (pos d); den = suc n; den_pos = suc-le-suc zero-le }
 
 -- a / b, total: dividing by 0 gives 0
 unfoldable pub ◌÷◌ : Fraction → Fraction → Fraction

@@ -1,5 +1,5 @@
 -- The series of a step, in the carried digits: their terms, their sums, and how many terms are summed.
-use Rattle.std.specs.Prelude.{cond, ◌≡◌, ℕ, zero, suc, ◌+◌, ◌-◌, ◌*◌, ◌/◌, ◌%◌, ◌≤◌, ◌<◌, eqb}
+use Rattle.std.specs.Prelude.{cond, ◌≡◌, ℕ, zero, suc, ◌+◌, ◌-◌, ◌/◌, ◌%◌, ◌≤◌, ◌<◌, eqb}
 use Rattle.decay.specs.Fixed.{product}
 use Rattle.decay.specs.declared.step.Terms.{Terms}
 use Rattle.decay.specs.declared.step.SeriesSum.{SeriesSum}

@@ -1,6 +1,6 @@
 -- "Mean oxygen" of the river file paper: the mean of a reach as it is reported, the mean of the river weighted by volume, and what a call of the entry
 -- returns and leaves in the buffer.
-use Rattle.std.specs.Prelude.{◌≡◌, cond, List, ◌++◌, ℕ, zero, suc, ◌+◌, ◌-◌, ◌*◌, ◌/◌, ◌%◌, ◌≤◌, ◌<◌, leb, ltb, ℤ, pos, negsuc, ◌+ℤ◌, ◌*ℤ◌, length, drop}
+use Rattle.std.specs.Prelude.{◌≡◌, cond, List, ◌++◌, ℕ, zero, suc, ◌+◌, ◌-◌, ◌*◌, ◌%◌, ◌≤◌, ◌<◌, leb, ltb, ℤ, pos, negsuc, ◌+ℤ◌, ◌*ℤ◌, length, drop}
 use Rattle.decay.specs.Fraction.{of_ℤ, ◌≼◌, distance}
 use Rattle.river.specs.declared.card.Card.{Card}
 use Rattle.river.specs.declared.source.Demand.TheVariants.{Bod, Nitrogenous}

@@ -1,7 +1,6 @@
 -- How large the factors and divisors of fixed-point numbers are, and a long division in chunks of eleven bits.
 use Rattle.std.specs.Prelude.{ℕ, ◌+◌, ◌*◌, ◌/◌, ◌%◌}
 use Rattle.decay.specs.declared.fixed.Division.{Division}
-use Rattle.decay.specs.Fixed.{product}
 
 -- the largest second factor of a product, 2^36
 abbrev pub small : ℕ

@@ -1,5 +1,5 @@
 -- The shares of one step, 1/1024 of a reach's travel time: BOD lost, BOD spent and deficit filled.
-use Rattle.std.specs.Prelude.{ℕ, zero, suc, ◌+◌, ◌-◌, ◌*◌, ◌/◌, ◌≤◌}
+use Rattle.std.specs.Prelude.{ℕ, zero, suc, ◌+◌, ◌*◌, ◌/◌, ◌≤◌}
 use Rattle.decay.specs.Fixed.{quotient}
 use Rattle.decay.specs.declared.step.Step.{Step}
 use Rattle.decay.specs.Series.{term_at, with_term, most_terms, series_of}

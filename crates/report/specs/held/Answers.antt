@@ -26,22 +26,22 @@ pub record ReportTold : Type 0 where
   pub count : ℕ
   pub nitrified : Bool
 
-abbrev pub reportTold : List Card → ReportTold
-reportTold cards = record { count = length cards; nitrified = has_nitrification cards }
+abbrev pub report_told : List Card → ReportTold
+report_told cards = record { count = length cards; nitrified = has_nitrification cards }
 
 abbrev pub AnswersReport : (file before after : List ℕ) → Reported → Type 0
 AnswersReport file before after r =
-    Answers (report_answer file (length before)) reportTold buffer_reported r.outcome (record { count = r.count; nitrified = r.nitrified }) before after
+    Answers (report_answer file (length before)) report_told buffer_reported r.outcome (record { count = r.count; nitrified = r.nitrified }) before after
 
 -- the means tell of a river how many reaches it has, and its mean
 pub record MeansTold : Type 0 where
   pub count : ℕ
   pub mean : Weighted
 
-abbrev pub meansTold : List Card → MeansTold
-meansTold cards = record { count = length cards; mean = river_mean cards }
+abbrev pub means_told : List Card → MeansTold
+means_told cards = record { count = length cards; mean = river_mean cards }
 
 abbrev pub AnswersMeans : (file before after : List ℕ) → RiverMean → Type 0
 AnswersMeans file before after r =
-    Answers (mean_answer file (length before)) meansTold buffer_averaged r.outcome
+    Answers (mean_answer file (length before)) means_told buffer_averaged r.outcome
     (record { count = r.count; mean = record { units = oxygen_of r.units; remainder = r.remainder } }) before after

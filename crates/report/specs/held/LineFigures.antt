@@ -1,5 +1,4 @@
 -- The figures that a line of the program stands for.
-use Rattle.std.specs.Prelude.{◌-◌}
 use Rattle.flows.specs.held.Stored.{oxygen_of}
 use Rattle.report.specs.declared.record.Line.{Line}
 use Rattle.report.specs.Record.{Figures}

@@ -1,5 +1,5 @@
 -- How near the exact loss to a sludge bed that of the program is.
-use Rattle.std.specs.Prelude.{ℕ, ◌+◌, ◌*◌}
+use Rattle.std.specs.Prelude.{ℕ, ◌+◌}
 use Rattle.decay.specs.Fraction.{Fraction, of_ℕ, ◌+ᶠ◌, ◌*ᶠ◌}
 use Rattle.decay.specs.held.Promise.{deficit_distance}
 use Rattle.river.specs.declared.card.Card.{Card}

@@ -1,5 +1,5 @@
 -- Mean oxygen along a reach by the digits of the program, which are free within demand 3.
-use Rattle.std.specs.Prelude.{ℕ, ◌-◌, ◌*◌, ◌/◌, ℤ, pos, ◌-ℤ◌}
+use Rattle.std.specs.Prelude.{ℕ, ◌*◌, ◌/◌, ℤ, pos, ◌-ℤ◌}
 use Rattle.decay.specs.held.Mean.{mean_factors_of, mean_demand_of}
 use Rattle.decay.specs.declared.factors.Factors.{Factors}
 use Rattle.river.specs.declared.card.Card.{Card}

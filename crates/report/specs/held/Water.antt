@@ -1,5 +1,5 @@
 -- The allowance that the proof carries down the river: by water, which is at most that by depth.
-use Rattle.std.specs.Prelude.{ℕ, ◌+◌, ◌*◌}
+use Rattle.std.specs.Prelude.{ℕ, ◌+◌}
 use Rattle.decay.specs.Fraction.{Fraction, of_ℕ, ◌+ᶠ◌, ◌*ᶠ◌, ◌÷◌}
 use Rattle.river.specs.declared.card.Card.{Card}
 use Rattle.flows.specs.Flow.{Feeders, none, more, flow_of, reach_flow}
