@@ -2,6 +2,8 @@
 // reporting on each file and, for accepted ones, figures of its reaches; how many bytes a reach has in the report of a file; and the result
 // of asking for means, with those of the reaches and of the river. The cases are named in tests/bench_vectors.py, which makes the stored
 // output too. More bench values of means are in tests/run_test.py.
+#![tactic(auto)]
+
 mod given;
 mod shown;
 

@@ -1,5 +1,7 @@
 // The bundle of cases that a test program reads on standard input: the length of a case in four bytes, high byte first, the case, and so on
 // to the end. Bytes at the end that are no whole case are passed over.
+#![tactic(auto)]
+
 ghost use Rattle.std.specs.Prelude.{◌+◌, ◌-◌, ◌≤◌, length};
 
 use river::bytes::{behind, four_at};

@@ -12,14 +12,14 @@ pub const STEPS: u64 = 1_024;
 pub const FOOT: u64 = STEPS;
 
 // A demand, such as BOD, in parts of 2^-44: what is left of it, and what of it has turned to deficit. It starts with at most one.
-#[derive(Drop)]
+#[derive(Clone, Copy)]
 pub struct DemandFactors {
     pub left: u64,
     pub turned: u64,
 }
 
 // BOD left, head BOD turned to deficit and head deficit left, as shares of one.
-#[derive(Drop)]
+#[derive(Clone, Copy)]
 pub struct Factors {
     pub left: u64,
     pub turned: u64,

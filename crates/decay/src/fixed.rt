@@ -23,7 +23,7 @@ pub fn product(a: u64, b: u64) -> u64
 }
 
 // A long division under way: the digits found and the remainder.
-#[derive(Drop)]
+#[derive(Clone, Copy)]
 pub struct Division {
     pub digits: u64,
     pub rest: u64,

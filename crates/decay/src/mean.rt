@@ -10,7 +10,7 @@ use crate::factors::{DemandFactors, FOOT, Factors, STEPS};
 use crate::step::Step;
 
 // A demand that has come to an instant, and the sums of what was left of it and what had turned at the instants before.
-#[derive(Drop)]
+#[derive(Clone, Copy)]
 pub struct DemandSums {
     pub reached: DemandFactors,
     pub left: u64,
@@ -18,7 +18,7 @@ pub struct DemandSums {
 }
 
 // The factors that have come to an instant, and their sums over the instants before.
-#[derive(Drop)]
+#[derive(Clone, Copy)]
 pub struct FactorSums {
     pub reached: Factors,
     pub left: u64,

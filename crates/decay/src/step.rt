@@ -7,7 +7,7 @@ ghost use Rattle.decay.specs.Series.{term_of, next_terms, with_term, SumsExactly
 use crate::fixed;
 
 // BOD lost, BOD spent (turned to deficit and not yet filled again) and deficit filled in one step, as shares of one.
-#[derive(Drop)]
+#[derive(Clone, Copy)]
 pub struct Step {
     pub lost: u64,
     pub spent: u64,
@@ -15,14 +15,14 @@ pub struct Step {
 }
 
 // A term of a series in its two parts: BOD lost, and the deficit made of it that is filled again within the step.
-#[derive(Drop)]
+#[derive(Clone, Copy)]
 pub struct Terms {
     pub lost: u64,
     pub back: u64,
 }
 
 // A series: the sum of its terms, and how many it has.
-#[derive(Drop)]
+#[derive(Clone, Copy)]
 pub struct SeriesSum {
     pub sum: u64,
     pub count: u64,
@@ -82,7 +82,8 @@ pub fn series(y: u64, z: u64) -> SeriesSum
     while count < MOST_TERMS {
         terms = next_terms(terms, y, z, count + 1);
         let t = terms.lost + terms.back;
-        if t == 0 {
+        let ended = t == 0;
+        if ended {
             break;
         }
         sum = with_term(sum, t, count);

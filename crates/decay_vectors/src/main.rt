@@ -1,6 +1,8 @@
 // Prints the shares of a step, how many terms each of their series has, and the factors at the instants 0, 1, 512 and 1024, for two dozen
 // reaches: equal rates, rates one apart, zero rates, no volume, the longest travel time that check 11 passes, the smallest and the largest
 // flow, and exponents just below and at each place where a count of terms changes.
+#![tactic(auto)]
+
 ghost use Rattle.decay.specs.held.Step.{RatesPass};
 ghost use Rattle.decay.specs.held.Factors.{SoundStep, AreShares};
 

@@ -1,4 +1,6 @@
 // Reads and writes river files by the cases on standard input and prints the answers; the stored output is the reference program's.
+#![tactic(auto)]
+
 mod given;
 mod shown;
 

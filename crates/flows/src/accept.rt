@@ -9,7 +9,7 @@ use river::refusal::Outcome;
 
 // What reading and the flow check of a file yield: the effective cards, which have the rates in force, and their flows if the river is accepted, or a
 // refusal, whose cards and flows say nothing.
-#[derive(Drop)]
+#[derive(Clone, Copy)]
 pub struct Acceptance {
     pub outcome: Outcome,
     pub effective: Cards,

@@ -23,7 +23,7 @@ const RATE_LIMIT: u64 = 345_600;
 const BED_LIMIT: u64 = 432_000;
 
 // Tables of the reaches that passed: outlet, Qu, flow and undecayed BOD after the take, and depth.
-#[derive(Drop)]
+#[derive(Clone, Copy)]
 pub struct FlowTable {
     pub outlet: [u8; REACHES],
     pub upstream: [u32; REACHES],
@@ -33,7 +33,7 @@ pub struct FlowTable {
 }
 
 // Qu, flow after the take, and depth of a reach that passed.
-#[derive(Drop)]
+#[derive(Clone, Copy)]
 pub struct ReachFlows {
     pub upstream: u32,
     pub flow: u32,
@@ -41,14 +41,14 @@ pub struct ReachFlows {
 }
 
 // What the flow check yields: the flows of every reach if the river is accepted, or a refusal.
-#[derive(Drop)]
+#[derive(Clone, Copy)]
 pub struct Checked {
     pub outcome: Outcome,
     pub flows: FlowTable,
 }
 
 // What the check of a reach yields: its Qu, its flow and undecayed BOD after the take and its depth if it passes, or a refusal.
-#[derive(Drop)]
+#[derive(Clone, Copy)]
 pub struct ReachChecked {
     pub outcome: Outcome,
     pub upstream: u32,
@@ -58,7 +58,7 @@ pub struct ReachChecked {
 }
 
 // What flows into a reach: the sums of its feeders' flow and undecayed BOD, and the depth of the deepest.
-#[derive(Drop)]
+#[derive(Clone, Copy)]
 pub struct Upstream {
     pub flow: u64,
     pub mass: u64,

@@ -18,7 +18,7 @@ pub const STORED_ZERO_WIDE: u64 = STORED_ZERO as u64;
 
 // What a foot brings, or the feeders of a reach bring together: flow times each demand and times stored oxygen, and whether oxygen is used up there or
 // above.
-#[derive(Drop)]
+#[derive(Clone, Copy)]
 pub struct Brought {
     pub bod: u64,
     pub nitrogenous: u64,
@@ -27,7 +27,7 @@ pub struct Brought {
 }
 
 // Tables of what the reaches above bring.
-#[derive(Drop)]
+#[derive(Clone, Copy)]
 pub struct BroughtTable {
     pub bod: [u64; REACHES],
     pub nitrogenous: [u64; REACHES],
@@ -36,7 +36,7 @@ pub struct BroughtTable {
 }
 
 // Each demand and stored oxygen at the head of a reach.
-#[derive(Drop)]
+#[derive(Clone, Copy)]
 pub struct Head {
     pub bod: u32,
     pub nitrogenous: u32,

@@ -1,5 +1,7 @@
 // Prints flows, depths and heads of river files, and the refusals of the flow check, by the cases on standard input; the stored output is the
 // reference program's. A case has the stored foot oxygen of the first reach and its step, in four bytes each, and the file.
+#![tactic(auto)]
+
 mod shown;
 
 use cases::{BUNDLE, case_end, case_in};

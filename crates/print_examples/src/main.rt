@@ -1,4 +1,6 @@
 // Prints the report and the means for each river file of a bundle on standard input: the example rivers.
+#![tactic(auto)]
+
 use cases::{BUNDLE, case_end, case_in};
 
 fn print_report(file: &[u8]) {

@@ -1,4 +1,6 @@
 // Prints the means for the river file on standard input: one line a reach and one for the river, or the refusal.
+#![tactic(auto)]
+
 fn main() {
     let mut file = [0u8; text::FILE];
     let n = io::read_full(0, &mut file);

@@ -26,14 +26,14 @@ use river::source::Demand;
 const MIDDLE: u64 = STEPS / 2;
 
 // A demand in parts of a unit, at the foot of a reach and on average along it.
-#[derive(Drop)]
+#[derive(Clone, Copy)]
 pub struct DemandAlong {
     pub foot: DemandFactors,
     pub mean: DemandFactors,
 }
 
 // A reach along its way: its demands and stored oxygen at the foot, its stored mean oxygen, and what its bed has taken at the foot.
-#[derive(Drop)]
+#[derive(Clone, Copy)]
 pub struct ReachAlong {
     pub foot_bod: u32,
     pub foot_nitrogenous: u32,

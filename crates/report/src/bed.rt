@@ -19,7 +19,7 @@ const DAY_SECONDS: u64 = 54;
 
 // The loss of oxygen to a bed, in units: that to which it comes in the end if there is aeration, and if there is none that at the foot, which
 // it reaches in equal steps.
-#[derive(Drop)]
+#[derive(Clone, Copy)]
 pub struct Bed {
     pub eventual: u64,
     pub linear: u64,

@@ -1,4 +1,6 @@
 // Reports of BOD and dissolved oxygen along the reaches of a river, and mean oxygen.
+#![tactic(auto)]
+
 pub mod along;
 pub mod bed;
 pub mod lines;
@@ -46,8 +48,7 @@ fn result_of(outcome: Outcome) -> u32
 }
 
 // The report of a river file: 0, or the number and 256 times the reach of a refusal.
-#[unsafe(no_mangle)]
-pub extern "C" fn xylandreo_report(file: &[u8], report: &mut [u8]) -> u32
+pub fn xylandreo_report(file: &[u8], report: &mut [u8]) -> u32
     ensures { Reports file.now report.old report.new result }
 {
     let answer = reporting::report(file, report);
@@ -56,8 +57,7 @@ pub extern "C" fn xylandreo_report(file: &[u8], report: &mut [u8]) -> u32
 }
 
 // How many bytes the records in the report of a river file have each, which is told with no flow check: 0 for a file that reading refuses.
-#[unsafe(no_mangle)]
-pub extern "C" fn xylandreo_record_size(file: &[u8]) -> u32
+pub fn xylandreo_record_size(file: &[u8]) -> u32
     ensures { TellsSize file.now result }
 {
     let reading = read_file(file);
@@ -70,8 +70,7 @@ pub extern "C" fn xylandreo_record_size(file: &[u8]) -> u32
 }
 
 // A river file that is read and written back, with no flow check: 0, or the number and 256 times the reach of a refusal.
-#[unsafe(no_mangle)]
-pub extern "C" fn xylandreo_rewrite(file: &[u8], out: &mut [u8]) -> u32
+pub fn xylandreo_rewrite(file: &[u8], out: &mut [u8]) -> u32
     ensures { Rewrites file.now out.old out.new result }
 {
     result_of(rewrite::rewrite(file, out))
@@ -86,13 +85,7 @@ fn signed(stored: u32) -> i32
 
 // Puts the mean oxygen of each reach of a river file in a lent buffer, and the mean of the river weighted by volume in two lent numbers, as whole units
 // and a remainder: 0, or the number and 256 times the reach of a refusal, which touches neither the buffer nor the numbers.
-#[unsafe(no_mangle)]
-pub extern "C" fn xylandreo_mean(
-    file: &[u8],
-    means: &mut [u8],
-    units: &mut i32,
-    remainder: &mut u64,
-) -> u32
+pub fn xylandreo_mean(file: &[u8], means: &mut [u8], units: &mut i32, remainder: &mut u64) -> u32
     ensures { Means file.now means.old means.new units.old units.new remainder.old remainder.new result }
 {
     let answer = mean::mean(file, means);

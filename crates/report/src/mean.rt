@@ -20,21 +20,21 @@ use river::refusal::{Outcome, Refusal};
 pub const MEAN_SIZE: usize = 4;
 
 // What the foot of a reach brings, and beside it the stored mean oxygen of the reach as it is reported.
-#[derive(Drop)]
+#[derive(Clone, Copy)]
 pub struct ReachMean {
     pub brings: Brought,
     pub mean: u32,
 }
 
 // The stored means of the reaches of a river, and their sums.
-#[derive(Drop)]
+#[derive(Clone, Copy)]
 pub struct MeanTable {
     pub stored: [u32; REACHES],
     pub weights: Weights,
 }
 
 // The answer of the call: its outcome, and beside it how many reaches an accepted river has and its mean weighted by volume, the units stored.
-#[derive(Drop)]
+#[derive(Clone, Copy)]
 pub struct RiverMean {
     pub outcome: Outcome,
     pub count: usize,

@@ -18,7 +18,7 @@ use flows::head::STORED_ZERO_WIDE;
 pub const UNIT_PARTS: u64 = 16_384;
 
 // What a reach starts with: head BOD, head nitrogenous BOD, stored head oxygen and saturation. Oxygen is stored as its units plus 2^31.
-#[derive(Drop)]
+#[derive(Clone, Copy)]
 pub struct Start {
     pub bod: u64,
     pub nitrogenous: u64,
@@ -27,7 +27,7 @@ pub struct Start {
 }
 
 // The walk down a reach: the factors of BOD at the instant, and the first lowest stored oxygen so far with its instant.
-#[derive(Drop)]
+#[derive(Clone, Copy)]
 pub struct Walk {
     pub factors: Factors,
     pub instant: u64,
@@ -35,14 +35,14 @@ pub struct Walk {
 }
 
 // The walk with nitrogenous BOD too, in parts of a unit.
-#[derive(Drop)]
+#[derive(Clone, Copy)]
 pub struct Walked {
     pub walk: Walk,
     pub nitrogenous: DemandFactors,
 }
 
 // Foot BOD, foot nitrogenous BOD, stored foot oxygen and the critical point of a reach.
-#[derive(Drop)]
+#[derive(Clone, Copy)]
 pub struct Profile {
     pub foot_bod: u64,
     pub foot_nitrogenous: u64,

@@ -17,7 +17,7 @@ pub const RP_SIZE: usize = 30;
 pub const RN_SIZE: usize = 10;
 
 // The figures of a reach. Oxygen is stored as its units plus 2^31.
-#[derive(Drop)]
+#[derive(Clone, Copy)]
 pub struct Line {
     pub depth: u8,
     pub flow: u32,

@@ -8,7 +8,7 @@ use river::refusal;
 use river::refusal::{Outcome, Refusal};
 
 // The answer of reporting: its outcome, and beside it how many reaches an accepted river has and whether it has nitrification.
-#[derive(Drop)]
+#[derive(Clone, Copy)]
 pub struct Reported {
     pub outcome: Outcome,
     pub count: usize,
@@ -38,7 +38,8 @@ pub fn report(file: &[u8], report: &mut [u8]) -> Reported
             let count = flow::reach_count(river.effective.count);
             let nitrified = record::has_nitrification(river.effective);
             let size = record::record_bytes(nitrified) * count;
-            if report.len() < size {
+            let short = report.len() < size;
+            if short {
                 return refused(refusal::refuse(12, 0));
             }
             lines::report_all(river.effective, river.flows, nitrified, report);

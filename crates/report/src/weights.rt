@@ -3,7 +3,7 @@ ghost use Rattle.std.specs.Prelude.{◌≡◌};
 ghost use Rattle.report.specs.held.Weights.{no_weights, weighed_with, RoomToWeigh, Divisible, quotient_of};
 
 // Sums of volume times the upper, and times the lower, 16 bits of stored means, and of volume.
-#[derive(Drop)]
+#[derive(Clone, Copy)]
 pub struct Weights {
     pub high: u64,
     pub low: u64,
@@ -11,7 +11,7 @@ pub struct Weights {
 }
 
 // Whole units, stored, and a remainder.
-#[derive(Drop)]
+#[derive(Clone, Copy)]
 pub struct Quotient {
     pub units: u32,
     pub remainder: u64,

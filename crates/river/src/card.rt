@@ -44,7 +44,7 @@ pub const LONGEST_CARD: usize = REACH_BYTES
 pub const LONGEST_FILE: usize = HEADER_BYTES + FACTORS_BYTES + REACHES * LONGEST_CARD;
 
 // A dam is either none or an aeration share, in thousandths, with a generating flow, in litres a second.
-#[derive(Drop)]
+#[derive(Clone, Copy)]
 pub enum Dam {
     Absent,
     Aerating { share: u16, generating: u32 },
@@ -52,7 +52,7 @@ pub enum Dam {
 
 // The nitrification of a reach is either none or a rate, in thousandths per day, with the nitrogenous BOD of the inflow, in thousandths of
 // mg/L, and a load of it, in milligrams a second.
-#[derive(Drop)]
+#[derive(Clone, Copy)]
 pub enum Nitrification {
     Absent,
     Nitrifying {
@@ -64,21 +64,21 @@ pub enum Nitrification {
 
 // The rate factors of a river are either none, and its rates are in force as its cards give them, or two, in thousandths for each degree: one
 // for the decay of both demands and one for surface aeration.
-#[derive(Drop)]
+#[derive(Clone, Copy)]
 pub enum RateFactors {
     Absent,
     PerDegree { decay: u16, aeration: u16 },
 }
 
 // A number that a card has or has not.
-#[derive(Drop)]
+#[derive(Clone, Copy)]
 pub enum Amount {
     Absent,
     Given(u32),
 }
 
 // The layout of a record of one number: its mark, whether the number has four bytes or two, and its range.
-#[derive(Drop)]
+#[derive(Clone, Copy)]
 pub struct Layout {
     pub first: u8,
     pub second: u8,
@@ -116,7 +116,7 @@ pub(crate) const SLUDGE: Layout = Layout {
 
 // What a card may have beside its dam: a take in litres a second, a pressure in mm of mercury, the demand of a sludge bed, in thousandths of
 // mg/L a day, and a nitrification.
-#[derive(Drop)]
+#[derive(Clone, Copy)]
 pub struct Optionals {
     pub take: Amount,
     pub pressure: Amount,
@@ -126,7 +126,7 @@ pub struct Optionals {
 
 // A reach card: the numbers of its `RE` record, the short ones first so that there is no padding between them, its dam, and what else it may
 // have. A rate has two bytes in a file; a card with the rates in force may have larger ones, which check 15 refuses.
-#[derive(Drop)]
+#[derive(Clone, Copy)]
 pub struct Card {
     pub outlet: u8,
     pub temperature: u8,
@@ -142,7 +142,7 @@ pub struct Card {
 }
 
 // The cards of a river: the first `count` of them.
-#[derive(Drop)]
+#[derive(Clone, Copy)]
 pub struct Cards {
     pub at: [Card; REACHES],
     pub count: u8,

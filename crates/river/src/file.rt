@@ -9,7 +9,7 @@ use crate::reader::{Progress, begin, read_cards};
 use crate::refusal::{Outcome, Refusal, refuse};
 
 // What reading a file yields: the river's rate factors and cards if it was accepted, or a refusal and no card.
-#[derive(Drop)]
+#[derive(Clone, Copy)]
 pub struct Reading {
     pub outcome: Outcome,
     pub factors: RateFactors,
@@ -38,7 +38,8 @@ pub fn finish(p: Progress, file: &[u8]) -> Reading
     match outcome {
         Outcome::Refused(r) => refused(r),
         Outcome::Accepted => {
-            if p.next < file.len() {
+            let more = p.next < file.len();
+            if more {
                 return refused(refuse(6, 0));
             }
             let cards = p.at;

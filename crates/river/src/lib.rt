@@ -1,4 +1,6 @@
 // River files: cards, reading, writing and the round trips.
+#![tactic(auto)]
+
 pub mod bytes;
 pub mod card;
 pub mod file;

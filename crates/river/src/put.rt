@@ -18,7 +18,7 @@ use crate::card::{
 use crate::range::{amount_in_range, dam_in_range, nitrification_in_range};
 
 // What putting records has come to: the next place, and whether the fields of all of them are in range.
-#[derive(Drop)]
+#[derive(Clone, Copy)]
 pub struct Spelled {
     pub next: usize,
     pub in_range: bool,

@@ -23,56 +23,56 @@ use crate::range::{
 use crate::refusal::{Outcome, refuse};
 
 // What reading the header answers: the reach count where it is accepted.
-#[derive(Drop)]
+#[derive(Clone, Copy)]
 pub struct HeaderRead {
     pub outcome: Outcome,
     pub count: u8,
 }
 
 // What reading the rate factors answers: the factors where they are accepted.
-#[derive(Drop)]
+#[derive(Clone, Copy)]
 pub struct FactorsRead {
     pub outcome: Outcome,
     pub factors: RateFactors,
 }
 
 // How far reading has come in the bytes of a reach: the outcome so far, and the place behind what is read.
-#[derive(Drop)]
+#[derive(Clone, Copy)]
 pub struct Place {
     pub outcome: Outcome,
     pub at: usize,
 }
 
 // Whether a record is found, and the place behind it, or where it would be.
-#[derive(Drop)]
+#[derive(Clone, Copy)]
 pub struct Finding {
     pub found: bool,
     pub place: Place,
 }
 
 // What reading a dam answers: the place behind it, and the dam where it is accepted.
-#[derive(Drop)]
+#[derive(Clone, Copy)]
 pub struct DamRead {
     pub place: Place,
     pub dam: Dam,
 }
 
 // What reading an amount answers: the place behind it, and the amount where it is accepted.
-#[derive(Drop)]
+#[derive(Clone, Copy)]
 pub struct AmountRead {
     pub place: Place,
     pub amount: Amount,
 }
 
 // What reading a nitrification answers: the place behind it, and the nitrification where it is accepted.
-#[derive(Drop)]
+#[derive(Clone, Copy)]
 pub struct NitrificationRead {
     pub place: Place,
     pub nitrification: Nitrification,
 }
 
 // What reading the records behind an `RE` record answers: the place behind them, and a dam and optional fields where they are accepted.
-#[derive(Drop)]
+#[derive(Clone, Copy)]
 pub struct OptionalsRead {
     pub place: Place,
     pub dam: Dam,
@@ -80,7 +80,7 @@ pub struct OptionalsRead {
 }
 
 // What reading a reach answers: its card and the next position where it is accepted.
-#[derive(Drop)]
+#[derive(Clone, Copy)]
 pub struct ReachRead {
     pub outcome: Outcome,
     pub card: Card,

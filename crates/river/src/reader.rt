@@ -10,14 +10,14 @@ use crate::read::{ReachRead, blank, read_factors, read_header, read_reach};
 use crate::refusal::Outcome;
 
 // A file, and how far it has been read.
-#[derive(Drop)]
+#[derive(Clone, Copy)]
 pub struct Reader<'a> {
     pub file: &'a [u8],
     pub at: usize,
 }
 
 // What has been read of a file: a refusal, or the first cards of so many, the position behind them, and the rate factors.
-#[derive(Drop)]
+#[derive(Clone, Copy)]
 pub struct Progress {
     pub outcome: Outcome,
     pub at: [Card; REACHES],

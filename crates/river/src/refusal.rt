@@ -3,14 +3,14 @@ ghost use Rattle.std.specs.Prelude.{◌≡◌};
 ghost use Rattle.river.specs.Refusal.{code_of, refuse};
 
 // The paper's number, and the reach it is about: 0 where it is about no reach.
-#[derive(Drop)]
+#[derive(Clone, Copy)]
 pub struct Refusal {
     pub number: u8,
     pub reach: u8,
 }
 
 // The outcome of reading, of the check of cards that are to be written, and of the flow check.
-#[derive(Drop)]
+#[derive(Clone, Copy)]
 pub enum Outcome {
     Accepted,
     Refused(Refusal),

@@ -5,14 +5,14 @@ ghost use Rattle.river.specs.Source.{SourceInRange, nitrogenous_source, nitrogen
 use crate::card::{Card, Nitrification};
 
 // BOD, and nitrogenous BOD.
-#[derive(Drop)]
+#[derive(Clone, Copy)]
 pub enum Demand {
     Bod,
     Nitrogenous,
 }
 
 // An inflow in litres a second, the demand in it in thousandths of mg/L, and a load in milligrams a second.
-#[derive(Drop)]
+#[derive(Clone, Copy)]
 pub struct Source {
     pub inflow: u32,
     pub concentration: u32,

@@ -8,7 +8,7 @@ use crate::range::{in_range, outlet_ok};
 use crate::refusal::{Outcome, Refusal, refuse};
 
 // What writing answers: the file's length, or a refusal.
-#[derive(Drop)]
+#[derive(Clone, Copy)]
 pub enum Written {
     Length(usize),
     Refused(Refusal),

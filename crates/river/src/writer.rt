@@ -14,7 +14,7 @@ use crate::write::{Written, check_card};
 
 // What checking the rate factors and the lent cards has come to: a refusal, or how many of the cards due have passed, the length of their file,
 // and the factors.
-#[derive(Drop)]
+#[derive(Clone, Copy)]
 pub struct Checking {
     pub check: Outcome,
     pub due: usize,
@@ -24,7 +24,7 @@ pub struct Checking {
 }
 
 // What putting the lent cards has come to: the answer, how many of those due are put, and the next place.
-#[derive(Drop)]
+#[derive(Clone, Copy)]
 pub struct Putting {
     pub answer: Written,
     pub due: usize,

@@ -1,4 +1,6 @@
 // The text of a river's report, a line for each reach, and of its means, with a line for the river too; or the refusal.
+#![tactic(auto)]
+
 mod line;
 pub mod means;
 mod put;
