@@ -2,7 +2,7 @@
 -- The exact terms come in by their recurrences alone, e_j = y × e_(j-1) / j and d_j = (y × e_(j-1) + z × d_(j-1)) / j.
 use mathlib.Core.Path.{◌≡◌}
 use mathlib.Core.List.{[], ◌∷◌}
-use Prim.Native.Nat.{ℕ, zero, suc, ◌+◌, ◌≤◌, zero_le}
+use Prim.Native.Nat.{ℕ, zero, suc, ◌+◌, ◌≤◌, zero-le}
 use native.Mathlib.Numerals.{add-two}
 use native.Mathlib.Omega.{arith}
 use lib.Dec.{lit≤}
@@ -141,7 +141,7 @@ module _ (Y Z : ℕ) (y z : Fraction) (e d : ℕ → Fraction) (x : Exponents Y 
   pub lost_near : Y ≤ small → Sum (e 1 -ᶠ e 2 +ᶠ e 3 -ᶠ e 4) (share (series_of Y 0).sum) 129 130
   lost_near hY =
       four_terms 65 512 (e 1) (e 2) (e 3) (e 4) (share Y) _ _ _ (share (series_of Y 0).sum) (below_first k.e_first) (near_alone 0) (near_alone 1) (near_alone 2)
-      (share_sums _ _ _ _ _ (series_sum Y 0 hY zero_le))
+      (share_sums _ _ _ _ _ (series_sum Y 0 hY zero-le))
 
   pub spent_near : Y ≤ small → Z ≤ small → Sum (d 1 -ᶠ d 2 +ᶠ d 3 -ᶠ d 4) (share (series_of Y Z).sum) 194 260
   spent_near hY hZ =
@@ -155,7 +155,7 @@ module _ (Y Z : ℕ) (y z : Fraction) (e d : ℕ → Fraction) (x : Exponents Y 
       (part_under 2 (part_share 2 (term_at Y 0 1)) (lit≤ tt) (near_alone 0))
       (part_under 3 (part_share 3 (term_at Y 0 2)) (lit≤ tt) (near_alone 1))
       (part_under 4 (part_share 4 (term_at Y 0 3)) (lit≤ tt) (near_alone 2))
-      (share_sums _ _ _ _ _ (mean_sum Y 0 hY zero_le))
+      (share_sums _ _ _ _ _ (mean_sum Y 0 hY zero-le))
 
   pub mean_spent_near : Y ≤ small → Z ≤ small → Sum (d 1 ÷ of_ℕ 2 -ᶠ d 2 ÷ of_ℕ 3 +ᶠ d 3 ÷ of_ℕ 4 -ᶠ d 4 ÷ of_ℕ 5) (share (mean_sum_of Y Z most_terms)) 194 260
   mean_spent_near hY hZ =

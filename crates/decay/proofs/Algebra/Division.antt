@@ -3,7 +3,7 @@
 use mathlib.Core.Path.{◌≡◌, refl, sym, subst₂}
 use mathlib.Core.List.{List, [], ◌∷◌}
 use mathlib.Core.Logic.{◌⊎◌, inl, inr}
-use Prim.Native.Nat.{ℕ, zero, suc, ◌≤◌, ◌<◌, zero_le, suc_le_suc}
+use Prim.Native.Nat.{ℕ, zero, suc, ◌≤◌, ◌<◌, zero-le, suc-le-suc}
 use native.Mathlib.Omega.{arith}
 use lib.IntN.{ℤ, pos, negsuc, ◌*ℤ◌, ℤ_discrete}
 use lib.Signed.{◌≤ℤ◌, ≤ℤ_refl}
@@ -48,7 +48,7 @@ num_nonpos {a} h =
 
 cancel_num : (z x : ℤ) → ¬ (z ≤ℤ pos 0) → pos 0 ≤ℤ (z *ℤ x) → pos 0 ≤ℤ x
 cancel_num (pos zero) x h k = absurd (h (≤ℤ_refl (pos 0)))
-cancel_num (pos (suc n)) x h k = nonneg_cancel (suc n) (suc_le_suc zero_le) k
+cancel_num (pos (suc n)) x h k = nonneg_cancel (suc n) (suc-le-suc zero-le) k
 cancel_num (negsuc n) x h k = absurd (h (record { le = tt }))
 
 -- a positive factor may be taken out
@@ -58,10 +58,10 @@ nonneg-÷ {m} {a} h k = num_nonneg (cancel_num m.num a.num (λ r. h.below (num_n
 
 pub positive_whole : {n : ℕ} → 0 < n → Positive (of_ℕ n)
 unfolding of_ℤ
-positive_whole {n} h = record { below = λ r. not-below h (pos_reflect (nonpos_num r)) }
+positive_whole {n} h = record { below = λ r. not_below h (pos_reflect (nonpos_num r)) }
   where
-    not-below : 0 < n → n ≤ 0 → ⊥
-    not-below p q = omega arith
+    not_below : 0 < n → n ≤ 0 → ⊥
+    not_below p q = omega arith
 
 pub positive_sum : {a b : Fraction} → Positive a → Nonneg b → Positive (a +ᶠ b)
 positive_sum {a} {b} h k =

@@ -3,7 +3,7 @@
 use mathlib.Core.Path.{◌≡◌, sym, subst, subst₂}
 use mathlib.Core.List.{List, [], ◌∷◌}
 use mathlib.Core.Logic.{◌⊎◌, inl, inr}
-use Prim.Native.Nat.{ℕ, suc, ◌*◌, zero_le, suc_le_suc}
+use Prim.Native.Nat.{ℕ, suc, ◌*◌, zero-le, suc-le-suc}
 use lib.IntN.{ℤ, pos, negsuc, ◌-ℤ◌, ◌*ℤ◌}
 use lib.Dec.{T}
 use lib.Signed.{◌≤ℤ◌, ≤ℤ_refl, le_z}
@@ -133,4 +133,4 @@ pub certify_times : (n : ℕ) (vs : List Fraction) {a b c : Fraction} → Nonneg
     → (q : Sides Fraction-ring vs (of_ℕ (suc n) *ᶠ (b -ᶠ a)) c) → Vanishes (gap Fraction-ring vs q) → a ≼ b
 unfolding ◌*ᶠ◌ of_ℤ
 certify_times n vs h q t =
-    from_slack (num_nonneg (nonneg_cancel (suc n) (suc_le_suc zero_le) (nonneg_num (nonneg_by (ring vs q t) h))))
+    from_slack (num_nonneg (nonneg_cancel (suc n) (suc-le-suc zero-le) (nonneg_num (nonneg_by (ring vs q t) h))))

@@ -1,7 +1,7 @@
 -- The fractions as a ring for the normaliser, with `≈` for their equality: each law is an identity of signed numbers, by multiplying across.
 use mathlib.Core.Path.{◌≡◌, refl, sym, ◌∙◌, ap, ap₂}
 use mathlib.Core.List.{List, [], ◌∷◌}
-use Prim.Native.Nat.{ℕ, suc, ◌*◌, zero_le, suc_le_suc}
+use Prim.Native.Nat.{ℕ, suc, ◌*◌, zero-le, suc-le-suc}
 use lib.IntN.{ℤ, pos, negsuc, neg_ℤ, ◌+ℤ◌, ◌*ℤ◌, *ℤ_comm, zero-*ℤ}
 use Rattle.decay.specs.Fraction.{Fraction, ◌≈◌, of_ℤ, ◌+ᶠ◌, -ᶠ◌, ◌*ᶠ◌}
 use Rattle.decay.proofs.Algebra.Signed.{*ℤ_cancel_r, *ℤ_idr}
@@ -142,7 +142,7 @@ num_zero {a} e = sym (*ℤ_idr a.num) ∙ e.across ∙ zero-*ℤ (pos a.den)
 
 pub cancel_whole : (n : ℕ) (a : Fraction) → of_ℤ (pos (suc n)) *ᶠ a ≈ of_ℤ (pos 0) → a ≈ of_ℤ (pos 0)
 unfolding ◌*ᶠ◌ of_ℤ
-cancel_whole n a e = zero_num (*ℤ_cancel_r (suc n) a.num (pos 0) (suc_le_suc zero_le) (*ℤ_comm a.num (pos (suc n)) ∙ num_zero e ∙ sym (zero-*ℤ (pos (suc n)))))
+cancel_whole n a e = zero_num (*ℤ_cancel_r (suc n) a.num (pos 0) (suc-le-suc zero-le) (*ℤ_comm a.num (pos (suc n)) ∙ num_zero e ∙ sym (zero-*ℤ (pos (suc n)))))
 
 abbrev pub Fraction-ring : Ring
 Fraction-ring =

@@ -1,7 +1,7 @@
 -- The signed numbers as a ring for the normaliser. The expressions are written out: `solve_ℤ (a ∷ b ∷ []) (var 0 :+ var 1) (var 1 :+ var 0) tt : a +ℤ b ≡ b +ℤ a`.
 use mathlib.Core.Path.{◌≡◌, refl, sym, ◌∙◌, ap, ap₂}
 use mathlib.Core.List.{List}
-use Prim.Native.Nat.{suc, zero_le, suc_le_suc}
+use Prim.Native.Nat.{suc, zero-le, suc-le-suc}
 use lib.IntN.{ℤ, pos, neg_ℤ, ◌+ℤ◌, ◌*ℤ◌, +ℤ_assoc, +ℤ_comm, +ℤ_idl, *ℤ_comm, zero-*ℤ}
 use Rattle.decay.proofs.Algebra.Signed.{*ℤ_assoc, *ℤ_distrib_r, *ℤ_idl, neg-*ℤ, *ℤ_cancel_r}
 use Rattle.decay.proofs.Algebra.Ring.{Ring}
@@ -32,7 +32,7 @@ abbrev pub ℤ_ring : Ring
       ⊖_times = λ a. ap neg_ℤ (sym (*ℤ_idl a)) ∙ sym (neg-*ℤ (pos 1) a);
       whole-⊕ = λ a b. refl;
       whole-⊗ = λ a b. refl;
-      cancel = λ n a e. *ℤ_cancel_r (suc n) a (pos 0) (suc_le_suc zero_le) (*ℤ_comm a (pos (suc n)) ∙ e ∙ sym (zero-*ℤ (pos (suc n))));
+      cancel = λ n a e. *ℤ_cancel_r (suc n) a (pos 0) (suc-le-suc zero-le) (*ℤ_comm a (pos (suc n)) ∙ e ∙ sym (zero-*ℤ (pos (suc n))));
     }
 
 pub solve_ℤ : (vs : List ℤ) (l r : Expr) → Vanishes (norm (l :+ :- r)) → eval ℤ_ring vs l ≡ eval ℤ_ring vs r

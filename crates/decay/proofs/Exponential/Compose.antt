@@ -134,24 +134,24 @@ F-compose n k1 k2 v Q m b h1 h2 l = within_sym (within (F-moves n k1 k2 v Q m b 
 
 -- ---- the head of a reach
 
-S-zero-one : S 1 (of_ℕ 0) ≈ of_ℕ 1
+S-zero_one : S 1 (of_ℕ 0) ≈ of_ℕ 1
 unfolding S sum
-S-zero-one = ring_by (term (of_ℕ 0) 0 ∷ []) (of_ℕ 1 ⋅ (term_series (of_ℕ 0)).first & none) (search quote depth 40 fits 9999) tt
+S-zero_one = ring_by (term (of_ℕ 0) 0 ∷ []) (of_ℕ 1 ⋅ (term_series (of_ℕ 0)).first & none) (search quote depth 40 fits 9999) tt
 
 S-zero : {N : ℕ} → 1 ≤ N → S N (of_ℕ 0) ≈ of_ℕ 1
 S-zero {N} n =
     let w = S-tail {x = of_ℕ 0} (number 0) {n = 1} (certify [] (number 2) (search quote depth 40 fits 9999) tt) n in
     let z : e (of_ℕ 0) 1 ≈ of_ℕ 0 = ring_by (e (of_ℕ 0) 0 ∷ e (of_ℕ 0) 1 ∷ []) (of_ℕ 1 ⋅ e_suc (of_ℕ 0) 0 & none) (search quote depth 40 fits 9999) tt in
     ≼_antisym
-    (certify_by (S N (of_ℕ 0) ∷ S 1 (of_ℕ 0) ∷ e (of_ℕ 0) 1 ∷ []) (of_ℕ 1 ⋅ z & of_ℕ 1 ⋅ S-zero-one & none) (slack w.high) (search quote depth 40 fits 9999) tt)
-    (certify_by (S N (of_ℕ 0) ∷ S 1 (of_ℕ 0) ∷ e (of_ℕ 0) 1 ∷ []) (of_ℕ 1 ⋅ z & of_ℕ 1 ⋅ S-zero-one & none) (slack w.low) (search quote depth 40 fits 9999) tt)
+    (certify_by (S N (of_ℕ 0) ∷ S 1 (of_ℕ 0) ∷ e (of_ℕ 0) 1 ∷ []) (of_ℕ 1 ⋅ z & of_ℕ 1 ⋅ S-zero_one & none) (slack w.high) (search quote depth 40 fits 9999) tt)
+    (certify_by (S N (of_ℕ 0) ∷ S 1 (of_ℕ 0) ∷ e (of_ℕ 0) 1 ∷ []) (of_ℕ 1 ⋅ z & of_ℕ 1 ⋅ S-zero_one & none) (slack w.low) (search quote depth 40 fits 9999) tt)
 
 -- an exponent that is 0 leaves all
-pub S-at-zero : {N : ℕ} {x : Fraction} → 1 ≤ N → x ≈ of_ℕ 0 → S N x ≈ of_ℕ 1
-S-at-zero {N} n h = ≈_trans (S-cong N h) (S-zero n)
+pub S-at_zero : {N : ℕ} {x : Fraction} → 1 ≤ N → x ≈ of_ℕ 0 → S N x ≈ of_ℕ 1
+S-at_zero {N} n h = ≈_trans (S-cong N h) (S-zero n)
 
 pub S-start : (k v Q : ℕ) {N : ℕ} → 1 ≤ N → S N (exponent k v Q 0) ≈ of_ℕ 1
-S-start k v Q n = S-at-zero n (exponent_zero k v Q)
+S-start k v Q n = S-at_zero n (exponent_zero k v Q)
 
 pub F-start : (N k1 k2 v Q : ℕ) → F N k1 k2 v Q 0 ≈ of_ℕ 0
 F-start N k1 k2 v Q = go (rates N k1 k2 v Q)

@@ -33,10 +33,10 @@ power_one zero = ≈_refl (of_ℕ 1)
 power_one (suc j) = ring_by (power (of_ℕ 1) j ∷ []) (of_ℕ 1 ⋅ power_one j & none) (search quote depth 40 fits 9999) tt
 
 -- the integral of c over the first instant
-first-is : (c : ℕ → Fraction) (n : ℕ) → value_at (suc n) (integral c) (of_ℕ 1) ≈ sum (spread c) n
+first_is : (c : ℕ → Fraction) (n : ℕ) → value_at (suc n) (integral c) (of_ℕ 1) ≈ sum (spread c) n
 unfolding value_at integral sum
-first-is c zero = ring (power (of_ℕ 1) 0 ∷ []) (search quote depth 40 fits 9999) tt
-first-is c (suc n) = +ᶠ_cong (first-is c n) (once (spread c n) (power_one (suc n)))
+first_is c zero = ring (power (of_ℕ 1) 0 ∷ []) (search quote depth 40 fits 9999) tt
+first_is c (suc n) = +ᶠ_cong (first_is c n) (once (spread c n) (power_one (suc n)))
   where
     once : (x : Fraction) {p : Fraction} → p ≈ of_ℕ 1 → x *ᶠ p ≈ x
     once x {p} h = ring_by (x ∷ p ∷ []) (x ⋅ h & none) (search quote depth 40 fits 9999) tt
@@ -161,7 +161,7 @@ first_s_short {N} n k v Q h =
     let sign_y = exponent_nonneg k v Q 1 in
     let many : 6 ≤ N = omega arith in
     let more : 6 ≤ all_terms N = omega arith in
-    within_by (first-is (series_terms N y) (all_terms N)) (≈_sym (first_s_six y))
+    within_by (first_is (series_terms N y) (all_terms N)) (≈_sym (first_s_six y))
     (within_weaken (cut_short (term y) (series_terms N y) (series_cut N y) (e y) (term_small sign_y) many more) (e_past_six sign_y (exponent_step k v Q h) more))
 
 pub first_f_short : {N : ℕ} → 40 ≤ N → (k1 k2 v Q : ℕ) → k1 * v ≤ 345_600 * Q → k2 * v ≤ 345_600 * Q
@@ -175,5 +175,5 @@ first_f_short {N} n k1 k2 v Q h1 h2 =
     let many : 6 ≤ N = omega arith in
     let more : 6 ≤ all_terms N = omega arith in
     let small = turned_small y_sign (exponent_nonneg k2 v Q 1) y_step (exponent_step k2 v Q h2) in
-    within_by (first-is (share_terms N k1 k2 v Q) (all_terms N)) (≈_sym (first_f_six y z))
+    within_by (first_is (share_terms N k1 k2 v Q) (all_terms N)) (≈_sym (first_f_six y z))
     (within_weaken (cut_short (turned y z) (share_terms N k1 k2 v Q) (share_cut N k1 k2 v Q) (majorant y (of_ℕ 1 ÷ of_ℕ 256)) small many more) (majorant_past_six y_sign y_step more))

@@ -11,7 +11,7 @@ use Rattle.decay.proofs.Algebra.{≈_refl, ≈_sym, ≈_trans, +ᶠ_cong, *ᶠ_c
 use Rattle.decay.proofs.Exponential.Sequence.{shift, Same, sum_cong, sum_front}
 use Rattle.decay.proofs.Exponential.Terms.{cancel-≈, term_series, S-cong}
 use Rattle.decay.proofs.Exponential.Exponent.{exponent_nonneg, exponent_le_4}
-use Rattle.decay.proofs.Exponential.Compose.{ratio, ratio_size, Rates, same_rates, different, rates, tiny, tiny_nonneg, room, wide, S-compose, S-at-zero}
+use Rattle.decay.proofs.Exponential.Compose.{ratio, ratio_size, Rates, same_rates, different, rates, tiny, tiny_nonneg, room, wide, S-compose, S-at_zero}
 use Rattle.decay.proofs.Exponential.Powers.{sum_minus, sum_scale, sum_below, integral_zero, integral_suc, integral_head, integral_difference, value_difference, term_scaled, exponent_times, series_below, series_top, share_same, share_different}
 use Rattle.decay.proofs.Exponential.Instants.{piece, piece_zero, piece_suc, piece_terms, upto, upto_cong, instant_more}
 
@@ -52,7 +52,7 @@ upto_lost n y t =
     (of_ℕ 1 ⋅ sum_scale y (λ j. f j -ᶠ f0 j) (suc n) & y ⋅ sum_minus f f0 (suc n) & of_ℕ 1 ⋅ sum_cong (λ j. y *ᶠ (f j -ᶠ f0 j)) (λ j. g0 j -ᶠ g j) (piece_terms y (of_ℕ 0) t) (suc n) & of_ℕ 1 ⋅ sum_minus g0 g (suc n) & y ⋅ upto_head n y & of_ℕ 1 ⋅ none_lost & none) (search quote depth 40 fits 9999) tt
   where
     none_lost : sum (term (of_ℕ 0 *ᶠ y)) (suc n) ≈ of_ℕ 1
-    none_lost = S-at-zero (omega arith) (ring (y ∷ []) (search quote depth 40 fits 9999) tt)
+    none_lost = S-at_zero (omega arith) (ring (y ∷ []) (search quote depth 40 fits 9999) tt)
 
 -- ---- F with equal rates
 

@@ -11,7 +11,6 @@ use Rattle.decay.specs.Fraction.{Fraction, of_ℕ, ◌+ᶠ◌, -ᶠ◌, ◌-ᶠ�
 use Rattle.decay.specs.Exact.{power, term, sum, exponent, S}
 use Rattle.decay.specs.Integral.{value_at, integral, times_time, series_terms, share_terms}
 use Rattle.decay.proofs.Algebra.{≈_refl, ≈_trans, +ᶠ_cong, *ᶠ_cong, quote, ring, ring_by, none, ◌&◌, ◌⋅◌, positive_whole, ÷_cancel_pos}
-use Rattle.decay.proofs.Exponential.MeanSanity
 use Rattle.decay.proofs.Exponential.Sequence.{Same, sum_cong}
 use Rattle.decay.proofs.Exponential.Terms.{cancel-≈, term_series, unique}
 use Rattle.decay.proofs.Exponential.Exponent.{moment, exponent_rate}

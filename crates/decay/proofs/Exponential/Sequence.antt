@@ -5,7 +5,6 @@ use mathlib.Core.List.{[], ◌∷◌}
 use Prim.Native.Nat.{ℕ, zero, suc}
 use Rattle.decay.specs.Fraction.{Fraction, of_ℕ, ◌+ᶠ◌, ◌*ᶠ◌, ◌≈◌}
 use Rattle.decay.specs.Exact.{sum}
-use Rattle.decay.proofs.Exponential.Sanity
 use Rattle.decay.proofs.Algebra.{≈_refl, ≈_trans, +ᶠ_cong, *ᶠ_cong, quote, ring, ring_by, none, ◌&◌, ◌⋅◌, of_ℕ_suc}
 
 -- f from its second element on

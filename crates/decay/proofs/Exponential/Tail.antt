@@ -116,5 +116,5 @@ past_40 {x} {N} h k l =
     certify (e x N ∷ e x 40 ∷ e (of_ℕ 4) 40 ∷ (of_ℕ 1 ÷ of_ℕ (2 ^ 78)) ∷ []) (number 2 ⊠ slack fall ⊞ number 2 ⊠ slack grow ⊞ slack last_term) (search quote depth 40 fits 9999) tt
 
 -- S at N and at 40
-pub S-tail-40 : {x : Fraction} {N : ℕ} → 40 ≤ N → of_ℕ 0 ≼ x → x ≼ of_ℕ 4 → Within (S N x) (S 40 x) (of_ℕ 1 ÷ of_ℕ (2 ^ 78))
-S-tail-40 n h k = within_weaken (S-tail h (small_at_40 k) n) (past_40 h k (omega arith))
+pub S-tail_40 : {x : Fraction} {N : ℕ} → 40 ≤ N → of_ℕ 0 ≼ x → x ≼ of_ℕ 4 → Within (S N x) (S 40 x) (of_ℕ 1 ÷ of_ℕ (2 ^ 78))
+S-tail_40 n h k = within_weaken (S-tail h (small_at_40 k) n) (past_40 h k (omega arith))

@@ -1,7 +1,7 @@
 -- Laws of fixed-point arithmetic: the product by two short products, the long division by chunks, and the bounds that the floor gives.
 -- Assumes nothing.
 use mathlib.Core.Path.{◌≡◌, sym, ◌∙◌, ap}
-use Prim.Native.Nat.{ℕ, ◌+◌, ◌*◌, ◌/◌, ◌%◌, ◌≤◌, ◌<◌, zero_le}
+use Prim.Native.Nat.{ℕ, ◌+◌, ◌*◌, ◌/◌, ◌%◌, ◌≤◌, ◌<◌, zero-le}
 use native.Mathlib.Nat.{
   div-add-mod',
   div-div-eq-div-mul,
@@ -66,13 +66,13 @@ product_mono {a} {b} {c} {d} h k = omega (arith, mul-le-mul h k)
 -- how a long division of n by d stands after bits that multiply by b
 pub record Divided (n d b : ℕ) (part : Division) : Type 0 where
   pub digits_is : part.digits ≡ n * b / d
-  pub rest-is : part.rest ≡ n * b % d
+  pub rest_is : part.rest ≡ n * b % d
 
 pub divided_start : (n d : ℕ) → n < d → Divided n d 1 (record { digits = 0; rest = n })
 divided_start n d h =
     record {
       digits_is = sym (ap (λ (x : ℕ). x / d) (mul-one n) ∙ div-eq_of_lt h);
-      rest-is = sym (ap (λ (x : ℕ). x % d) (mul-one n) ∙ mod-eq_of_lt h);
+      rest_is = sym (ap (λ (x : ℕ). x % d) (mul-one n) ∙ mod-eq_of_lt h);
     }
 
 more : (n d b c : ℕ) → n * (b * c) ≡ n * b / d * c * d + n * b % d * c
@@ -85,16 +85,16 @@ pub divided_next : {n d b : ℕ} {part : Division} → 0 < d → Divided n d b p
 divided_next {n} {d} {b} {part} h p =
     record {
       digits_is =
-          rw (p.digits_is, p.rest-is)
+          rw (p.digits_is, p.rest_is)
           (sym (ap (λ (x : ℕ). x / d) (more n d b 2048) ∙ mul-add-div_right h (n * b / d * 2048) (n * b % d * 2048)));
-      rest-is =
-          rw p.rest-is (sym (ap (λ (x : ℕ). x % d) (more n d b 2048) ∙ mul-add-mod_self_right (n * b / d * 2048) d (n * b % d * 2048)));
+      rest_is =
+          rw p.rest_is (sym (ap (λ (x : ℕ). x % d) (more n d b 2048) ∙ mul-add-mod_self_right (n * b / d * 2048) d (n * b % d * 2048)));
     }
 
 pub divided_digits : {n d b : ℕ} {part : Division} → n < d → 0 < b → Divided n d b part → part.digits < b
 divided_digits {n} {d} {b} {part} h k p =
     rw p.digits_is
-    ((div-lt_iff_lt-mul (lt_of_le_of_lt zero_le h)).1 (rw (mul_comm b d) (mul-lt-mul_of_pos_right h k)))
+    ((div-lt_iff_lt-mul (lt_of_le_of_lt zero-le h)).1 (rw (mul_comm b d) (mul-lt-mul_of_pos_right h k)))
 
 pub divided_rest : {n d b : ℕ} {part : Division} → 0 < d → Divided n d b part → part.rest < d
-divided_rest {n} {d} {b} {part} h p = rw p.rest-is (mod-lt (n * b) h)
+divided_rest {n} {d} {b} {part} h p = rw p.rest_is (mod-lt (n * b) h)

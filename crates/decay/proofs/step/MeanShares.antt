@@ -1,7 +1,7 @@
 -- Laws of the means over a step: the sum has no difference below zero, no more BOD is spent than lost, and no more deficit filled than in the
 -- whole step. Assumes nothing.
 use mathlib.Core.Path.{◌≡◌}
-use Prim.Native.Nat.{ℕ, zero, suc, ◌+◌, ◌*◌, ◌/◌, ◌≤◌, ◌<◌, zero_le}
+use Prim.Native.Nat.{ℕ, zero, suc, ◌+◌, ◌*◌, ◌/◌, ◌≤◌, ◌<◌, zero-le}
 use native.Mathlib.Nat.{le_trans, mul-le-mul_right}
 use native.Mathlib.Numerals.{add-one}
 use native.Mathlib.Omega.{arith}
@@ -62,7 +62,7 @@ mean_spent_below y z hy hz =
     omega (
       arith,
       mean_sum y z hy hz,
-      mean_sum y 0 hy zero_le,
+      mean_sum y 0 hy zero-le,
       term_alone y z 1,
       term_alone y z 2,
       term_alone y z 3,
@@ -79,15 +79,15 @@ mean_step_sound k1 k2 volume flow p =
     let hz = exponent_small k2 volume flow p.k2_short in
     let s = step_sound k1 k2 volume flow p in
     record {
-      lost_small = le_trans (mean_below y 0 hy zero_le) s.lost_small;
+      lost_small = le_trans (mean_below y 0 hy zero-le) s.lost_small;
       spent_lost = mean_spent_below y z hy hz;
-      filled_small = le_trans (mean_below z 0 hz zero_le) s.filled_small;
+      filled_small = le_trans (mean_below z 0 hz zero-le) s.filled_small;
     }
 
 -- less deficit is filled on average than in the whole step
 pub mean_fills : (k1 k2 volume flow : ℕ) → RatesPass k1 k2 volume flow → (mean_step_of k1 k2 volume flow).filled ≤ (step_of k1 k2 volume flow).filled
 unfolding mean_step_of step_of
-mean_fills k1 k2 volume flow p = mean_below (exponent_of k2 volume flow) 0 (exponent_small k2 volume flow p.k2_short) zero_le
+mean_fills k1 k2 volume flow p = mean_below (exponent_of k2 volume flow) 0 (exponent_small k2 volume flow p.k2_short) zero-le
 
 -- a rate of 0 or no volume: nothing is lost and spent, or filled
 pub mean_loses_nothing : (k1 k2 volume flow : ℕ) → RatesPass k1 k2 volume flow → k1 * volume ≡ 0 → ((mean_step_of k1 k2 volume flow).lost ≡ 0) × ((mean_step_of k1 k2 volume flow).spent ≡ 0)
@@ -97,7 +97,7 @@ mean_loses_nothing k1 k2 volume flow p h =
     let z = exponent_of k2 volume flow in
     let hy = exponent_small k1 volume flow p.k1_short in
     let hz = exponent_small k2 volume flow p.k2_short in
-    omega (arith, step_loses_nothing k1 k2 volume flow p h, mean_below y 0 hy zero_le, mean_below y z hy hz)
+    omega (arith, step_loses_nothing k1 k2 volume flow p h, mean_below y 0 hy zero-le, mean_below y z hy hz)
 
 pub mean_fills_nothing : (k1 k2 volume flow : ℕ) → RatesPass k1 k2 volume flow → k2 * volume ≡ 0 → (mean_step_of k1 k2 volume flow).filled ≡ 0
 mean_fills_nothing k1 k2 volume flow p h = omega (arith, mean_fills k1 k2 volume flow p, step_fills_nothing k1 k2 volume flow p h)

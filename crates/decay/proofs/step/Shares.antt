@@ -3,7 +3,7 @@
 use mathlib.Core.Path.{◌≡◌, refl, sym, ◌∙◌, ap}
 use mathlib.Core.Bool.{Bool, true, false, cond}
 use mathlib.Core.Logic.{⊎_elim}
-use Prim.Native.Nat.{ℕ, zero, suc, ◌+◌, ◌-◌, ◌*◌, ◌/◌, ◌%◌, ◌≤◌, ◌<◌, zero_le}
+use Prim.Native.Nat.{ℕ, zero, suc, ◌+◌, ◌-◌, ◌*◌, ◌/◌, ◌%◌, ◌≤◌, ◌<◌, zero-le}
 use native.Mathlib.Nat.{div-le_self, div-mul-le_self, div-le_of_le-mul, eq-or-lt_of_le, le-div_iff_mul-le, le_trans, mul-le-mul, mul-le-mul_right, mul-zero, zero-mul, zero-div}
 use native.Mathlib.Numerals.{add-one, add-two}
 use native.Mathlib.Omega.{arith}
@@ -14,8 +14,8 @@ use Rattle.decay.specs.held.Digits.{small}
 use Rattle.decay.specs.held.Step.{RatesPass, exponent_of, step_of}
 use Rattle.decay.specs.Series.{term_of, next_terms, terms_at, term_at, with_term, sum_of, most_terms, count_from, series_of, SumsExactly}
 use Rattle.decay.specs.held.Factors.{SoundStep}
+use Rattle.decay.specs.declared.step.Terms.{Terms}
 use Rattle.decay.proofs.fixed.Digits.{product_small, product_mono}
-use Rattle.decay.proofs.step.SeriesRows
 
 div_mono : {a b j k : ℕ} → 0 < j → a ≤ b → j ≤ k → a / k ≤ b / j
 div_mono {a} {b} {j} {k} p h l =
@@ -76,6 +76,14 @@ module _ (y z : ℕ) where
       less_one : suc n - 1 ≡ n
       less_one = omega arith
 
+  -- the term that a loop has just made from the one before it, in its two parts and whole
+  pub terms_made : (n : ℕ) {terms r : Terms} → terms ≡ terms_at y z (n - 1) → 1 ≤ n → r ≡ next_terms terms y z (n + 1) → r ≡ terms_at y z n
+  terms_made n before l e = e ∙ ap (λ (t : Terms). next_terms t y z (n + 1)) before ∙ next_term n l
+
+  pub term_made : (n : ℕ) {terms r : Terms} → terms ≡ terms_at y z (n - 1) → 1 ≤ n → r ≡ next_terms terms y z (n + 1) → r.lost + r.back ≡ term_at y z n
+  unfolding term_at
+  term_made n before l e = ap (λ (t : Terms). t.lost + t.back) (terms_made n before l e)
+
   pub next_sum : (n : ℕ) → with_term (sum_of y z n) (term_at y z n) n ≡ sum_of y z (n + 1)
   unfolding sum_of
   next_sum n = rw add-one
@@ -86,9 +94,9 @@ module _ (y z : ℕ) where
   stops_here n zero h = refl
   stops_here n (suc k) h = rw (eq-eqb (term_at y z n) 0 h)
 
-  pub ends-here : (n m : ℕ) → m ≤ n → count_from y z n (m - n) ≡ n
+  pub ends_here : (n m : ℕ) → m ≤ n → count_from y z n (m - n) ≡ n
   unfolding count_from
-  ends-here n m h = rw none_left
+  ends_here n m h = rw none_left
     where
       none_left : m - n ≡ 0
       none_left = omega arith
@@ -255,7 +263,7 @@ spent_below y z hy hz =
     omega (
       arith,
       series_sum y z hy hz,
-      series_sum y 0 hy zero_le,
+      series_sum y 0 hy zero-le,
       term_parts y z 1,
       term_parts y z 2,
       term_parts y z 3,
@@ -279,9 +287,9 @@ step_sound k1 k2 volume flow p =
     let hy = exponent_small k1 volume flow p.k1_short in
     let hz = exponent_small k2 volume flow p.k2_short in
     record {
-      lost_small = le_trans (sum_first y 0 hy zero_le) hy;
+      lost_small = le_trans (sum_first y 0 hy zero-le) hy;
       spent_lost = spent_below y z hy hz;
-      filled_small = le_trans (sum_first z 0 hz zero_le) hz;
+      filled_small = le_trans (sum_first z 0 hz zero-le) hz;
     }
 
 -- what a step fills is at most its exponent
@@ -289,7 +297,7 @@ pub step_fills : (k1 k2 volume flow : ℕ) → RatesPass k1 k2 volume flow → (
 unfolding step_of exponent_of quotient
 step_fills k1 k2 volume flow p =
     let z = exponent_of k2 volume flow in
-    le_trans (mul-le-mul_right (88473600 * flow) (sum_first z 0 (exponent_small k2 volume flow p.k2_short) zero_le)) (div-mul-le_self (k2 * volume * one) (88473600 * flow))
+    le_trans (mul-le-mul_right (88473600 * flow) (sum_first z 0 (exponent_small k2 volume flow p.k2_short) zero-le)) (div-mul-le_self (k2 * volume * one) (88473600 * flow))
 
 -- a rate of 0 or no volume leaves an exponent of 0, and such a step loses and uses nothing, or fills nothing
 pub carried_exponent_zero : (k volume flow : ℕ) → k * volume ≡ 0 → exponent_of k volume flow ≡ 0
@@ -307,7 +315,7 @@ step_loses_nothing k1 k2 volume flow p h =
     let z = exponent_of k2 volume flow in
     let hy = exponent_small k1 volume flow p.k1_short in
     let hz = exponent_small k2 volume flow p.k2_short in
-    omega (arith, carried_exponent_zero k1 volume flow h, sum_first y 0 hy zero_le, sum_first y z hy hz)
+    omega (arith, carried_exponent_zero k1 volume flow h, sum_first y 0 hy zero-le, sum_first y z hy hz)
 
 pub step_fills_nothing :
     (k1 k2 volume flow : ℕ) → RatesPass k1 k2 volume flow → k2 * volume ≡ 0 → (step_of k1 k2 volume flow).filled ≡ 0
@@ -315,4 +323,4 @@ unfolding step_of
 step_fills_nothing k1 k2 volume flow p h =
     let z = exponent_of k2 volume flow in
     let hz = exponent_small k2 volume flow p.k2_short in
-    omega (arith, carried_exponent_zero k2 volume flow h, sum_first z 0 hz zero_le)
+    omega (arith, carried_exponent_zero k2 volume flow h, sum_first z 0 hz zero-le)

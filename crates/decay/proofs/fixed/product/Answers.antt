@@ -6,8 +6,7 @@ use lib.Dec.{lit<}
 use Rattle.decay.specs.Fixed.{one}
 use Rattle.decay.specs.held.Digits.{small}
 use Rattle.decay.proofs.fixed.Digits.{product_halves}
-use Rattle.decay.proofs.fixed.product.Statement.{statement}
-use Rattle.decay.proofs.fixed.product.Tie as tie
+use Rattle.decay.proofs.fixed.product.Goals as goal
 
 high : (a b : ℕ) → a ≤ one → b ≤ small → a * (b / 262144) ≤ 4611686018427387904
 high a b h k = mul-le-mul {n₂ = one} {m₂ = 262144} h (omega arith)
@@ -15,22 +14,19 @@ high a b h k = mul-le-mul {n₂ = one} {m₂ = 262144} h (omega arith)
 low : (a b : ℕ) → a ≤ one → a * (b % 262144) ≤ 4611686018427387904
 low a b h = mul-le-mul {n₂ = one} {m₂ = 262144} h (le_of_lt (mod-lt b (lit< tt)))
 
-mul-result : tie.Need-overflow-mul-result
-mul-result c = omega (arith, high c.args.a c.args.b c.requires.0 c.requires.1)
+pub overflow_mul-result : goal.overflow_mul-result
+overflow_mul-result c = omega (arith, high c.args.a c.args.b c.requires.0 c.requires.1)
 
-mul-result-2 : tie.Need-overflow-mul-result-2
-mul-result-2 c = omega (arith, low c.args.a c.args.b c.requires.0)
+pub overflow_mul-result-2 : goal.overflow_mul-result-2
+overflow_mul-result-2 c = omega (arith, low c.args.a c.args.b c.requires.0)
 
-add-result : tie.Need-overflow-add-result
-add-result c =
+pub overflow_add-result : goal.overflow_add-result
+overflow_add-result c =
     omega (
       arith,
       high c.args.a c.args.b c.requires.0 c.requires.1,
       low c.args.a c.args.b c.requires.0,
     )
 
-returns : tie.Need-returns
+pub returns : goal.returns
 returns c = product_halves c.args.a c.args.b
-
-pub product-spec : {M : Type 1} → statement M
-product-spec = tie.close (tie.spec mul-result mul-result-2 add-result returns)
