@@ -5,7 +5,6 @@ use Prim.Native.Nat.{ℕ}
 use mathlib.Core.Path.{◌≡◌, refl, ap, sym, ◌∙◌}
 use mathlib.Core.Bool.{Bool, true, false, ◌&&◌}
 use native.Mathlib.Omega.{arith}
-use Rattle.river.proofs.Orders
 use Rattle.river.specs.Refusal.{Answer, accepted, refused, refuse, need, choose, after, outcome_of, go_on}
 use Rattle.river.specs.declared.refusal.Outcome.{Outcome}
 use Rattle.river.specs.declared.refusal.Refusal.{Refusal}
@@ -90,11 +89,11 @@ module _ {A : Type 0} where
   went (refused r) f e = never e
 
   -- what the program's outcome says of the answer that it stands for, with the value beside it
-  pub is-accepted : (a : A) {o : Outcome} {x : Answer A} → outcome_of o a ≡ x → o ≡ Outcome.Accepted → x ≡ accepted a
-  is-accepted a e f = sym e ∙ ap (λ (o : Outcome). outcome_of o a) f
+  pub is_accepted : (a : A) {o : Outcome} {x : Answer A} → outcome_of o a ≡ x → o ≡ Outcome.Accepted → x ≡ accepted a
+  is_accepted a e f = sym e ∙ ap (λ (o : Outcome). outcome_of o a) f
 
-  pub is-refused : (a : A) {o : Outcome} {x : Answer A} {r : Refusal} → outcome_of o a ≡ x → o ≡ Outcome.Refused r → x ≡ refused r
-  is-refused a e f = sym e ∙ ap (λ (o : Outcome). outcome_of o a) f
+  pub is_refused : (a : A) {o : Outcome} {x : Answer A} {r : Refusal} → outcome_of o a ≡ x → o ≡ Outcome.Refused r → x ≡ refused r
+  is_refused a e f = sym e ∙ ap (λ (o : Outcome). outcome_of o a) f
 
   pub goes_on : (o : Outcome) (a : A) → go_on o (accepted a) ≡ outcome_of o a
   unfolding go_on

@@ -14,7 +14,7 @@ use Rattle.river.specs.declared.card.Nitrification.TheVariants.{Nitrifying}
 use Rattle.river.specs.declared.card.Optionals.{Optionals}
 use Rattle.river.specs.declared.card.RateFactors.{RateFactors}
 use Rattle.river.specs.declared.card.RateFactors.TheVariants.{PerDegree}
-use Rattle.river.specs.Refusal.{Answer, accepted, refused, refuse, need, choose, after}
+use Rattle.river.specs.Refusal.{Answer, refused, refuse, need, choose, after}
 use Rattle.river.specs.Card.{no_optionals, with_take, with_pressure, with_sludge, with_nitrification, count_ok, in_range, outlet_ok}
 use Rattle.river.specs.Fields.{within, all_within}
 use Rattle.river.specs.Records.{dam_record, nitrification_record, factors_record, take_record, pressure_record, sludge_record}
@@ -111,7 +111,7 @@ pub record Reading : Type 0 where
   -- then its take: 1, 4
   pub outlet_and_take : read_file (file (reach 9 20 0 1 0 Dam.Absent take_out)) ≡ refused (refuse 5 1)
   pub dam_and_cut_take : read_file (take 43 (file (reach 0 20 0 1 0 weir_out take_out))) ≡ refused (refuse 4 1)
-  pub cut-take : read_file (take 35 (file (reach 0 20 0 1 0 Dam.Absent take_out))) ≡ refused (refuse 1 1)
+  pub cut_take : read_file (take 35 (file (reach 0 20 0 1 0 Dam.Absent take_out))) ≡ refused (refuse 1 1)
   -- a dam behind a take is no record that is due
   pub take_then_dam : read_file (file (reach 0 20 0 1 0 Dam.Absent (Given 0)) ++ dam_record.encode weir) ≡ refused (refuse 6 0)
   pub next_after_dam : read_file (encode_header 2 ++ encode_card (reach 2 20 0 1 0 Dam.Absent (Given 0)) ++ dam_record.encode weir ++ encode_card (reach 0 20 0 1 0 Dam.Absent Amount.Absent)) ≡ refused (refuse 2 2)
@@ -185,7 +185,7 @@ reading_order =
       cut_dam = refl;
       outlet_and_take = refl;
       dam_and_cut_take = refl;
-      cut-take = refl;
+      cut_take = refl;
       take_then_dam = refl;
       next_after_dam = refl;
       take_twice = refl;

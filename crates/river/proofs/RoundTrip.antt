@@ -2,13 +2,13 @@
 -- Assumes nothing.
 use Prim.Native.Nat.{ℕ, suc, ◌≤◌, ◌<◌}
 use mathlib.Core.Logic.{◌↔◌}
-use mathlib.Core.Path.{◌≡◌, refl, ap, sym, ◌∙◌}
+use mathlib.Core.Path.{◌≡◌, refl, ap, sym, subst, ◌∙◌}
 use mathlib.Core.Bool.{Bool, true, false}
-use mathlib.Core.List.{List, [], ◌∷◌, ◌++◌}
+use mathlib.Core.List.{List, [], ◌∷◌, ◌++◌, append_assoc}
 use native.Mathlib.Omega.{arith}
 use lib.Dec.{leb}
 use lib.ListN.{length, take, drop}
-use lib.Seq.{take_at}
+use lib.Seq.{take_at, drop-append_seam}
 use borrow.Author.Tests.{le-leb, leb-true}
 use Rattle.river.specs.Bytes.{AreBytes}
 use Rattle.river.specs.Card.{LawfulCard, EachFrom, card_list}
@@ -16,7 +16,7 @@ use Rattle.river.specs.Read.{read_file}
 use Rattle.river.specs.Records.{Th}
 use Rattle.river.specs.Refusal.{Answer, accepted, refused, refuse, need, after, outcome_of}
 use Rattle.river.specs.River.{River, LawfulRiver}
-use Rattle.river.specs.Write.{encode, check_card, check_from, check_river, write_answer, buffer_written, written_of, Writes, HasRoom, LoadsFit}
+use Rattle.river.specs.Write.{encode, encode_card, encode_cards, encode_opening, check_card, check_from, check_river, write_answer, buffer_written, written_of, Writes, HasRoom, LoadsFit}
 use Rattle.river.specs.Rewrite.{rewrite_answer, buffer_rewritten, Rewritable, WritesBack, WrittenFits, river_back, ReadsBack}
 use Rattle.river.specs.declared.card.Card.{Card}
 use Rattle.river.specs.declared.refusal.Outcome.{Outcome}
@@ -25,6 +25,7 @@ use Rattle.river.specs.declared.file.Reading.{Reading}
 use Rattle.river.specs.declared.write.Written.{Written}
 use Rattle.river.proofs.Answers.{never, need_true, after_accepted, after_refused, passed, went}
 use Rattle.river.proofs.Files.{reads_lawful, reads_only_lawful, reads_exactly}
+use Rattle.river.proofs.bytes.Numbers.{are_bytes_drop}
 use Rattle.river.proofs.range.Ranges.{in_range_true, lawful_optionals, lawful_card, count_ok_true, true_count_ok}
 use Rattle.river.proofs.card.Described.{in_range_true_lem, true_in_range_lem}
 use Rattle.river.specs.File.{river_read, answer_of, Yields, Reads}
@@ -182,22 +183,23 @@ pub written_fits : (x : River) (before exit : List ℕ) (w : Written) → Writes
 written_fits x before exit (Written.Length l) writes e = omega (arith, (has_room (length x.cards) x (length before) l (sym writes.answer)).1)
 written_fits x before exit (Written.Refused r) writes e = tt
 
--- the answer of a writing and of the reading after it
-came_back : (x : River) (before exit : List ℕ) (w : Written) → LoadsFit x.cards → Writes (length x.cards) x before w exit → after (written_of w) (λ l. read_file (take l exit)) ≡ river_back x (length before)
+-- the answer of a writing and of the reading after it, where the loads fit if writing accepts
+came_back : (x : River) (before exit : List ℕ) (w : Written) → ((l : ℕ) → write_answer (length x.cards) x (length before) ≡ accepted l → LoadsFit x.cards)
+    → Writes (length x.cards) x before w exit → after (written_of w) (λ l. read_file (take l exit)) ≡ river_back x (length before)
 unfolding buffer_written
 came_back x before exit (Written.Length l) h writes =
-    let p = writes_only_lawful x (length before) l h (sym writes.answer) in
+    let p = writes_only_lawful x (length before) l (h l (sym writes.answer)) (sym writes.answer) in
     after_accepted _ _ refl ∙
     ap read_file (ap (take l) writes.buffer ∙ take_at (encode x) (drop l before) l p.size) ∙
     reads_lawful x p.lawful ∙
     sym (after_accepted _ _ (sym writes.answer))
 came_back x before exit (Written.Refused r) h writes = after_refused _ _ refl ∙ sym (after_refused _ _ (sym writes.answer))
 
--- THEOREM: reading what was written gives the same river
-pub reads_back :
+came_back_same :
     {x : River} {before exit : List ℕ} {w : Written} {r : Reading}
-    → LoadsFit x.cards → Writes (length x.cards) x before w exit → Yields (after (written_of w) (λ l. read_file (take l exit))) r → ReadsBack x before r exit
-reads_back {x} {before} {exit} {w} {r} h writes reads =
+    → ((l : ℕ) → write_answer (length x.cards) x (length before) ≡ accepted l → LoadsFit x.cards)
+    → Writes (length x.cards) x before w exit → Yields (after (written_of w) (λ l. read_file (take l exit))) r → ReadsBack x before r exit
+came_back_same {x} {before} {exit} {w} {r} h writes reads =
     record {
       answer = answer;
       exactly = (only, λ p. accepted_outcome r.outcome _ (answer ∙ after_accepted _ _ (writes_lawful x (length before) p.lawful p.fits)));
@@ -214,5 +216,39 @@ reads_back {x} {before} {exit} {w} {r} h writes reads =
     only : r.outcome ≡ Outcome.Accepted → HasRoom x (length before) (length (encode x))
     only e =
         let p = went _ _ (came e) in
-        let q = writes_only_lawful x (length before) p.value h p.first in
+        let q = writes_only_lawful x (length before) p.value (h p.value p.first) p.first in
         record { lawful = q.lawful; size = refl; fits = omega (arith, q.size, q.fits) }
+
+-- THEOREM: reading what was written gives the same river
+pub reads_back :
+    {x : River} {before exit : List ℕ} {w : Written} {r : Reading}
+    → LoadsFit x.cards → Writes (length x.cards) x before w exit → Yields (after (written_of w) (λ l. read_file (take l exit))) r → ReadsBack x before r exit
+reads_back h writes reads = came_back_same (λ l e. h) writes reads
+
+-- a load fits where the cards are put as bytes: the first byte of its number is below 256
+loads_fit : (cs : List Card) (rest : List ℕ) → AreBytes (encode_cards cs ++ rest) → LoadsFit cs
+loads_fit [] rest h = tt
+loads_fit (c ∷ cs) rest h = (
+  omega (arith, h.below 22),
+  loads_fit cs rest (subst AreBytes (ap (drop (length (encode_card c))) (append_assoc (encode_card c) (encode_cards cs) rest) ∙ drop-append_seam (encode_card c) (encode_cards cs ++ rest)) (are_bytes_drop (length (encode_card c)) h)),
+)
+
+loads_put : (x : River) (rest : List ℕ) → AreBytes (encode x ++ rest) → LoadsFit x.cards
+unfolding encode
+loads_put x rest h =
+    let opening = encode_opening (length x.cards) x.factors in
+    let behind : drop (length opening) ((opening ++ encode_cards x.cards) ++ rest) ≡ encode_cards x.cards ++ rest =
+    ap (drop (length opening)) (append_assoc opening (encode_cards x.cards) rest) ∙ drop-append_seam opening (encode_cards x.cards ++ rest)
+    in
+    loads_fit x.cards rest (subst AreBytes behind (are_bytes_drop (length opening) h))
+
+-- and so does reading what was written as bytes
+pub bytes_read_back :
+    {x : River} {before exit : List ℕ} {w : Written} {r : Reading}
+    → AreBytes exit → Writes (length x.cards) x before w exit → Yields (after (written_of w) (λ l. read_file (take l exit))) r → ReadsBack x before r exit
+unfolding buffer_written
+bytes_read_back {x} {before} {exit} {w} h writes reads =
+    came_back_same
+    (λ l e.
+    let put : exit ≡ buffer_written (accepted l) x before = writes.buffer ∙ ap (λ (a : Answer ℕ). buffer_written a x before) (writes.answer ∙ e) in
+    loads_put x (drop l before) (subst AreBytes put h)) writes reads

@@ -1,6 +1,3 @@
--- What the proofs by hand share.
+-- What proofs by hand share; no proof here is by hand now.
 pub mod Again
-pub mod First
-pub mod Known
 pub mod Locals
-pub mod Shared

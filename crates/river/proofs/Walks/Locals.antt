@@ -11,10 +11,10 @@ use mathlib.Core.Option.{Option, none, some, IsSome}
 use mathlib.Core.List.{List, [], ◌∷◌, ◌++◌}
 use lib.ListN.{take}
 use seplogic.Ra.Ura.{Ura}
-use mir.Syntax.{Sym, Ty, ty_int, ty_bool, ty_float, ty_ptr, ty_ref, ty_array, ty_unit, ty_struct, ty_enum, ty_named, Tys, Local, local, field, place, copy}
+use mir.Syntax.{Sym, Ty, ty_int, ty_bool, ty_float, ty_ptr, ty_ref, ty_array, ty_unit, ty_struct, ty_enum, ty_named, ty_param, ty_const, ty_array_p, Tys, Local, local, field, place, copy}
 use mir.Val.{Val, Vals, vstruct}
 use mir.Fields.{get_v}
-use seplogic.Ra.TreeShare.{full_share}
+use base.Fraction.{full_share}
 use base.Logic.{SProp, ent, sep, via, id⊢}
 use base.Fml.{Share, fat, froom, fdies}
 use prog.Memory.{field_at, field_of}
@@ -52,7 +52,10 @@ module _ {M : Type 1} {𝓤 : Ura M} {𝓛 : Logic 𝓤} {K : Type 0} {Γ : List
     at_type (ty_array τ m) ok = absurd ok
     at_type ty_unit ok = absurd ok
     at_type (ty_enum ν τss) ok = absurd ok
-    at_type (ty_named ν) ok = absurd ok
+    at_type (ty_named ν θ) ok = absurd ok
+    at_type (ty_param n) ok = absurd ok
+    at_type (ty_const n) ok = absurd ok
+    at_type (ty_array_p τ n) ok = absurd ok
 
     pub of_field : nth 𝓛 n Γ ≡ ‵ (fat q (spot_of 𝓤 H E i).0 (spot_of 𝓤 H E i).1 zero (vstruct vs)) → IsSome (field_of (spot_of 𝓤 H E i).0 k) → Opd K 𝓛 Γ E (copy (place i (field k ∷ []))) (get_v vs k)
     of_field cell ok = at_type (spot_of 𝓤 H E i).0 ok refl cell

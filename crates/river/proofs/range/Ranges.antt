@@ -1,6 +1,6 @@
 -- The tests of cards hold exactly for the ranges of specs/.
 -- Assumes nothing.
-use Prim.Native.Nat.{ℕ, zero, suc, ◌+◌, ◌≤◌, ◌<◌, zero_le}
+use Prim.Native.Nat.{ℕ, zero, suc, ◌+◌, ◌≤◌, ◌<◌, zero-le}
 use mathlib.Core.Path.{◌≡◌, refl}
 use mathlib.Core.List.{List, [], ◌∷◌}
 use mathlib.Core.Bool.{true}
@@ -74,11 +74,11 @@ true_rates_in_range c e =
 -- a nitrification is in range exactly where it is regular and its rate is in range
 regular_in_range : (n : Nitrification) → RegularNitrification n → nitrogenous_rate n ≤ rate_most → InRange NT n
 regular_in_range Nitrification.Absent h r = tt
-regular_in_range (Nitrifying rate c l) h r = (record { least = zero_le; most = r }, h.1)
+regular_in_range (Nitrifying rate c l) h r = (record { least = zero-le; most = r }, h.1)
 
 in_range_regular : (n : Nitrification) → InRange NT n → RegularNitrification n × (nitrogenous_rate n ≤ rate_most)
-in_range_regular Nitrification.Absent h = (tt, zero_le)
-in_range_regular (Nitrifying rate c l) h = ((record { least = zero_le; most = zero_le }, h.1), h.0.most)
+in_range_regular Nitrification.Absent h = (tt, zero-le)
+in_range_regular (Nitrifying rate c l) h = ((record { least = zero-le; most = zero-le }, h.1), h.0.most)
 
 -- what regular optional fields tell of one of them
 pub regular_pressure : {o : Optionals} → RegularOptionals o → InRange BP o.pressure

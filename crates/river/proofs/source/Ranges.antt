@@ -1,6 +1,6 @@
 -- The ranges of the demands of a card: their sources and rates, and what a source brings at most.
 use mathlib.Core.Path.{◌≡◌, refl}
-use Prim.Native.Nat.{ℕ, ◌≤◌, zero_le}
+use Prim.Native.Nat.{ℕ, ◌≤◌, zero-le}
 use native.Mathlib.Nat.{mul-le-mul}
 use native.Mathlib.Omega.{arith}
 use lib.Dec.{lit<}
@@ -26,7 +26,7 @@ source_inflow Nitrogenous c = nitrogenous_inflow c.inflow c.optionals.nitrificat
 
 -- the source of nitrogenous BOD is in range
 nitrogenous_in_range : (inflow : ℕ) (n : Nitrification) → inflow ≤ 100_000_000 → RegularNitrification n → SourceInRange (nitrogenous_source inflow n)
-nitrogenous_in_range inflow Nitrification.Absent i h = record { inflow = i; concentration = zero_le; load = lit< tt }
+nitrogenous_in_range inflow Nitrification.Absent i h = record { inflow = i; concentration = zero-le; load = lit< tt }
 nitrogenous_in_range inflow (Nitrifying rate concentration load) i h = record { inflow = i; concentration = h.1.0.most; load = omega (arith, h.1.1.0.most) }
 
 pub sources_in_range : {n i : ℕ} {c : Card} → RegularCard n i c → SourcesInRange c
