@@ -65,7 +65,7 @@ pub record FlowRows : Type 0 where
   -- what comes down of a demand that reach 2 does not add to
   pub nitrogenous_2 : head_demand (source_of Nitrogenous (second Dam.Absent Amount.Absent Amount.Absent)) (fed (above (two Dam.Absent) 2)) (flow_of (above (two Dam.Absent) 2)) (3000 * 2000000) ≡ 1500000
   pub accepted_dam : flow_check (two weir) ≡ accepted (two weir)
-  pub below_dam : below_dam (second weir Amount.Absent Amount.Absent) (fed (above (two weir) 2)) (flow_of (above (two weir) 2)) (pos 8000000) ≡ pos 8340602
+  pub below_dam_lem : below_dam (second weir Amount.Absent Amount.Absent) (fed (above (two weir) 2)) (flow_of (above (two weir) 2)) (pos 8000000) ≡ pos 8340602
   pub oxygen_dam : head_oxygen (second weir Amount.Absent Amount.Absent) (fed (above (two weir) 2)) (flow_of (above (two weir) 2)) (pos (3000 * 8000000)) ≡ pos 6755451
   pub volume_passes : flow_check (one 1000 3456000 10000 Amount.Absent) ≡ accepted (one 1000 3456000 10000 Amount.Absent)
   pub volume_refused : flow_check (one 1000 3456001 10000 Amount.Absent) ≡ refused (refuse 11 1)
@@ -136,7 +136,7 @@ bench =
       oxygen_2 = refl;
       nitrogenous_2 = refl;
       accepted_dam = refl;
-      below_dam = refl;
+      below_dam_lem = refl;
       oxygen_dam = refl;
       volume_passes = refl;
       volume_refused = refl;

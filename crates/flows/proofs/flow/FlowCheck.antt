@@ -3,7 +3,7 @@ use mathlib.Core.Path.{◌≡◌, refl, sym, ap, ◌∙◌}
 use mathlib.Core.Logic.{⊎_elim}
 use mathlib.Core.Bool.{true}
 use mathlib.Core.List.{List}
-use Prim.Native.Nat.{ℕ, zero, suc, ◌+◌, ◌-◌, ◌<◌, ◌≤◌, zero_le}
+use Prim.Native.Nat.{ℕ, zero, suc, ◌+◌, ◌-◌, ◌<◌, ◌≤◌, zero-le}
 use native.Mathlib.Nat.{le_refl, eq-or-lt_of_le, le_of_suc-le-suc, not-suc-le-zero}
 use native.Mathlib.Numerals.{add-one}
 use native.Mathlib.Omega.{arith}
@@ -107,7 +107,7 @@ pub at_start : {cards : List Card} (t : FlowTable) → Regular cards → Underwa
 at_start t h =
     record {
       regular = h;
-      within = zero_le;
+      within = zero-le;
       passed =
           record {
             sound = λ j l. absurd (not-suc-le-zero l);
@@ -166,8 +166,8 @@ module _ {cards : List Card} {i : ℕ} {t : FlowTable} (h : Underway cards i t) 
         }
 
   -- after the last reach the river is accepted
-  pub at-end : length cards ≤ i → FlowChecked cards (record { outcome = Outcome.Accepted; flows = t })
-  at-end l =
+  pub at_end : length cards ≤ i → FlowChecked cards (record { outcome = Outcome.Accepted; flows = t })
+  at_end l =
       let e : i ≡ length cards = omega (arith, h.within) in
       record {
         answer = sym (accepted_of_flows (record { each = λ j k. h.passed.sound j (omega arith) }));

@@ -17,7 +17,6 @@ use Rattle.river.specs.Source.{rate_of}
 use Rattle.flows.specs.Flow.{flow_limit, mass_limit, rate_limit, bed_limit, take_of, sludge_of, dam_fits, rate_fits, Checks, ◌then◌, flow_rules, load_rule, take_rule, range_rule, rate_rules, bed_rule, checks_of}
 use Rattle.flows.specs.held.FlowTable.{Decides}
 use Rattle.river.proofs.Answers.{need_true, passed}
-use Rattle.flows.proofs.Orders
 use Rattle.river.proofs.range.Ranges.{rates_in_range_true, true_rates_in_range}
 
 -- checks that ask for a fact: with it they go on, and where they led to an accepted answer it holds

@@ -3,7 +3,7 @@
 use mathlib.Core.Path.{◌≡◌, refl, sym, ap, ◌∙◌}
 use mathlib.Core.Bool.{Bool, true, false, ◌&&◌, ◌||◌}
 use mathlib.Core.List.{List, []}
-use Prim.Native.Nat.{ℕ, zero, suc, ◌+◌, ◌*◌, ◌^◌, ◌<◌, ◌≤◌, max, zero_le}
+use Prim.Native.Nat.{ℕ, zero, suc, ◌+◌, ◌*◌, ◌^◌, ◌<◌, ◌≤◌, max, zero-le}
 use mathlib.Core.Logic.{⊎_elim}
 use native.Mathlib.Nat.{le_trans, lt_of_le_of_lt, le_refl, le-suc_iff, le-add_left, le-add_right, le_of_suc-le-suc, eq-or-lt_of_le, not-suc-le-zero}
 use native.Mathlib.Numerals.{add-one}
@@ -104,7 +104,7 @@ module _ (outlets flows masses depths : List ℕ) (i : ℕ) {most n : ℕ} {held
 -- two values together of at most k times a weight sum together to at most k times the weights' sum
 pub sums_scaled : (outlets a b weights : List ℕ) (k n i : ℕ) → ((j : ℕ) → j < n → get_or a j 0 + get_or b j 0 ≤ k * get_or weights j 0) → table_sum outlets a n i + table_sum outlets b n i ≤ k * table_sum outlets weights n i
 unfolding table_sum only_if
-sums_scaled outlets a b weights k zero i h = zero_le
+sums_scaled outlets a b weights k zero i h = zero-le
 sums_scaled outlets a b weights k (suc n) i h =
     step (eqb (get_or outlets n 0) i) (get_or a n 0) (get_or b n 0) (get_or weights n 0) (table_sum outlets a n i) (table_sum outlets b n i) (table_sum outlets weights n i) (h n (le_refl (suc n))) (sums_scaled outlets a b weights k n i (λ j l. h j (lower l)))
   where
@@ -120,7 +120,7 @@ sum_scaled outlets values weights k n i h =
 -- values of at most b sum to at most n * b
 pub sum_bounded : (outlets values : List ℕ) (b n i : ℕ) → ((j : ℕ) → j < n → get_or values j 0 ≤ b) → table_sum outlets values n i ≤ n * b
 unfolding table_sum only_if
-sum_bounded outlets values b zero i h = zero_le
+sum_bounded outlets values b zero i h = zero-le
 sum_bounded outlets values b (suc n) i h =
     step (eqb (get_or outlets n 0) i) (get_or values n 0) (table_sum outlets values n i) (h n (le_refl (suc n))) (sum_bounded outlets values b n i (λ j l. h j (lower l)))
   where

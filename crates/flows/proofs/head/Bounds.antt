@@ -21,7 +21,6 @@ use Rattle.flows.specs.Saturation.{saturation, saturation_thousandths, standard_
 use Rattle.flows.specs.Head.{upstream_demand, mixed_demand, head_demand}
 use Rattle.flows.specs.held.HeadTable.{DamWithin, demand_limit, DemandReady}
 use Rattle.flows.specs.held.Stored.{stored_zero, stored_limit}
-use Rattle.flows.proofs.head.SaturationRows
 
 -- the falling terms of the polynomial are at most the others
 pub saturation_positive : (T : ℕ) → T ≤ 35 → 410220000 * T + 77774 * (T * T * T) ≤ 14652000000 + 7991000 * (T * T)

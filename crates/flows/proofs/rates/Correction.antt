@@ -5,7 +5,6 @@ use native.Mathlib.Nat.{le_trans, mul-le-mul, mul-le-mul_left, mul_comm, div-le_
 use native.Mathlib.Omega.{arith}
 use lib.Dec.{lit<}
 use Rattle.flows.specs.Rates.{warmed, cooled, corrected_rate}
-use Rattle.flows.proofs.rates.Rows
 
 -- what a rate of 20,000, in millionths, comes to where each degree doubles it; a factor is far less
 abbrev doubled : ℕ → ℕ

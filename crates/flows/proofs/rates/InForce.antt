@@ -15,7 +15,6 @@ use Rattle.river.specs.River.{River}
 use Rattle.flows.specs.Rates.{decay_in_force, aeration_in_force, with_rate, card_in_force, in_force, CorrectableCard}
 use Rattle.flows.specs.Flow.{Flows}
 use Rattle.river.proofs.range.Ranges.{regular_nitrification, regular_with, asked_at}
-use Rattle.flows.proofs.rates.Rows
 use Rattle.flows.proofs.rates.Correction.{thousand}
 
 -- factors that change no rate leave the cards as given
