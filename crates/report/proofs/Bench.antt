@@ -278,7 +278,7 @@ pub record ReportRows : Type 0 where
   pub mean_of_values_strays : distance (of_ℤ (floor all_values 1_025)) (exact_mean_oxygen 40 (card_of equal 1) (above equal 1)) ≼ allowance_at equal 1 → ⊥
   pub line_1 : reported_at (two Dam.Absent) 1 ≡ line 1 3000 2000000 8000000 0
   pub line_2 : reported_at (two Dam.Absent) 2 ≡ line 2 4000 9000000 6500000 0
-  pub below_dam : below_dam (second weir Amount.Absent Amount.Absent) (fed (above (two weir) 2)) (flow_of (above (two weir) 2)) (upstream (above (two weir) 2)) ≡ pos 8340602
+  pub below_dam_lem : below_dam (second weir Amount.Absent Amount.Absent) (fed (above (two weir) 2)) (flow_of (above (two weir) 2)) (upstream (above (two weir) 2)) ≡ pos 8340602
   pub line_dam : reported_at (two weir) 2 ≡ line 2 4000 9000000 6755451 0
   -- the dam at 700 mm
   pub hilly_below_dam : below_dam (second weir Amount.Absent (Given 700)) (fed (above (hilly (Given 700)) 2)) (flow_of (above (hilly (Given 700)) 2)) (upstream (above (hilly (Given 700)) 2)) ≡ pos 8103186
@@ -314,7 +314,7 @@ bench =
       mean_of_values_strays = rounded_mean_strays;
       line_1 = first_line Nitrification.Absent idle;
       line_2 = second_line Nitrification.Absent idle refl;
-      below_dam = below_weir Amount.Absent refl;
+      below_dam_lem = below_weir Amount.Absent refl;
       line_dam = weir_line Amount.Absent (omega arith) refl;
       hilly_below_dam = below_weir (Given 700) refl;
       hilly_line_1 = first_line Nitrification.Absent idle;

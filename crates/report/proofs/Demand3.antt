@@ -19,8 +19,6 @@ use Rattle.report.specs.Recurrence.{exact_oxygen_at}
 use Rattle.report.specs.Distance.{has_bed, step_units, allowance_at, OxygenWithin}
 use Rattle.report.specs.held.Water.{brought_allowance, water_allowance}
 use Rattle.report.specs.Record.{has_nitrification, Figures}
-use Rattle.report.proofs.Refutations
-use Rattle.report.proofs.UnitRows
 use Rattle.report.proofs.Lowest.{lowest_first}
 use Rattle.report.proofs.Forest.{AcceptedReach, AllAccepted, reach_accepted, above_accepted, reach_shallow}
 use Rattle.report.proofs.Accuracy.Errors.{Near, head_adds}

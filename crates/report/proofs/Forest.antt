@@ -1,7 +1,7 @@
 -- What an accepted river gives for every reach of the forest above a reach: its card lies in range and passes the flow check.
 use mathlib.Core.Bool.{Bool, true, false}
 use mathlib.Core.List.{List}
-use Prim.Native.Nat.{ℕ, zero, suc, ◌*◌, ◌≤◌, ◌<◌, zero_le}
+use Prim.Native.Nat.{ℕ, zero, suc, ◌*◌, ◌≤◌, ◌<◌, zero-le}
 use native.Mathlib.Omega.{arith}
 use lib.ListN.{length, get_or}
 use lib.Dec.{eqb}
@@ -66,7 +66,7 @@ joined_accepted false card up rest own water others = others
 
 -- a lawful bed's demand has two bytes
 demand_small : (a : Amount) → InRange SD a → amount_or 0 a ≤ 65_535
-demand_small Amount.Absent h = zero_le
+demand_small Amount.Absent h = zero-le
 demand_small (Given n) h = h.0.most
 
 -- a river: lawful cards whose flows pass

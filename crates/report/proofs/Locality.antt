@@ -26,7 +26,6 @@ use Rattle.report.specs.Status.{is_used, used_by}
 use Rattle.report.specs.Program.{demand_sum, oxygen_sum, demand_at_head, oxygen_at_head, oxygen_at, critical_oxygen, used_above, figures_below, figures_of}
 use Rattle.report.specs.held.Digits.{factors_along, parts_along, demand_along, turned_along, loss_along, oxygen_along}
 use Rattle.report.specs.Locality.{with_outlet, SameButOutlet, SameForest, bare, alike, exchanged, chained, SameReach, LiesAbove, feeds, through, SameCard, Agree}
-use Rattle.report.proofs.status.Rows
 
 -- ---- what a reach takes from its feeders, and what it gives
 

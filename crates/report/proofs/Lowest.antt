@@ -82,8 +82,8 @@ lowest_first at (suc m) =
     lower_first at m (lowest at m) (lowest_first at m) (lt_z (at (suc m)) (lowest at m).oxygen) lt_z_yes lt_z_no
 
 -- no value is below itself
-not-below : (v : ℤ) → lt_z v v ≡ false
-not-below v = go (lt_z v v) refl
+not_below : (v : ℤ) → lt_z v v ≡ false
+not_below v = go (lt_z v v) refl
   where
     go : (t : Bool) → lt_z v v ≡ t → t ≡ false
     go true e = absurd (<ℤ_irrefl (lt_z_yes {a = v} (subst T (sym e) tt)))
@@ -94,4 +94,4 @@ pub lowest_constant : (at : ℕ → ℤ) (v : ℤ) (n : ℕ) → ((m : ℕ) → 
 unfolding lowest lower
 lowest_constant at v zero h = rw (h 0 (le_refl 0))
 lowest_constant at v (suc m) h =
-    rw (lowest_constant at v m (λ k l. h k (omega arith)), h (suc m) (le_refl (suc m)), not-below v)
+    rw (lowest_constant at v m (λ k l. h k (omega arith)), h (suc m) (le_refl (suc m)), not_below v)

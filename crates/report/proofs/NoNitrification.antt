@@ -45,17 +45,17 @@ nothing_along : (card : Card) (Q m : ℕ) → demand_along Nitrogenous card Q 0 
 unfolding demand_along parts_along
 nothing_along card Q m = rw (nothing_left (step_of (rate_of Nitrogenous card) card.k2 card.volume Q) m)
 
-joined-none : (t : Bool) (card : Card) (up rest : Feeders) → is_nitrified card ≡ false → demand_sum Nitrogenous up ≡ 0 → demand_sum Nitrogenous rest ≡ 0 → demand_sum Nitrogenous (joined_if t card up rest) ≡ 0
+joined_none : (t : Bool) (card : Card) (up rest : Feeders) → is_nitrified card ≡ false → demand_sum Nitrogenous up ≡ 0 → demand_sum Nitrogenous rest ≡ 0 → demand_sum Nitrogenous (joined_if t card up rest) ≡ 0
 unfolding joined_if demand_sum
-joined-none true card up rest e u r = rw (u, nothing_at_head card (fed up) (flow_of up) e, nothing_along, mul-zero, r)
-joined-none false card up rest e u r = r
+joined_none true card up rest e u r = rw (u, nothing_at_head card (fed up) (flow_of up) e, nothing_along, mul-zero, r)
+joined_none false card up rest e u r = r
 
 -- so none comes down
 none_above : (cards : List Card) (n i : ℕ) → ((j : ℕ) → j < n → is_nitrified (get_or cards j blank) ≡ false) → demand_sum Nitrogenous (feeders_among cards n i) ≡ 0
 unfolding feeders_among demand_sum
 none_above cards zero i h = refl
 none_above cards (suc n) i h =
-    joined-none (eqb (get_or cards n blank).outlet i) (get_or cards n blank) (feeders_among cards n (suc n)) (feeders_among cards n i) (h n (le_refl (suc n))) (none_above cards n (suc n) (λ j l. h j (omega arith))) (none_above cards n i (λ j l. h j (omega arith)))
+    joined_none (eqb (get_or cards n blank).outlet i) (get_or cards n blank) (feeders_among cards n (suc n)) (feeders_among cards n i) (h n (le_refl (suc n))) (none_above cards n (suc n) (λ j l. h j (omega arith))) (none_above cards n i (λ j l. h j (omega arith)))
 
 -- THEOREM: the figures of nitrogenous BOD of a river without nitrification are 0
 pub none_reported : (cards : List Card) → has_nitrification cards ≡ false → (i : ℕ) → i < length cards → ((figures_at cards (suc i)).head_nitrogenous ≡ 0) × ((figures_at cards (suc i)).foot_nitrogenous ≡ 0)

@@ -12,7 +12,7 @@ use Rattle.river.specs.Write.{encode}
 use Rattle.flows.specs.Flow.{flow_of, mass_of, feeders_among, joined_if, flow_check, checks_from, reach_checks}
 use Rattle.flows.specs.Accept.{accept_file}
 use Rattle.report.specs.Mean.{mean_answer, mean_room_answer}
-use Rattle.report.specs.Report.{report_answer, room_answer}
+use Rattle.report.specs.Report.{report_answer}
 
 pub record Reporting : Type 0 where
   -- an empty file

@@ -3,7 +3,7 @@
 use mathlib.Core.Path.{◌≡◌, refl, sym, subst, ◌∙◌}
 use mathlib.Core.Logic.{◌⊎◌, inl, inr}
 use mathlib.Core.List.{List}
-use Prim.Native.Nat.{ℕ, suc, ◌*◌, ◌≤◌, ◌<◌, zero_le}
+use Prim.Native.Nat.{ℕ, suc, ◌*◌, ◌≤◌, ◌<◌, zero-le}
 use native.Mathlib.Nat.{le_of_lt, le_refl, zero-mul, mul-zero}
 use native.Mathlib.Omega.{arith}
 use lib.ListN.{length}
@@ -111,7 +111,7 @@ module _ {cards : List Card} (river : IsRiver cards) (i : ℕ) (l : i < length c
         at_head = head;
         at_foot = refl;
         critical = c;
-        at_most_head = subst (λ (z : ℤ). (lowest (oxygen_at card up) foot).oxygen ≤ℤ z) head (c.least 0 zero_le);
+        at_most_head = subst (λ (z : ℤ). (lowest (oxygen_at card up) foot).oxygen ≤ℤ z) head (c.least 0 zero-le);
         at_most_foot = c.least foot (le_refl foot);
       }
 

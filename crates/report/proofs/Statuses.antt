@@ -16,7 +16,6 @@ use Rattle.report.specs.Record.{Figures}
 use Rattle.report.specs.Status.{status_by, is_used, shown_number, shown_oxygen, reported}
 use Rattle.report.specs.Program.{oxygen_at, critical_oxygen, status_of, figures_of}
 use Rattle.report.specs.Ties.{NoOxygen}
-use Rattle.report.proofs.status.Rows
 
 -- at status 0 and 1 the figures are reported as they are
 pub reported_same : (f : Figures) → f.status ≤ 1 → reported f ≡ f

@@ -27,7 +27,6 @@ use Rattle.report.specs.held.MeanAlong.{middle, factors_mean, turned_mean, mean_
 use Rattle.report.specs.Program.{demand_at, oxygen_at, demand_at_head, oxygen_at_head, Critical, critical_oxygen, used_above, figures_of, foot}
 use Rattle.report.specs.held.Digits.{unit_parts, oxygen_with, factors_along, parts_along, demand_along, turned_along, loss_along, oxygen_along}
 use Rattle.report.specs.Status.{status_by}
-use Rattle.report.proofs.NitrificationRows
 use Rattle.report.proofs.Lowest.{lowest_constant}
 use Rattle.report.proofs.Forest.{AcceptedReach, rates_pass, bed_passes}
 use Rattle.report.proofs.bed.Loss.{less_nothing, head_loss, tied_loss, loss_in_range, mean_loss_in_range, bed_in_range}

@@ -4,7 +4,7 @@ use mathlib.Core.Path.{◌≡◌, refl, subst}
 use mathlib.Core.Logic.{⊎_elim, ◌↔◌}
 use mathlib.Core.Bool.{Bool, true, false, ◌||◌, or-true}
 use mathlib.Core.List.{List, [], ◌∷◌}
-use Prim.Native.Nat.{ℕ, zero, suc, ◌<◌, ◌≤◌, suc_le_suc}
+use Prim.Native.Nat.{ℕ, zero, suc, ◌<◌, ◌≤◌, suc-le-suc}
 use native.Mathlib.Nat.{le_of_lt, le_of_suc-le-suc, not-suc-le-zero, eq-or-lt_of_le}
 use native.Mathlib.Omega.{arith}
 use lib.ListN.{length, get_or}
@@ -32,7 +32,7 @@ pub record UsedReach (cards : List Card) (i : ℕ) : Type 0 where
 flowing_within : (cards : List Card) (j : ℕ) {i : ℕ} → (get_or cards j blank).outlet ≡ suc i → j < length cards
 flowing_within [] j e = omega arith
 flowing_within (card ∷ cards) zero e = omega arith
-flowing_within (card ∷ cards) (suc j) e = suc_le_suc (flowing_within cards j e)
+flowing_within (card ∷ cards) (suc j) e = suc-le-suc (flowing_within cards j e)
 
 pub above_within : {cards : List Card} {j i : ℕ} → LiesAbove cards j i → j < length cards
 above_within {cards} {j} (feeds e) = flowing_within cards j e

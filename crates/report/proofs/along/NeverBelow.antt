@@ -147,10 +147,10 @@ module _ {card : Card} {Q : ℕ} {head : Head} {p : ReachAlong} (ready : LineRea
       (oxygen_above f start (factors_range ready m) range (omega (arith, below.foot_bod, below.foot_nitrogenous)) (omega (arith, below.foot_bod, below.foot_nitrogenous))))
 
 -- what is at least zero is not below it
-not-below : {z : ℤ} → pos 0 ≤ℤ z → lt_z z (pos 0) ≡ false
-not-below {z = pos a} h = le-ltb a 0 (omega arith)
-not-below {z = negsuc a} h = absurd h.le
+not_below : {z : ℤ} → pos 0 ≤ℤ z → lt_z z (pos 0) ≡ false
+not_below {z = pos a} h = le-ltb a 0 (omega arith)
+not_below {z = negsuc a} h = absurd h.le
 
 -- and so the lowest of values that are all at least zero is not below it
 pub lowest_above : (at : ℕ → ℤ) (n : ℕ) → ((m : ℕ) → m ≤ n → pos 0 ≤ℤ at m) → lt_z (lowest at n).oxygen (pos 0) ≡ false
-lowest_above at n h = let low = lowest_first at n in rw low.value (not-below (h _ low.within))
+lowest_above at n h = let low = lowest_first at n in rw low.value (not_below (h _ low.within))

@@ -2,7 +2,7 @@
 -- Assumes nothing.
 use mathlib.Core.Path.{◌≡◌, ap₂}
 use mathlib.Core.Bool.{Bool, true, false}
-use Prim.Native.Nat.{ℕ, ◌+◌, ◌*◌, ◌-◌, ◌/◌, ◌≤◌, ◌<◌, zero_le}
+use Prim.Native.Nat.{ℕ, ◌+◌, ◌*◌, ◌-◌, ◌/◌, ◌≤◌, ◌<◌, zero-le}
 use native.Mathlib.Nat.{div-le_of_le-mul, div-le_self, div-mul-le_self, le_of_mul-le-mul_right, mul-le-mul_left, mul-le-mul_right, mul-zero, zero-mul, zero-div}
 use native.Mathlib.Omega.{arith}
 use lib.Dec.{eqb}
@@ -22,7 +22,6 @@ use Rattle.flows.specs.Flow.{sludge_of}
 use Rattle.report.specs.held.Bed.{bed_by, bed_of, no_bed, loss_with, BedPasses, loss_limit, LossInRange, BedInRange}
 use Rattle.report.specs.held.MeanAlong.{middle}
 use Rattle.report.specs.declared.bed.Bed.{Bed}
-use Rattle.report.proofs.bed.Rows
 
 -- what takes nothing leaves oxygen as it is
 pub less_nothing : {z : ℤ} {loss : ℕ} → loss ≡ 0 → z -ℤ pos loss ≡ z
@@ -91,7 +90,7 @@ unfolding bed_of bed_by
 eventual_small card Q h = go (eqb card.k2 0)
   where
     go : (t : Bool) → (bed_by t card.k2 (sludge_of card) card.volume Q).eventual ≤ 65_535_000_000
-    go true = zero_le
+    go true = zero-le
     go false = omega (arith, h, div-le_self (1_000_000 * sludge_of card) card.k2)
 
 -- the products behind check 14, for a step that fills a share f, with the loss c in the end
@@ -113,7 +112,7 @@ bed_in_range card Q p b = go (eqb card.k2 0)
     go : (t : Bool) → BedInRange step (bed_by t card.k2 demand card.volume Q)
     go true =
         record {
-          eventual = zero_le;
+          eventual = zero-le;
           loss = omega (arith, div-le_of_le-mul (54 * Q) {m = demand * card.volume * 625} {n = loss_limit} (omega (arith, b.rule)));
         }
     go false =

@@ -1,7 +1,7 @@
 -- The head and the line of a reach of an accepted river and what its foot brings, from the tables of flows and of what is brought, and from what
 -- is handed on of them. Assumes nothing.
-use mathlib.Core.Path.{◌≡◌, refl, sym, ap, ap₂, ◌∙◌, subst}
-use mathlib.Core.Bool.{Bool, false, cond}
+use mathlib.Core.Path.{◌≡◌, refl, sym, ap, ◌∙◌, subst}
+use mathlib.Core.Bool.{Bool, false}
 use mathlib.Core.List.{List, [], ◌∷◌}
 use Prim.Native.Nat.{ℕ, suc, ◌+◌, ◌-◌, ◌*◌, ◌≤◌, ◌<◌}
 use native.Mathlib.Nat.{le_refl, not-suc-le-zero}
@@ -28,7 +28,7 @@ use Rattle.river.specs.Source.{source_of}
 use Rattle.flows.specs.Flow.{Feeders, flow_limit, card_of, above, feeders_among, fed, flow_of, reach_flow, flow_at, mass_at, depth_at}
 use Rattle.flows.specs.held.FlowTable.{table_any, feeder_sum}
 use Rattle.flows.specs.Head.{head_demand, head_oxygen}
-use Rattle.flows.specs.held.HeadTable.{nothing_brought, brought_by, brought_entered, HeadInput, HeadOf, BroughtWithin, HeadTabled}
+use Rattle.flows.specs.held.HeadTable.{nothing_brought, brought_by, brought_entered, HeadInput, HeadOf, HeadTabled}
 use Rattle.flows.specs.held.Stored.{stored_zero, oxygen_of, stored_of}
 use Rattle.flows.proofs.head.Offset.{sub_pos, sub_neg, minus}
 use Rattle.flows.proofs.flow.Table.{entered, entered_at, Adds, TableOf, sum_of_feeders, any_of_feeders}

@@ -64,7 +64,7 @@ pub record MeanRows : Type 0 where
   pub by_volume : weighted_mean (both 1 4) (both (pos 0) (pos 10)) 2 ≡ record { units = pos 8; remainder = 0 }
   pub above_zero : weighted_mean (both 2 3) (both (pos 5) (pos 8)) 2 ≡ record { units = pos 6; remainder = 4 }
   -- 5 and −8 with volumes 2 and 3: −14 / 5; −5 and −10 with volumes 1 and 4: −45 / 5
-  pub below-zero : weighted_mean (both 2 3) (both (pos 5) (negsuc 7)) 2 ≡ record { units = negsuc 2; remainder = 1 }
+  pub below_zero : weighted_mean (both 2 3) (both (pos 5) (negsuc 7)) 2 ≡ record { units = negsuc 2; remainder = 1 }
   pub whole_below_zero : weighted_mean (both 1 4) (both (negsuc 4) (negsuc 9)) 2 ≡ record { units = negsuc 8; remainder = 0 }
   -- a reach of volume 0 does not count
   pub without_volume : weighted_mean (both 3 0) (both (negsuc 0) (pos 9)) 2 ≡ record { units = negsuc 0; remainder = 0 }
@@ -82,7 +82,7 @@ mean_rows =
     record {
       by_volume = refl;
       above_zero = refl;
-      below-zero = refl;
+      below_zero = refl;
       whole_below_zero = refl;
       without_volume = refl;
       short_and_empty = refl;
@@ -93,9 +93,9 @@ mean_rows =
 
 -- ---- oxygen that does not change: the two reaches of the printing program's example, whose rates are 0
 
-first-is : mean_by_sums (card_of (two Dam.Absent) 1) (above (two Dam.Absent) 1) ≡ pos 8_000_000
+first_is : mean_by_sums (card_of (two Dam.Absent) 1) (above (two Dam.Absent) 1) ≡ pos 8_000_000
 unfolding feeders_among joined_if fed flow_of factor_sums demand_sums factors_by_sums demand_by_sums mean_by_sums head_factors next_factors step_of mean_sum_of mean_step_of exponent_of quotient product term_of next_terms terms_at term_at with_term sum_of count_from series_of bed_by bed_of loss_with oxygen_with demand_at_head oxygen_at_head head_demand head_oxygen upstream_demand upstream_oxygen below_dam aerated floor demand_sum oxygen_sum saturation_of saturation saturation_thousandths
-first-is = refl
+first_is = refl
 
 second_is : mean_by_sums (card_of (two Dam.Absent) 2) (above (two Dam.Absent) 2) ≡ pos 6_500_000
 unfolding feeders_among joined_if fed flow_of factor_sums demand_sums factors_by_sums demand_by_sums mean_by_sums head_factors next_factors factors_at demand_from factors_along parts_along demand_along turned_along loss_along oxygen_along step_of mean_sum_of mean_step_of exponent_of quotient product term_of next_terms terms_at term_at with_term sum_of count_from series_of bed_by bed_of loss_with oxygen_with demand_at_head oxygen_at_head head_demand head_oxygen upstream_demand upstream_oxygen below_dam aerated floor demand_sum oxygen_sum saturation_of saturation saturation_thousandths
@@ -139,7 +139,7 @@ pub record Constant : Type 0 where
 pub constant : Constant
 unfolding river_mean weighted_sum rest_of divided_by floor volume_sum
 constant =
-    let first = mean_by_sums_lem (card_of (two Dam.Absent) 1) (above (two Dam.Absent) 1) ∙ first-is in
+    let first = mean_by_sums_lem (card_of (two Dam.Absent) 1) (above (two Dam.Absent) 1) ∙ first_is in
     let second = mean_by_sums_lem (card_of (two Dam.Absent) 2) (above (two Dam.Absent) 2) ∙ second_is in
     record {
       first = rw (none_above (two Dam.Absent), first);

@@ -11,7 +11,6 @@ use Rattle.river.specs.declared.card.Card.{Card}
 use Rattle.flows.specs.held.Stored.{stored_zero, stored_limit, oxygen_of}
 use Rattle.flows.proofs.flow.Table.{entered}
 use Rattle.flows.proofs.head.Offset.{sub_add, times_sub}
-use Rattle.report.proofs.mean.Rows
 use Rattle.report.specs.Mean.{mean_at, counted_volume_at, weighted_sum, volume_sum}
 use Rattle.report.specs.held.Weights.{no_weights, volume_limit, weighed_with, whole_sum}
 use Rattle.report.specs.held.MeanLines.{Weighs, MeansTabled}

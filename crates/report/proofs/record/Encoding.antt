@@ -12,7 +12,6 @@ use lib.ListN.{length, take}
 use Rattle.flows.proofs.head.Offset.{sub_pos, sub_neg}
 use Rattle.flows.specs.held.Stored.{stored_zero, oxygen_of}
 use Rattle.report.specs.Record.{complement, from_complement, plain_bytes, nitrogenous_bytes, encode_plain, encode_nitrogenous, encode_record, record_bytes, nitrogenous_at, read_record, Figures}
-use Rattle.report.proofs.record.Bytes
 
 -- stored oxygen in two's complement and back, below zero and from zero on
 pub complement_below : (n : ℕ) → n < stored_zero → (n + stored_zero ≡ complement (oxygen_of n)) × (oxygen_of (n + stored_zero) ≡ from_complement n)

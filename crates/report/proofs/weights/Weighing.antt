@@ -1,20 +1,15 @@
 -- The means weighed in two sums: each has room, and their quotient by long division is that of the sum that they make together, also below zero.
 -- The rows of means are named here so that they are checked before the laws: a wrong weight or remainder is refused by them.
 -- Assumes nothing.
-use mathlib.Core.Path.{◌≡◌, refl, sym, ap, ap₂, ◌∙◌}
-use mathlib.Core.List.{List}
+use mathlib.Core.Path.{◌≡◌, sym, ap, ◌∙◌}
 use Prim.Native.Nat.{ℕ, suc, ◌+◌, ◌*◌, ◌-◌, ◌/◌, ◌%◌, ◌≤◌, ◌<◌}
-use native.Mathlib.Nat.{add-mul, suc-mul, add-sub_of_le, div-add-mod', div-le_of_le-mul, mul_comm, mod-eq_of_lt, mod-lt, lt_of_mul-lt-mul_right, mul-add-div_right, mul-add, mul-add-mod_self_right, mul-le-mul, mul-le-mul_left, not-suc-le-zero}
+use native.Mathlib.Nat.{add-mul, suc-mul, add-sub_of_le, div-add-mod', div-le_of_le-mul, mul_comm, mod-eq_of_lt, mod-lt, lt_of_mul-lt-mul_right, mul-add-div_right, mul-add-mod_self_right, mul-le-mul}
 use native.Mathlib.Omega.{arith}
 use native.Mathlib.Decide.{dec_le}
 use lib.IntN.{ℤ, pos, negsuc, neg_ℤ, sub_ℕ, ◌+ℤ◌, ◌*ℤ◌, +ℤ_comm}
-use lib.ListN.{replicate, set, length-replicate, length-set}
-use Rattle.river.specs.declared.card.Card.{Card}
 use Rattle.flows.specs.Head.{floor}
 use Rattle.flows.specs.held.Stored.{stored_zero, stored_limit, oxygen_of, oxygen_sum_of}
-use Rattle.flows.proofs.flow.Table.{entered}
-use Rattle.flows.proofs.head.Offset.{sub_pos, sub_neg, minus, sub_add, times_sub, floor_offset}
-use Rattle.report.proofs.mean.Rows
+use Rattle.flows.proofs.head.Offset.{sub_pos, sub_neg, minus, floor_offset}
 use Rattle.report.specs.Mean.{rest_of, divided_by}
 use Rattle.report.specs.held.Weights.{chunk, volume_limit, weighed_with, whole_sum}
 use Rattle.report.specs.declared.weights.Weights.{Weights}
@@ -40,8 +35,8 @@ quotient_fits n volume h = div-le_of_le-mul volume (omega (arith, mul_comm store
 -- ---- the quotient of stored means
 
 -- the remainder of a sum of volume × stored oxygen is that of the sum of volume × oxygen
-below-zero : (n k d q r : ℕ) → q * d + r ≡ n → r < d → n < k * d → d - 1 - (k * d - suc n) % d ≡ r
-below-zero n k d q r e l h =
+below_zero : (n k d q r : ℕ) → q * d + r ≡ n → r < d → n < k * d → d - 1 - (k * d - suc n) % d ≡ r
+below_zero n k d q r e l h =
     let fewer : suc q ≤ k = lt_of_mul-lt-mul_right d (let m : q * d < k * d = omega arith in m) in
     let t : ℕ = k - suc q in
     let whole : k ≡ t + suc q = omega arith in
@@ -56,7 +51,7 @@ rest_offset n k d p = by_order (dec_le (k * d) n)
     by_order (yes h) =
         ap (λ (z : ℤ). rest_of z d) (sub_pos n (k * d) h) ∙ sym (mul-add-mod_self_right k d (n - k * d)) ∙ ap (λ (m : ℕ). m % d) (add-sub_of_le h)
     by_order (no h) =
-        ap (λ (z : ℤ). rest_of z d) (sub_neg n (k * d) (omega arith)) ∙ below-zero n k d (n / d) (n % d) (div-add-mod' n d) (mod-lt n p) (omega arith)
+        ap (λ (z : ℤ). rest_of z d) (sub_neg n (k * d) (omega arith)) ∙ below_zero n k d (n / d) (n % d) (div-add-mod' n d) (mod-lt n p) (omega arith)
 
 -- THEOREM: the quotient and the remainder of the sum of volume × stored mean are those of the sum of volume × mean, also below zero
 pub stored_quotient : (sum volume : ℕ) → 0 < volume → record { units = oxygen_of (sum / volume); remainder = sum % volume } ≡ divided_by (oxygen_sum_of volume sum) volume
