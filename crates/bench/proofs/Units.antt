@@ -5,7 +5,7 @@ use native.Mathlib.Omega.{arith}
 use lib.IntN.{ℤ, pos, negsuc, ◌+ℤ◌}
 use mir.Syntax.{w32, w64}
 use mir.Val.{Fits, SFits, to_z, of_z}
-use mir.Facts.{sfits_widen, sfits_to_z, Fits-of_z, to_z-of_z}
+use mir.Facts.{sfits_widen, to_z-of_z}
 use Rattle.flows.specs.held.Stored.{stored_zero, oxygen_of, stored_of}
 use Rattle.flows.proofs.head.Offset.{sub_pos, sub_neg}
 
@@ -35,7 +35,10 @@ module _ {z : ℤ} (f : SFits w32 z) where
 
   -- the sum of what eight bytes hold, and the same read back from them
   pub sum_held : to_z w64 (of_z w64 (to_z w32 (of_z w32 z))) +ℤ pos stored_zero ≡ pos (stored_of z)
-  sum_held = ap (λ (y : ℤ). y +ℤ pos stored_zero) (to_z-of_z (sfits_widen tt (sfits_to_z (Fits-of_z f))) ∙ to_z-of_z f) ∙ sum_is z f
+  sum_held =
+      ap (λ (y : ℤ). to_z w64 (of_z w64 y) +ℤ pos stored_zero) (to_z-of_z {w = w32} f)
+      ∙ ap (λ (y : ℤ). y +ℤ pos stored_zero) (to_z-of_z {w = w64} (sfits_widen {w = w32} tt f))
+      ∙ sum_is z f
 
   pub sum_read : to_z w64 (of_z w64 (to_z w64 (of_z w64 (to_z w32 (of_z w32 z))) +ℤ pos stored_zero)) ≡ pos (stored_of z)
-  sum_read = ap (λ (y : ℤ). to_z w64 (of_z w64 y)) sum_held ∙ to_z-of_z sum_fits
+  sum_read = ap (λ (y : ℤ). to_z w64 (of_z w64 y)) sum_held ∙ to_z-of_z {w = w64} sum_fits

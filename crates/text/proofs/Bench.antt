@@ -40,7 +40,7 @@ pub record TextRows : Type 0 where
   pub no_volume : mean_text_of (refused (refuse 16 0)) ≡ ascii "refused 16 reach 0\n"
   pub zero : signed (pos 0) ≡ ascii "0"
   pub ten : signed (pos 10) ≡ ascii "10"
-  pub below-zero : signed (negsuc 0) ≡ ascii "-1"
+  pub below_zero : signed (negsuc 0) ≡ ascii "-1"
   pub large : signed (negsuc 1000000383) ≡ ascii "-1000000384"
 
 -- the lines of two reaches, by their figures
@@ -66,6 +66,6 @@ text_bench =
       no_volume = refl;
       zero = refl;
       ten = refl;
-      below-zero = refl;
+      below_zero = refl;
       large = refl;
     }

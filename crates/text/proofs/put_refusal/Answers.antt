@@ -1,0 +1,17 @@
+-- `text::put_refusal` meets its contract: words, one behind the other. Assumes nothing.
+use mathlib.Core.Path.{◌≡◌}
+use mathlib.Core.List.{◌++◌, append_assoc}
+use Prim.Native.Nat.{ℕ}
+use Rattle.text.specs.Text.{ascii, number, after_word, line, refusal_line}
+use Rattle.text.proofs.put.Puts.{both, reworded}
+use Rattle.text.proofs.put_refusal.Goals as goal
+
+-- the line of a refusal, word by word
+refusal_is : (n reach : ℕ) → ascii "refused " ++ number n ++ ascii " reach " ++ number reach ++ ascii "\n" ≡ refusal_line n reach
+unfolding refusal_line line after_word
+refusal_is n reach = simp append_assoc
+
+pub returns : goal.returns
+returns c =
+    reworded (refusal_is _ _)
+    (both (both (both (both c.put_word-next.ensures c.put_number-next.ensures) c.put_word-next-2.ensures) c.put_number-next-2.ensures) c.put_word.ensures)
