@@ -303,25 +303,6 @@ static void check_both(const struct river *river)
     checked_means(river, &report, XYLANDREO_MAX_MEANS);
 }
 
-/* A null pointer with a length of 0 is an empty file, which gets 1, or a buffer without room, which gets 12. */
-static void check_null(const struct river *river)
-{
-    uint32_t refusal = xylandreo_report(river->bytes, river->length, lent, 0);
-    uint32_t unread = xylandreo_record_size(river->bytes, river->length) == 0 ? refusal : 12;
-    int32_t units = -7;
-    uint64_t remainder = 7;
-    expect(xylandreo_report(NULL, 0, NULL, 0) == 1, "no file gets 1 with reach 0 from a report", 1);
-    expect(xylandreo_mean(NULL, 0, NULL, 0, &units, &remainder) == 1, "no file gets 1 with reach 0 from means", 1);
-    expect(xylandreo_rewrite(NULL, 0, NULL, 0) == 1, "no file gets 1 with reach 0 from rewriting", 1);
-    expect(xylandreo_record_size(NULL, 0) == 0, "no file has no size of a reach", 0);
-    expect(xylandreo_report(river->bytes, river->length, NULL, 0) == refusal, "no buffer is one without room", refusal);
-    expect(xylandreo_mean(river->bytes, river->length, NULL, 0, &units, &remainder) == refusal,
-           "no buffer for means is one without room", refusal);
-    expect(xylandreo_rewrite(river->bytes, river->length, NULL, 0) == unread, "no buffer for a file is one without room",
-           unread);
-    expect(units == -7 && remainder == 7, "a refused call leaves the two numbers untouched", refusal);
-}
-
 /* Files cut short at every length, and files with one byte changed. */
 static void check_damaged(const struct river *river)
 {
@@ -342,7 +323,6 @@ void check_promises(const char *path, const struct river *river)
 {
     check_file(river);
     check_means(river);
-    check_null(river);
     check_damaged(river);
     show_name(stdout, path);
     printf(": all promises held in %lu calls, %lu of them refused\n", calls, refusals);

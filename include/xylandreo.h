@@ -51,8 +51,7 @@ extern "C" {
  *
  * A refused call writes nothing. Bytes past the report keep their contents. Every call ends. Nothing is
  * kept between calls, so calls on different buffers may run at the same time.
- * A pointer may be null where its length is 0, and only there: nothing is read or written through it then, and the
- * file is an empty one, which gets 1, or the buffer one without room. The buffers may not overlap.
+ * Neither pointer may be null, even for a length of 0, and the buffers may not overlap.
  */
 uint32_t xylandreo_report(const uint8_t *file, size_t file_len, uint8_t *report, size_t report_len);
 
@@ -78,8 +77,8 @@ uint32_t xylandreo_record_size(const uint8_t *file, size_t file_len);
  * both with reach 0.
  *
  * A refused call writes nothing, neither to the buffer nor to the two numbers. Bytes past the means keep their
- * contents. File and means may be null where their length is 0, as for xylandreo_report; the pointers to the two
- * numbers may never be null. Numbers and buffers may not overlap. Every call ends, and nothing is kept between calls.
+ * contents. No pointer may be null, the two numbers included; numbers and buffers may not overlap. Every call
+ * ends, and nothing is kept between calls.
  */
 uint32_t xylandreo_mean(const uint8_t *file, size_t file_len, uint8_t *means, size_t means_len, int32_t *units,
                         uint64_t *remainder);
