@@ -172,10 +172,7 @@ module _ {N k1 k2 v Q : ℕ} (long : 40 ≤ N) (p : RatesPass k1 k2 v Q) where
       (m : ℕ) → m ≤ 1024 → Within (share (factors_of k1 k2 v Q m).kept) (S N (exponent k2 v Q m)) (of_ℕ (5 * m) *ᶠ eps)
   unfolding factors_at head_factors
   deficit_at zero h =
-      within_weaken (within_of-≈ (≈_trans share_one (≈_sym (S-start k2 v Q positive)))) (certify (eps ∷ []) (number 0) (search quote depth 40 fits 9999) tt)
-    where
-      positive : 1 ≤ N
-      positive = omega arith
+      within_weaken (within_of-≈ (≈_trans share_one (≈_sym (S-start k2 v Q (omega arith))))) (certify (eps ∷ []) (number 0) (search quote depth 40 fits 9999) tt)
   deficit_at (suc m) h =
       let s = step_of k1 k2 v Q in
       let f = factors_of k1 k2 v Q m in

@@ -1,2 +1,3 @@
--- Averages and means of the factors.
+-- Sums, averages and means of the factors.
+pub mod Totals
 pub mod Averages

@@ -1,5 +1,5 @@
 -- The series of a step, in the carried digits: their terms, their sums, and how many terms are summed.
-use Rattle.std.specs.Prelude.{cond, ◌≡◌, ℕ, zero, suc, ◌+◌, ◌-◌, ◌/◌, ◌%◌, ◌≤◌, ◌<◌, eqb}
+use Rattle.std.specs.Prelude.{cond, ◌≡◌, ℕ, zero, suc, ◌+◌, ◌-◌, ◌/◌, ◌%◌, ◌≤◌, ◌<◌, eqb, List, get_or}
 use Rattle.decay.specs.Fixed.{product}
 use Rattle.decay.specs.declared.step.Terms.{Terms}
 use Rattle.decay.specs.declared.step.SeriesSum.{SeriesSum}
@@ -34,6 +34,10 @@ sum_of y z (suc i) = with_term (sum_of y z i) (term_at y z i) i
 -- a series ends with its fourth term; the fifth would be 0 in the carried digits
 abbrev pub most_terms : ℕ
 most_terms = 4
+
+-- the terms of a series, in order
+pub record AreTerms (y z : ℕ) (terms : List ℕ) : Type 0 where
+  pub each : (i : ℕ) → i < most_terms → get_or terms i 0 ≡ term_at y z i
 
 -- how many terms are summed, n of them so far and at most k more: up to the first that is 0 in the carried digits
 unfoldable pub count_from : (y z n k : ℕ) → ℕ

@@ -1,10 +1,10 @@
 // The factors of an instant: what a reach's head values have become there.
 ghost use Rattle.std.specs.Prelude.{◌≡◌, ◌+◌, ◌≤◌};
 ghost use Rattle.decay.specs.Fixed.{one};
-ghost use Rattle.decay.specs.held.Factors.{SoundStep, AreShares, next_demand, head_factors, next_factors};
+ghost use Rattle.decay.specs.held.Factors.{AreShares, next_demand, head_factors, next_factors};
 
 use crate::fixed;
-use crate::step::Step;
+use crate::pace::Pace;
 
 // A reach is 1,024 steps, and its instants are those from 0, its head, to its foot.
 pub const STEPS: u64 = 1_024;
@@ -18,7 +18,8 @@ pub struct DemandFactors {
     pub turned: u64,
 }
 
-// BOD left, head BOD turned to deficit and head deficit left, as shares of one.
+// BOD left, head BOD turned to deficit and head deficit left, as shares of one. That they are shares is a clause and no ghost field, since the sums
+// and the averages of `mean`, which are of this type too, are none; and it has a demand's two fields of its own, since the laws of both name them.
 #[derive(Clone, Copy)]
 pub struct Factors {
     pub left: u64,
@@ -27,6 +28,7 @@ pub struct Factors {
 }
 
 // The factors of the head.
+#[tactic(auto, unfolding(crate::specs::held::Factors::head_factors))]
 pub fn start() -> Factors
     ensures { result ≡ head_factors }
 {
@@ -38,12 +40,13 @@ pub fn start() -> Factors
 }
 
 // A demand one step further down.
-pub fn next_demand(s: Step, d: DemandFactors) -> DemandFactors
-    requires { SoundStep s × (d.left + d.turned ≤ one) }
-    ensures { result ≡ next_demand s d }
+#[tactic(auto, using(crate::proofs::factors::Instants::moved))]
+pub fn next_demand(pace: Pace, d: DemandFactors) -> DemandFactors
+    requires { d.left + d.turned ≤ one }
+    ensures { result ≡ next_demand pace.step d }
 {
-    let left = d.left;
-    let turned = d.turned;
+    let s = pace.step;
+    let DemandFactors { left, turned } = d;
     DemandFactors {
         left: left - fixed::product(left, s.lost),
         turned: turned - fixed::product(turned, s.filled) + fixed::product(left, s.spent),
@@ -51,21 +54,16 @@ pub fn next_demand(s: Step, d: DemandFactors) -> DemandFactors
 }
 
 // The factors one step further down.
-pub fn next(s: Step, f: Factors) -> Factors
-    requires { SoundStep s × AreShares f }
-    ensures { result ≡ next_factors s f }
+#[tactic(auto, using(crate::proofs::factors::Instants::filled_kept), unfolding(crate::specs::held::Factors::next_factors))]
+pub fn next(pace: Pace, f: Factors) -> Factors
+    requires { AreShares f }
+    ensures { result ≡ next_factors pace.step f }
 {
-    let bod = next_demand(
-        s,
-        DemandFactors {
-            left: f.left,
-            turned: f.turned,
-        },
-    );
-    let kept = f.kept;
+    let Factors { left, turned, kept } = f;
+    let bod = next_demand(pace, DemandFactors { left, turned });
     Factors {
         left: bod.left,
         turned: bod.turned,
-        kept: kept - fixed::product(kept, s.filled),
+        kept: kept - fixed::product(kept, pace.step.filled),
     }
 }

@@ -11,10 +11,14 @@ const LOW: u64 = 262_144;
 
 const HIGH: u64 = 67_108_864;
 
-// A long division goes on by eleven bits at a time.
+// A long division goes on by eleven bits at a time, and has 44 bits after four chunks.
 const CHUNK: u64 = 2_048;
 
-// The floor of a * b / 2^44. No product passes 2^62.
+const CHUNKS: u32 = 4;
+
+// The floor of a * b / 2^44. No product passes 2^62. What is asked of b stays a clause, since the shares of a step and the terms of a series, which are
+// plain numbers in the definitions, are multiplied here as exponents are.
+#[tactic(auto, using(crate::proofs::fixed::Digits::product_halves))]
 pub fn product(a: u64, b: u64) -> u64
     requires { (a ≤ one) × (b ≤ small) }
     ensures { result ≡ product a b }
@@ -34,8 +38,8 @@ pub fn chunk(part: Division, d: u64) -> Division
     requires { (part.digits < 8_589_934_592) × (part.rest < d) × (d ≤ large) }
     ensures { result ≡ chunked part d }
 {
-    let digits = part.digits;
-    let wide = part.rest * CHUNK;
+    let Division { digits, rest } = part;
+    let wide = rest * CHUNK;
     Division {
         digits: digits * CHUNK + wide / d,
         rest: wide % d,
@@ -47,9 +51,9 @@ pub fn quotient(n: u64, d: u64) -> u64
     requires { (n < d) × (d ≤ large) }
     ensures { result ≡ quotient n d }
 {
-    let first = chunk(Division { digits: 0, rest: n }, d);
-    let second = chunk(first, d);
-    let third = chunk(second, d);
-    let last = chunk(third, d);
-    last.digits
+    let mut part = Division { digits: 0, rest: n };
+    for _ in 0..CHUNKS {
+        part = chunk(part, d);
+    }
+    part.digits
 }

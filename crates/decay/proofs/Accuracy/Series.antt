@@ -33,10 +33,7 @@ module _
     (floor : Floor (suc (suc n)) (t *ᶠ q) t')
   where
     two : of_ℕ 2 ≼ of_ℕ (suc (suc n))
-    two = of_ℕ_mono count
-      where
-        count : 2 ≤ suc (suc n)
-        count = omega arith
+    two = of_ℕ_mono (omega arith)
 
     next_low : t' ≼ e'
     next_low =

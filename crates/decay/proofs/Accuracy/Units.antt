@@ -99,10 +99,7 @@ pub term_floor : (t y j : ℕ) → 0 < j → Floor j (share t *ᶠ share y) (sha
 unfolding term_of product
 term_floor t y j h =
     subst (λ (q : ℕ). Floor j (share t *ᶠ share y) (share q)) (sym (div-div-eq-div-mul (t * y) one j))
-    (floor_share t y j (t * y / (one * j)) (omega (arith, floor_low (t * y) (one * j))) (omega (arith, floor_high (t * y) (one * j) positive)))
-  where
-    positive : 0 < one * j
-    positive = omega arith
+    (floor_share t y j (t * y / (one * j)) (omega (arith, floor_low (t * y) (one * j))) (omega (arith, floor_high (t * y) (one * j) (omega arith))))
 
 -- a product of shares
 pub product_floor : (a b : ℕ) → Floor 1 (share a *ᶠ share b) (share (product a b))
@@ -146,10 +143,7 @@ below_share d n q y h k e =
 
 below_quotient : (d n : ℕ) (y : Fraction) → 0 < d → of_ℕ d *ᶠ y ≈ of_ℕ n → Below y (share (quotient n d))
 unfolding quotient
-below_quotient zero n y h e = absurd (none h)
-  where
-    none : 0 < 0 → ⊥
-    none p = omega arith
+below_quotient zero n y h e = absurd (omega arith)
 below_quotient (suc d) n y h e =
     below_share d n (n * one / suc d) y (omega (arith, floor_low (n * one) (suc d))) (omega (arith, floor_high (n * one) (suc d) h)) e
 
@@ -159,7 +153,4 @@ pub exponent_below :
     of_ℕ (88473600 * flow) *ᶠ y ≈ of_ℕ (k * volume) →
     Below y (share (exponent_of k volume flow))
 unfolding exponent_of
-exponent_below k volume flow y h e = below_quotient (88473600 * flow) (k * volume) y positive e
-  where
-    positive : 0 < 88473600 * flow
-    positive = omega arith
+exponent_below k volume flow y h e = below_quotient (88473600 * flow) (k * volume) y (omega arith) e

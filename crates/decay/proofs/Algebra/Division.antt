@@ -3,7 +3,7 @@
 use mathlib.Core.Path.{◌≡◌, refl, sym, subst₂}
 use mathlib.Core.List.{List, [], ◌∷◌}
 use mathlib.Core.Logic.{◌⊎◌, inl, inr}
-use Prim.Native.Nat.{ℕ, zero, suc, ◌≤◌, ◌<◌, zero-le, suc-le-suc}
+use Prim.Native.Nat.{ℕ, zero, suc, ◌<◌, zero-le, suc-le-suc}
 use native.Mathlib.Omega.{arith}
 use lib.IntN.{ℤ, pos, negsuc, ◌*ℤ◌, ℤ_discrete}
 use lib.Signed.{◌≤ℤ◌, ≤ℤ_refl}
@@ -58,10 +58,7 @@ nonneg-÷ {m} {a} h k = num_nonneg (cancel_num m.num a.num (λ r. h.below (num_n
 
 pub positive_whole : {n : ℕ} → 0 < n → Positive (of_ℕ n)
 unfolding of_ℤ
-positive_whole {n} h = record { below = λ r. not_below h (pos_reflect (nonpos_num r)) }
-  where
-    not_below : 0 < n → n ≤ 0 → ⊥
-    not_below p q = omega arith
+positive_whole {n} h = record { below = λ r. let q = pos_reflect (nonpos_num r) in omega arith }
 
 pub positive_sum : {a b : Fraction} → Positive a → Nonneg b → Positive (a +ᶠ b)
 positive_sum {a} {b} h k =

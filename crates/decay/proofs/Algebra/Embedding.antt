@@ -59,10 +59,8 @@ of_ℕ_suc n = ≈_trans (of_ℕ-≈ (sym (add-one n))) (of_ℕ-+ n 1)
 -- m − n for n ≤ m
 pub of_ℕ_sub : (m n : ℕ) → n ≤ m → of_ℕ (m - n) ≈ of_ℕ m -ᶠ of_ℕ n
 of_ℕ_sub m n h =
+    let whole : (m - n) + n ≡ m = omega arith in
     ring_by (of_ℕ m ∷ of_ℕ n ∷ of_ℕ (m - n) ∷ []) (of_ℕ 1 ⋅ of_ℕ-≈ whole & none) (search quote depth 40 fits 9999) tt
-  where
-    whole : (m - n) + n ≡ m
-    whole = omega arith
 
 -- −(n + 1)
 pub of_ℤ_negsuc : (n : ℕ) → of_ℤ (negsuc n) ≈ -ᶠ (of_ℕ n +ᶠ of_ℕ 1)
@@ -77,10 +75,7 @@ times_below n d =
 
 below_next : (n d : ℕ) → 0 < d → of_ℕ n +ᶠ of_ℕ 1 ≼ (of_ℕ (n / d) +ᶠ of_ℕ 1) *ᶠ of_ℕ d
 below_next n d h =
-    certify (of_ℕ n ∷ of_ℕ d ∷ of_ℕ (n / d) ∷ []) (slack (of_ℕ_mono (next n d h))) (search quote depth 40 fits 9999) tt
-  where
-    next : (n d : ℕ) → 0 < d → n + 1 ≤ (n / d + 1) * d
-    next n d h = omega (arith, lt-div-mul-add {a = n} h)
+    certify (of_ℕ n ∷ of_ℕ d ∷ of_ℕ (n / d) ∷ []) (slack (of_ℕ_mono {m = n + 1} {n = (n / d + 1) * d} (omega (arith, lt-div-mul-add {a = n} h)))) (search quote depth 40 fits 9999) tt
 
 -- floor (z / d) × d ≤ z
 pub floor_times : (z : ℤ) (d : ℕ) → 0 < d → of_ℤ (shr_z z d) *ᶠ of_ℕ d ≼ of_ℤ z

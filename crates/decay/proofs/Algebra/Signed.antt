@@ -1,30 +1,25 @@
 -- The signed numbers of lib.IntN as an ordered commutative ring: what the library lacks of it.
--- Products: *ℤ-assoc, *ℤ-distrib-r, *ℤ-distrib-l, neg-*ℤ. Order: a ≤ℤ b holds exactly if b is a +ℤ pos n for some n (≤ℤ-gap, ≤ℤ-add),
--- and from that transitivity, antisymmetry, totality, monotone sums, products of nonnegatives and cancellation follow.
+-- Sums and the order follow by `omega` with `ints`; what is here beside are products: associativity, distributivity, negations, products of
+-- nonnegatives, and cancellation.
 use mathlib.Core.Path.{◌≡◌, refl, sym, ◌∙◌, ap, subst}
-use mathlib.Core.Bool.{Bool, true, false, not, cond}
+use mathlib.Core.Bool.{Bool, true, false}
 use mathlib.Core.Logic.{◌⊎◌, inl, inr}
-use Prim.Native.Nat.{ℕ, zero, suc, ◌+◌, ◌*◌, ◌-◌, ◌≤◌, ◌<◌}
+use Prim.Native.Nat.{ℕ, zero, suc, ◌*◌, ◌≤◌, ◌<◌}
 use native.Mathlib.Nat as NatL
 use native.Mathlib.Omega.{arith}
-use lib.Dec.{T, ltb, ltb→lt, nltb→le, nleb→lt, leb→le, le→leb}
-use lib.IntN.{ℤ, pos, negsuc, suc_ℤ, pred_ℤ, neg_ℤ, sub_ℕ, ◌+ℤ◌, ◌-ℤ◌, ◌*ℤ◌, +ℤ_idl, +ℤ_assoc, +ℤ_comm, +ℤ_invl, +ℤ_invr, suc_ℤ-+ℤ, pred_ℤ-+ℤ, suc_ℤ-*ℤ, pred_ℤ-*ℤ, zero-*ℤ, *ℤ_comm, *ℤ-one, one, neg_ℤ-neg_ℤ, +ℤ-neg_ℤ_cancel, -ℤ-+ℤ_cancel}
-use lib.Signed.{◌≤ℤ◌, le_z, ≤ℤ_refl}
+use Rattle.std.proofs.lemmas.Int.{ints}
+use lib.IntN.{ℤ, pos, negsuc, suc_ℤ, pred_ℤ, neg_ℤ, ◌+ℤ◌, ◌-ℤ◌, ◌*ℤ◌, +ℤ_idl, +ℤ_invl, suc_ℤ-+ℤ, pred_ℤ-+ℤ, suc_ℤ-*ℤ, pred_ℤ-*ℤ, zero-*ℤ, *ℤ_comm, *ℤ-one, one}
+use lib.Signed.{◌≤ℤ◌, le_z}
 
 -- ---- sums
 
--- (a + b) + (c + d) = (a + c) + (b + d)
-pub +ℤ_swap : (a b c d : ℤ) → (a +ℤ b) +ℤ (c +ℤ d) ≡ (a +ℤ c) +ℤ (b +ℤ d)
-+ℤ_swap a b c d =
-    +ℤ_assoc a b (c +ℤ d) ∙ ap (λ (x : ℤ). a +ℤ x) (sym (+ℤ_assoc b c d) ∙ ap (λ (x : ℤ). x +ℤ d) (+ℤ_comm b c) ∙ +ℤ_assoc c b d) ∙ sym (+ℤ_assoc a c (b +ℤ d))
-
 -- (a + b) + c = (a + c) + b
 pub +ℤ_swap_r : (a b c : ℤ) → (a +ℤ b) +ℤ c ≡ (a +ℤ c) +ℤ b
-+ℤ_swap_r a b c = +ℤ_assoc a b c ∙ ap (λ (x : ℤ). a +ℤ x) (+ℤ_comm b c) ∙ sym (+ℤ_assoc a c b)
++ℤ_swap_r a b c = omega (arith, ints)
 
 -- a = b where a + c = b + c
 pub +ℤ_cancel : {a b : ℤ} (c : ℤ) → a +ℤ c ≡ b +ℤ c → a ≡ b
-+ℤ_cancel {a} {b} c e = sym (+ℤ-neg_ℤ_cancel a c) ∙ ap (λ (x : ℤ). x -ℤ c) e ∙ +ℤ-neg_ℤ_cancel b c
++ℤ_cancel c e = omega (arith, ints)
 
 -- ---- products
 
@@ -101,114 +96,35 @@ pub *ℤ_assoc : (a b c : ℤ) → (a *ℤ b) *ℤ c ≡ a *ℤ (b *ℤ c)
 unfolding Associates
 *ℤ_assoc a b c = associates a b c
 
--- ---- differences of naturals
-
-pub sub_ℕ_ge : (a b : ℕ) → b ≤ a → sub_ℕ a b ≡ pos (a - b)
-sub_ℕ_ge a b h = go (ltb a b) (ltb→lt a b)
-  where
-    go : (t : Bool) → (T t → a < b) → cond t (negsuc (b - suc a)) (pos (a - b)) ≡ pos (a - b)
-    go true f = absurd (clash (f tt))
-      where
-        clash : a < b → ⊥
-        clash k = omega arith
-    go false f = refl
-
-pub sub_ℕ_lt : (a b : ℕ) → a < b → sub_ℕ a b ≡ negsuc (b - suc a)
-sub_ℕ_lt a b h = go (ltb a b) (nltb→le a b)
-  where
-    go : (t : Bool) → (T (not t) → b ≤ a) → cond t (negsuc (b - suc a)) (pos (a - b)) ≡ negsuc (b - suc a)
-    go true f = refl
-    go false f = absurd (clash (f tt))
-      where
-        clash : b ≤ a → ⊥
-        clash k = omega arith
-
 -- ---- order
 
--- a number is at most itself and a natural number more
-pub ≤ℤ_add : (a : ℤ) (n : ℕ) → a ≤ℤ (a +ℤ pos n)
-≤ℤ_add (pos a) n = record { le = le→leb a (a + n) (omega arith) }
-≤ℤ_add (negsuc a) n = go (ltb n (suc a)) (ltb→lt n (suc a))
-  where
-    go : (t : Bool) → (T t → n < suc a) → negsuc a ≤ℤ (cond t (negsuc (suc a - suc n)) (pos (n - suc a)))
-    go true f = record { le = le→leb (suc a - suc n) a (omega arith) }
-    go false f = record { le = tt }
-
--- and every larger number is so
-pub ≤ℤ_gap : {a b : ℤ} → a ≤ℤ b → (n : ℕ) × (b ≡ a +ℤ pos n)
-≤ℤ_gap {a = pos a} {b = pos b} h = (b - a, ap pos (more (leb→le a b h.le)))
-  where
-    more : a ≤ b → b ≡ a + (b - a)
-    more k = omega arith
-≤ℤ_gap {a = pos a} {b = negsuc b} h = absurd h.le
-≤ℤ_gap {a = negsuc a} {b = pos b} h = (b + suc a, sym (sub_ℕ_ge (b + suc a) (suc a) (omega arith) ∙ ap pos back))
-  where
-    back : (b + suc a) - suc a ≡ b
-    back = omega arith
-≤ℤ_gap {a = negsuc a} {b = negsuc b} h = (a - b, sym (sub_ℕ_lt (a - b) (suc a) (omega arith) ∙ ap negsuc (back (leb→le b a h.le))))
-  where
-    back : b ≤ a → suc a - suc (a - b) ≡ b
-    back k = omega arith
-
-pub ≤ℤ_of_gap : {a b : ℤ} (n : ℕ) → b ≡ a +ℤ pos n → a ≤ℤ b
-≤ℤ_of_gap {a} {b} n e = subst (λ (x : ℤ). a ≤ℤ x) (sym e) (≤ℤ_add a n)
-
 pub ≤ℤ_of_eq : {a b : ℤ} → a ≡ b → a ≤ℤ b
-≤ℤ_of_eq {a} {b} e = subst (λ (x : ℤ). a ≤ℤ x) e (≤ℤ_refl a)
+≤ℤ_of_eq e = omega (arith, ints)
 
 pub ≤ℤ_trans : {a b c : ℤ} → a ≤ℤ b → b ≤ℤ c → a ≤ℤ c
-≤ℤ_trans {a} {b} {c} h k =
-    let (n, e) = ≤ℤ_gap h in
-    let (m, f) = ≤ℤ_gap k in
-    ≤ℤ_of_gap (n + m) (f ∙ ap (λ (x : ℤ). x +ℤ pos m) e ∙ +ℤ_assoc a (pos n) (pos m))
+≤ℤ_trans h k = omega (arith, ints)
 
 -- two numbers that are each at most the other are equal
 pub ≤ℤ_antisym : {a b : ℤ} → a ≤ℤ b → b ≤ℤ a → a ≡ b
-≤ℤ_antisym {a = pos a} {b = pos b} h k = ap pos (same (leb→le a b h.le) (leb→le b a k.le))
-  where
-    same : a ≤ b → b ≤ a → a ≡ b
-    same h k = omega arith
-≤ℤ_antisym {a = pos a} {b = negsuc b} h k = absurd h.le
-≤ℤ_antisym {a = negsuc a} {b = pos b} h k = absurd k.le
-≤ℤ_antisym {a = negsuc a} {b = negsuc b} h k = ap negsuc (same (leb→le b a h.le) (leb→le a b k.le))
-  where
-    same : b ≤ a → a ≤ b → a ≡ b
-    same h k = omega arith
+≤ℤ_antisym h k = omega (arith, ints)
 
-other : (a b : ℤ) → T (not (le_z a b)) → b ≤ℤ a
-other (pos a) (pos b) t = record { le = le→leb b a (NatL.le_of_lt (nleb→lt a b t)) }
-other (pos a) (negsuc b) t = record { le = tt }
-other (negsuc a) (pos b) t = absurd t
-other (negsuc a) (negsuc b) t = record { le = le→leb a b (NatL.le_of_lt (nleb→lt b a t)) }
-
--- of two numbers one is at most the other: test le_z, and both outcomes
+-- of two numbers one is at most the other
 pub ≤ℤ_total : (a b : ℤ) → (a ≤ℤ b) ⊎ (b ≤ℤ a)
 ≤ℤ_total a b = go (le_z a b) refl
   where
     go : (t : Bool) → le_z a b ≡ t → (a ≤ℤ b) ⊎ (b ≤ℤ a)
-    go true e = inl (record { le = subst T (sym e) tt })
-    go false e = inr (other a b (subst (λ (x : Bool). T (not x)) (sym e) tt))
-
-pub ≤ℤ_sum : {a b c d : ℤ} → a ≤ℤ b → c ≤ℤ d → (a +ℤ c) ≤ℤ (b +ℤ d)
-≤ℤ_sum {a} {b} {c} {d} h k =
-    let (n, e) = ≤ℤ_gap h in
-    let (m, f) = ≤ℤ_gap k in
-    ≤ℤ_of_gap (n + m) (ap (λ (x : ℤ). x +ℤ d) e ∙ ap (λ (x : ℤ). (a +ℤ pos n) +ℤ x) f ∙ +ℤ_swap a (pos n) c (pos m))
+    go true e = inl (grind (arith, ints))
+    go false e = inr (grind (arith, ints))
 
 -- 0 is at most b - a exactly if a is at most b
 pub ≤ℤ_diff : {a b : ℤ} → a ≤ℤ b → pos zero ≤ℤ (b -ℤ a)
-≤ℤ_diff {a} {b} h = subst (λ (x : ℤ). x ≤ℤ (b -ℤ a)) (+ℤ_invr a) (≤ℤ_sum h (≤ℤ_refl (neg_ℤ a)))
+≤ℤ_diff h = omega (arith, ints)
 
 pub ≤ℤ_of_diff : (a b : ℤ) → pos zero ≤ℤ (b -ℤ a) → a ≤ℤ b
-≤ℤ_of_diff a b h = subst (λ (x : ℤ). x ≤ℤ b) (+ℤ_idl a) (subst (λ (x : ℤ). (pos zero +ℤ a) ≤ℤ x) (-ℤ-+ℤ_cancel b a) (≤ℤ_sum h (≤ℤ_refl a)))
-
--- a nonnegative number is a natural number
-pub ≤ℤ_nat : {a : ℤ} → pos zero ≤ℤ a → (n : ℕ) × (a ≡ pos n)
-≤ℤ_nat {a = pos n} h = (n, refl)
-≤ℤ_nat {a = negsuc n} h = absurd h.le
+≤ℤ_of_diff a b h = omega (arith, ints)
 
 pub nonneg_pos : (n : ℕ) → pos zero ≤ℤ pos n
-nonneg_pos n = record { le = le→leb zero n (omega arith) }
+nonneg_pos n = omega (arith, ints)
 
 pub nonneg-*ℤ : {a b : ℤ} → pos zero ≤ℤ a → pos zero ≤ℤ b → pos zero ≤ℤ (a *ℤ b)
 nonneg-*ℤ {a = pos a} {b = pos b} h k = nonneg_pos (a * b)
@@ -216,7 +132,7 @@ nonneg-*ℤ {a = pos a} {b = negsuc b} h k = absurd k.le
 nonneg-*ℤ {a = negsuc a} h k = absurd h.le
 
 pub nonneg-+ℤ : {a b : ℤ} → pos zero ≤ℤ a → pos zero ≤ℤ b → pos zero ≤ℤ (a +ℤ b)
-nonneg-+ℤ h k = ≤ℤ_sum h k
+nonneg-+ℤ h k = omega (arith, ints)
 
 -- a nonnegative factor keeps the order
 pub ≤ℤ_mul_l : {a b c : ℤ} → pos zero ≤ℤ c → a ≤ℤ b → (c *ℤ a) ≤ℤ (c *ℤ b)
@@ -226,7 +142,7 @@ pub ≤ℤ_mul_r : {a b c : ℤ} → pos zero ≤ℤ c → a ≤ℤ b → (a *�
 ≤ℤ_mul_r {a} {b} {c} h k = subst (λ (x : ℤ). x ≤ℤ (b *ℤ c)) (*ℤ_comm c a) (subst (λ (x : ℤ). (c *ℤ a) ≤ℤ x) (*ℤ_comm c b) (≤ℤ_mul_l h k))
 
 pub ≤ℤ_neg : {a b : ℤ} → a ≤ℤ b → neg_ℤ b ≤ℤ neg_ℤ a
-≤ℤ_neg {a} {b} h = ≤ℤ_of_diff (neg_ℤ b) (neg_ℤ a) (subst (λ (x : ℤ). pos zero ≤ℤ x) (+ℤ_comm b (neg_ℤ a) ∙ ap (λ (x : ℤ). neg_ℤ a +ℤ x) (sym (neg_ℤ-neg_ℤ b))) (≤ℤ_diff h))
+≤ℤ_neg h = omega (arith, ints)
 
 -- a positive factor is cancelled
 pub nonneg_cancel : (n : ℕ) {a : ℤ} → 0 < n → pos zero ≤ℤ (pos n *ℤ a) → pos zero ≤ℤ a
@@ -234,10 +150,7 @@ nonneg_cancel n {a = pos a} p h = nonneg_pos a
 nonneg_cancel n {a = negsuc a} p h = below (n * suc a) (NatL.mul-pos p (omega arith)) h
   where
     below : (k : ℕ) → 0 < k → pos zero ≤ℤ (neg_ℤ (pos k)) → pos zero ≤ℤ negsuc a
-    below zero q h = absurd (lt_irrefl' q)
-      where
-        lt_irrefl' : 0 < 0 → ⊥
-        lt_irrefl' q = omega arith
+    below zero q h = absurd (omega arith)
     below (suc k) q h = absurd h.le
 
 pub ≤ℤ_cancel_l : (n : ℕ) (a b : ℤ) → 0 < n → (pos n *ℤ a) ≤ℤ (pos n *ℤ b) → a ≤ℤ b
@@ -252,7 +165,7 @@ pub *ℤ_cancel_r : (n : ℕ) (a b : ℤ) → 0 < n → a *ℤ pos n ≡ b *ℤ 
 
 -- natural numbers keep their order, their sums and their products (pos-+ℤ-pos and pos-*ℤ-pos of lib.IntN hold by definition)
 pub pos_mono : {m n : ℕ} → m ≤ n → pos m ≤ℤ pos n
-pos_mono {m} {n} h = record { le = le→leb m n h }
+pos_mono h = omega (arith, ints)
 
 pub pos_reflect : {m n : ℕ} → pos m ≤ℤ pos n → m ≤ n
-pos_reflect {m} {n} h = leb→le m n h.le
+pos_reflect h = omega (arith, ints)

@@ -64,10 +64,7 @@ no_rows f b = ring (b ∷ []) (search quote depth 40 fits 9999) tt
 
 square_in_triangle : (f g : ℕ → Fraction) → Positive f → Positive g → (N k n : ℕ) → N + k ≤ n → sum f k *ᶠ sum g N ≼ sum (conv f g) n
 square_in_triangle f g p q N zero n h = ≼_trans (≼_of-≈ (no_rows f (sum g N))) (sum_positive (conv f g) (conv_positive f g p q) n)
-square_in_triangle f g p q N (suc k) zero h = absurd (impossible h)
-  where
-    impossible : N + suc k ≤ 0 → ⊥
-    impossible h = omega arith
+square_in_triangle f g p q N (suc k) zero h = absurd (omega arith)
 square_in_triangle f g p q N (suc k) (suc n) h =
     let within : N ≤ suc n = omega arith in
     certify (f 0 ∷ sum f (suc k) ∷ sum (shift f) k ∷ sum g N ∷ sum g (suc n) ∷ sum (conv f g) (suc n) ∷ sum (conv (shift f) g) n ∷ [])

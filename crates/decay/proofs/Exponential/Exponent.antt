@@ -52,10 +52,7 @@ exponent_rate k v Q m = ring_by (exponent k v Q m ∷ of_ℕ k ∷ of_ℕ v ∷ 
 pub exponent_le_4 : (k v Q m : ℕ) → k * v ≤ 345_600 * Q → m ≤ 1024 → exponent k v Q m ≼ of_ℕ 4
 unfolding moment
 exponent_le_4 k v Q m h l =
-    ≼_trans (≼_of-≈ (exponent_is k v Q m)) (quotient_le (k * v * m) (86_400 * 1_024 * Q) 4 (whole (mul-le-mul h l)))
-  where
-    whole : k * v * m ≤ 345_600 * Q * 1024 → k * v * m ≤ 4 * (86_400 * 1_024 * Q)
-    whole r = omega arith
+    ≼_trans (≼_of-≈ (exponent_is k v Q m)) (quotient_le (k * v * m) (86_400 * 1_024 * Q) 4 (omega (arith, mul-le-mul h l)))
 
 share : of_ℕ 256 *ᶠ (of_ℕ 1 ÷ of_ℕ 256) ≈ of_ℕ 1
 unfolding ◌*ᶠ◌ ◌÷◌ over of_ℤ

@@ -66,10 +66,7 @@ module _ {N : ℕ} (f c : ℕ → Fraction) (k : Cut N f c) where
     where
       go : CutAt N j (f j) (c j) → c j ≈ f j
       go (inl e) = e
-      go (inr q) = absurd (past q.0 h)
-        where
-          past : N ≤ j → j < N → ⊥
-          past l m = omega arith
+      go (inr q) = absurd (omega arith)
 
   cut_small : {g : Fraction} (j : ℕ) → Small (f j) g → Small (c j) g
   cut_small {g} j s = go (k j)

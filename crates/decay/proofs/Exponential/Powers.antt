@@ -1,6 +1,5 @@
 -- Sums of powers of the time by their coefficients: those of S and F, and the integrals.
 -- Shown: sums and integrals term by term, the terms of S at a time t, and what the sums of powers of S and F are at it.
--- The sanity rows of the means are named here so that they are checked first: a wrong definition is refused by its figures.
 use mathlib.Core.Path.{◌≡◌, subst}
 use mathlib.Core.List.{[], ◌∷◌}
 use mathlib.Core.Bool.{Bool, true, false, cond}
@@ -112,10 +111,7 @@ series_below N y j h = chosen _ _ (ltb j N) (lt→ltb j N h)
 
 pub series_top : (N : ℕ) (y : Fraction) → series_terms N y N ≈ of_ℕ 0
 unfolding series_terms
-series_top N y = other _ _ (ltb N N) (λ h. impossible (ltb→lt N N h))
-  where
-    impossible : N < N → ⊥
-    impossible h = omega arith
+series_top N y = other _ _ (ltb N N) (λ h. let l = ltb→lt N N h in omega arith)
 
 -- F with equal rates, and with different ones
 pub share_same : (N k1 k2 v Q : ℕ) → k1 ≡ k2 → Same (share_terms N k1 k2 v Q) (λ j. exponent k1 v Q 1 *ᶠ times_time (series_terms N (exponent k1 v Q 1)) j)

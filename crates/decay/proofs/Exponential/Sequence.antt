@@ -1,6 +1,5 @@
 -- Sequences of fractions: sums from the back (`sum` of the specs), and the product of two sequences from the front.
 -- Shown: linearity, Leibniz's rule for n × f n, and the sum of a product as a triangle of products.
--- The sanity rows are named here so that they are checked first: a wrong definition is refused by its figures.
 use mathlib.Core.List.{[], ◌∷◌}
 use Prim.Native.Nat.{ℕ, zero, suc}
 use Rattle.decay.specs.Fraction.{Fraction, of_ℕ, ◌+ᶠ◌, ◌*ᶠ◌, ◌≈◌}

@@ -91,10 +91,7 @@ e_past_six {y} {M} h k l =
 
 -- and of F
 pub majorant_past_six : {x : Fraction} → of_ℕ 0 ≼ x → x ≼ of_ℕ 1 ÷ of_ℕ 256 → {M : ℕ} → 6 ≤ M → sum (majorant x step) M -ᶠ sum (majorant x step) 6 ≼ of_ℕ 1 ÷ of_ℕ (2 ^ 53)
-majorant_past_six h k {M = zero} l = absurd (impossible l)
-  where
-    impossible : 6 ≤ 0 → ⊥
-    impossible l = omega arith
+majorant_past_six h k {M = zero} l = absurd (omega arith)
 majorant_past_six {x} h k {M = suc M} l =
     certify (x ∷ step ∷ sum (majorant x step) (suc M) ∷ sum (majorant x step) 6 ∷ sum (e step) M ∷ sum (e step) 5 ∷ e step 5 ∷ (of_ℕ 1 ÷ of_ℕ (2 ^ 53)) ∷ [])
     (h ⊠ slack (e_tail step_sign step_small (up_to (le_of_suc-le-suc l))) ⊞ multiple (of_ℕ 1) (sum_majorant x step M) ⊞ multiple (of_ℕ 1) (≈_sym (sum_majorant x step 5)) ⊞ slack k ⊠ (number 2 ⊠ e_nonneg step_sign 5) ⊞ slack fifth_term)
@@ -103,10 +100,7 @@ majorant_past_six {x} h k {M = suc M} l =
 -- six terms of S
 pub S-short : {y : Fraction} {N : ℕ} → 40 ≤ N → of_ℕ 0 ≼ y → y ≼ of_ℕ 1 ÷ of_ℕ 256 → Within (S N y) (S 6 y) (of_ℕ 1 ÷ of_ℕ (2 ^ 56))
 unfolding S
-S-short {y} {N} n h k = within (small_weaken (sum_moves (term y) (e y) (term_small h) (up_to many)) (e_past_six h k many))
-  where
-    many : 6 ≤ N
-    many = omega arith
+S-short {y} {N} n h k = within (small_weaken (sum_moves (term y) (e y) (term_small h) (up_to (omega arith))) (e_past_six h k (omega arith)))
 
 -- six terms of F, of which the first is 0
 pub F-short : {N : ℕ} → 40 ≤ N → (k1 k2 v Q : ℕ) → k1 * v ≤ 345_600 * Q → k2 * v ≤ 345_600 * Q

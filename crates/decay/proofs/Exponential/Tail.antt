@@ -1,6 +1,6 @@
 -- Tails of the exponential series, without a geometric series: sum + 2 × (next term) never rises once 2 x is at most n + 1.
 -- Shown: S at N and S at n differ by at most twice the term n, and what that is at n = 40 and x up to 4, and at n = 6 and x up to 1/256.
-use mathlib.Core.Path.{◌≡◌, subst}
+use mathlib.Core.Path.{subst}
 use mathlib.Core.List.{[], ◌∷◌}
 use Prim.Native.Nat.{ℕ, zero, suc, ◌^◌, ◌≤◌}
 use native.Mathlib.Omega.{arith}
@@ -17,18 +17,12 @@ pub data UpTo (n : ℕ) : ℕ → Type 0 where
   further : {N : ℕ} → UpTo n N → UpTo n (suc N)
 
 pub up_to : {n N : ℕ} → n ≤ N → UpTo n N
-up_to {n = n} {N = zero} h = subst (UpTo n) (low n h) here
-  where
-    low : (n : ℕ) → n ≤ 0 → n ≡ 0
-    low n h = omega arith
+up_to {n = n} {N = zero} h = subst (UpTo n) {x = n} {y = 0} (omega arith) here
 up_to {n = n} {N = suc N} h = go (dec_le n N) (λ k. up_to k)
   where
-    top : n ≤ suc N → ¬ (n ≤ N) → n ≡ suc N
-    top h k = omega arith
-
     go : Dec (n ≤ N) → (n ≤ N → UpTo n N) → UpTo n (suc N)
     go (yes k) f = further (f k)
-    go (no k) f = subst (UpTo n) (top h k) here
+    go (no k) f = subst (UpTo n) {x = n} {y = suc N} (omega arith) here
 
 -- |f n| is at most F n for every n
 abbrev pub Dominated : (ℕ → Fraction) → (ℕ → Fraction) → Type 0

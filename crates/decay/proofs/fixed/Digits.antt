@@ -29,10 +29,7 @@ use Rattle.decay.specs.declared.fixed.Division.{Division}
 -- a product in two halves of its second factor, for any place at which it is cut
 halves : (a q r cut : ℕ) → 0 < cut → a * (q * cut + r) / cut ≡ a * q + a * r / cut
 halves a q r cut h =
-    ap (λ (n : ℕ). n / cut) (regroup a q r cut) ∙ mul-add-div_right h (a * q) (a * r)
-  where
-    regroup : (a q r cut : ℕ) → a * (q * cut + r) ≡ a * q * cut + a * r
-    regroup a q r cut = omega arith
+    ap (λ (n : ℕ). n / cut) {x = a * (q * cut + r)} {y = a * q * cut + a * r} (omega arith) ∙ mul-add-div_right h (a * q) (a * r)
 
 pub product_halves : (a b : ℕ) → (a * (b / 262144) + a * (b % 262144) / 262144) / 67108864 ≡ product a b
 unfolding product

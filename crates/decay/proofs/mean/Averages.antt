@@ -2,36 +2,25 @@
 -- of 0 or no volume keeps them. Assumes nothing.
 use mathlib.Core.Path.{◌≡◌, refl, ap, fun_ext, ◌∙◌}
 use Prim.Native.Nat.{ℕ, zero, suc, ◌+◌, ◌*◌, ◌≤◌}
-use native.Mathlib.Nat.{le_trans, mul-le-mul, mul-le-mul_right}
+use native.Mathlib.Nat.{mul-le-mul_right}
 use native.Mathlib.Numerals.{add-one}
 use native.Mathlib.Omega.{arith}
 use Rattle.decay.specs.Exact.{steps, foot}
 use Rattle.decay.specs.Fixed.{one}
 use Rattle.decay.specs.held.Step.{RatesPass, step_of, mean_step_of}
 use Rattle.decay.specs.held.Factors.{SoundStep, AreShares, next_demand, demand_from, demand_in, head_factors, next_factors, factors_at}
-use Rattle.decay.specs.held.Mean.{sum_to, average, average_demand, average_factors, mean_demand, mean_factors, mean_factors_of, next_demand_sums, next_factor_sums, DemandSummed, FactorsSummed, DemandSumsFit, FactorSumsFit}
+use Rattle.decay.specs.held.Mean.{sum_to, average, average_demand, average_factors, mean_demand, mean_factors, mean_factors_of, walked, total_to, next_sums, no_demand, no_factors, demand_plus, factors_plus, demand_averaged, factors_averaged, Summed, DemandSummed, FactorsSummed}
 use Rattle.decay.specs.declared.step.Step.{Step}
 use Rattle.decay.specs.declared.factors.DemandFactors.{DemandFactors}
-use Rattle.decay.specs.declared.mean.DemandSums.{DemandSums}
-use Rattle.decay.specs.declared.mean.FactorSums.{FactorSums}
+use Rattle.decay.specs.declared.factors.Factors.{Factors}
+use Rattle.decay.specs.declared.mean.Sums.{Sums}
+use Rattle.decay.proofs.mean.Totals.{sum_most, sums_most, walked_is, total_part}
 use Rattle.decay.proofs.fixed.Digits.{share_below}
 use Rattle.decay.proofs.step.Shares.{step_loses_nothing}
 use Rattle.decay.proofs.step.MeanShares.{mean_loses_nothing, mean_fills_nothing}
 use Rattle.decay.proofs.factors.Instants.{product_zero, moved, next_range, range, starts_with_one, demand_range, demand_kept, deficit_lost, deficit_tie}
 
 -- ---- sums and averages
-
--- a sum of values that are at most b each
-sum_most : {f : ℕ → ℕ} {b : ℕ} → ((i : ℕ) → f i ≤ b) → (m : ℕ) → sum_to f m ≤ m * b
-unfolding sum_to
-sum_most h zero = omega arith
-sum_most h (suc m) = omega (arith, sum_most h m, h m)
-
--- the two sums of demands that are at most b each
-sums_most : (d : ℕ → DemandFactors) {b : ℕ} → ((i : ℕ) → (d i).left + (d i).turned ≤ b) → (m : ℕ) → sum_to (λ i. (d i).left) m + sum_to (λ i. (d i).turned) m ≤ m * b
-unfolding sum_to
-sums_most d h zero = omega arith
-sums_most d h (suc m) = omega (arith, sums_most d h m, h m)
 
 -- the average of one value is that value
 sum_same : (c m : ℕ) → sum_to (λ i. c) m ≡ m * c
@@ -42,39 +31,54 @@ sum_same c (suc m) = omega (arith, sum_same c m)
 average_same : (c : ℕ) → average (λ i. c) ≡ c
 average_same c = omega (arith, sum_same c foot)
 
--- ---- the sums of a walk from the head: there nothing is summed, and with each step one more instant is
+-- ---- the sums of a walk from the head
 
-pub demand_sums_begin : (start : ℕ) (step : Step) → DemandSummed start step 0 (record { reached = record { left = start; turned = 0 }; left = 0; turned = 0 })
-unfolding demand_from sum_to
-demand_sums_begin start step = record { reached = refl; left = refl; turned = refl }
+-- at the head nothing is summed, and with each step one more instant is
+module _ {T : Type 0} {next : Step → T → T} {none : T} {plus : T → T → T} {start : T} {step : Step} where
+  pub sums_begin : Summed next none plus start step 0 (record { reached = start; sum = none })
+  unfolding walked total_to
+  sums_begin = record { reached = refl; sum = refl }
 
-pub demand_sums_next : {start m : ℕ} {step : Step} {d : DemandSums} → DemandSummed start step m d → DemandSummed start step (m + 1) (next_demand_sums step d)
-unfolding demand_from sum_to
-demand_sums_next s = rw add-one (record { reached = cc; left = cc; turned = cc })
+  pub sums_next : {m : ℕ} {s : Sums T} → Summed next none plus start step m s → Summed next none plus start step (m + 1) (next_sums next plus step s)
+  unfolding walked total_to
+  sums_next u = rw add-one (record { reached = cc; sum = cc })
 
-pub factor_sums_begin : (step : Step) → FactorsSummed step 0 (record { reached = head_factors; left = 0; turned = 0; kept = 0 })
-unfolding factors_at sum_to
-factor_sums_begin step = record { reached = refl; left = refl; turned = refl; kept = refl }
+  -- the same for a sequence that is walked so, and a part of it
+  summed_part : {m : ℕ} {s : Sums T} {v : ℕ → T} → Summed next none plus start step m s → ((m : ℕ) → walked next start step m ≡ v m)
+      → (part : T → ℕ) → part none ≡ 0 → ((x y : T) → part (plus x y) ≡ part x + part y) → part s.sum ≡ sum_to (λ i. part (v i)) m
+  summed_part {m = m} u same part nothing more =
+      ap part (u.sum ∙ ap (λ (v : ℕ → T). total_to none plus v m) (fun_ext same)) ∙ total_part part nothing more _ m
 
-pub factor_sums_next : {m : ℕ} {step : Step} {f : FactorSums} → FactorsSummed step m f → FactorsSummed step (m + 1) (next_factor_sums step f)
-unfolding factors_at sum_to
-factor_sums_next s = rw add-one (record { reached = cc; left = cc; turned = cc; kept = cc })
-
--- sums of so few instants fit
-pub demand_sums_fit : {start m : ℕ} {step : Step} {d : DemandSums} → SoundStep step → start ≤ one → m ≤ foot → DemandSummed start step m d → DemandSumsFit d
-demand_sums_fit {start} {m} {step} sound few l s =
+-- the sums of a demand, and of the factors
+pub demand_summed : {start m : ℕ} {step : Step} {s : Sums DemandFactors} → Summed next_demand no_demand demand_plus (record { left = start; turned = 0 }) step m s → DemandSummed start step m s
+unfolding demand_from
+demand_summed {start} {m} {step} u =
+    let same : (i : ℕ) → walked next_demand (record { left = start; turned = 0 }) step i ≡ demand_from start step i = walked_is next_demand step (demand_from start step) refl (λ i. refl) in
     record {
-      reached = rw s.reached (le_trans (demand_range sound start m) few);
-      sums = omega (arith, sums_most (demand_from start step) (demand_range sound start) m, mul-le-mul l few);
+      reached = u.reached ∙ same m;
+      left = summed_part u same (λ d. d.left) refl (λ x y. refl);
+      turned = summed_part u same (λ d. d.turned) refl (λ x y. refl);
     }
 
-pub factor_sums_fit : {m : ℕ} {step : Step} {f : FactorSums} → SoundStep step → m ≤ foot → FactorsSummed step m f → FactorSumsFit f
-factor_sums_fit {m} {step} sound l s =
+pub factors_summed : {m : ℕ} {step : Step} {s : Sums Factors} → Summed next_factors no_factors factors_plus head_factors step m s → FactorsSummed step m s
+unfolding factors_at
+factors_summed {m} {step} u =
+    let same : (i : ℕ) → walked next_factors head_factors step i ≡ factors_at step i = walked_is next_factors step (factors_at step) refl (λ i. refl) in
     record {
-      reached = rw s.reached (range sound m);
-      bod = omega (arith, sums_most (λ i. demand_in (factors_at step i)) (λ i. (range sound i).bod) m);
-      deficit = omega (arith, sum_most (λ i. (range sound i).deficit) m);
+      reached = u.reached ∙ same m;
+      left = summed_part u same (λ f. f.left) refl (λ x y. refl);
+      turned = summed_part u same (λ f. f.turned) refl (λ x y. refl);
+      kept = summed_part u same (λ f. f.kept) refl (λ x y. refl);
     }
+
+-- THEOREM: the sums at the foot give the means
+pub demand_mean_made : (mean_step : Step) {step : Step} {start : ℕ} {s : Sums DemandFactors} → DemandSummed start step foot s → next_demand mean_step (demand_averaged s.sum) ≡ mean_demand mean_step step start
+unfolding mean_demand
+demand_mean_made mean_step s = rw (s.left, s.turned)
+
+pub factors_mean_made : (mean_step : Step) {step : Step} {s : Sums Factors} → FactorsSummed step foot s → next_factors mean_step (factors_averaged s.sum) ≡ mean_factors mean_step step
+unfolding mean_factors
+factors_mean_made mean_step s = rw (s.left, s.turned, s.kept)
 
 -- averages are shares
 pub average_demand_range : {step : Step} → SoundStep step → (start : ℕ) → (average_demand start step).left + (average_demand start step).turned ≤ start

@@ -1,5 +1,4 @@
 -- Series at the exponents where their count changes, computed from the definitions. A reach whose decay exponent is x has y = x × 2^44 / 1,024.
--- They are named by the laws of the series, so that these rows are checked first.
 use mathlib.Core.Path.{◌≡◌, refl}
 use Prim.Native.Nat.{ℕ}
 use Rattle.decay.specs.Fixed.{product}

@@ -71,10 +71,7 @@ module _ (y z : ℕ) where
   pub next_term : (n : ℕ) → 1 ≤ n → next_terms (terms_at y z (n - 1)) y z (n + 1) ≡ terms_at y z n
   unfolding terms_at
   next_term zero h = absurd (omega arith)
-  next_term (suc n) h = rw (add-one, add-two, less_one)
-    where
-      less_one : suc n - 1 ≡ n
-      less_one = omega arith
+  next_term (suc n) h = let less_one : suc n - 1 ≡ n = omega arith in rw (add-one, add-two, less_one)
 
   -- the term that a loop has just made from the one before it, in its two parts and whole
   pub terms_made : (n : ℕ) {terms r : Terms} → terms ≡ terms_at y z (n - 1) → 1 ≤ n → r ≡ next_terms terms y z (n + 1) → r ≡ terms_at y z n
@@ -96,17 +93,11 @@ module _ (y z : ℕ) where
 
   pub ends_here : (n m : ℕ) → m ≤ n → count_from y z n (m - n) ≡ n
   unfolding count_from
-  ends_here n m h = rw none_left
-    where
-      none_left : m - n ≡ 0
-      none_left = omega arith
+  ends_here n m h = let none_left : m - n ≡ 0 = omega arith in rw none_left
 
   pub counts_next : (n m : ℕ) → n < m → (term_at y z n ≡ 0 → ⊥) → count_from y z (n + 1) (m - (n + 1)) ≡ count_from y z n (m - n)
   unfolding count_from
-  counts_next n m l h = rw (one_less, ne_eqb (term_at y z n) 0 h, add-one)
-    where
-      one_less : m - n ≡ suc (m - (n + 1))
-      one_less = omega arith
+  counts_next n m l h = let one_less : m - n ≡ suc (m - (n + 1)) = omega arith in rw (one_less, ne_eqb (term_at y z n) 0 h, add-one)
 
   -- the terms that are counted, n of them so far and at most k more
   record CountsFrom (n k c : ℕ) : Type 0 where

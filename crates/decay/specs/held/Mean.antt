@@ -4,12 +4,11 @@ use Rattle.std.specs.Prelude.{◌≡◌, ℕ, zero, suc, ◌+◌, ◌*◌, ◌/�
 use Rattle.decay.specs.Exact.{steps}
 use Rattle.decay.specs.Fixed.{one}
 use Rattle.decay.specs.held.Step.{mean_step_of, step_of}
-use Rattle.decay.specs.held.Factors.{AreShares, next_demand, demand_from, next_factors, factors_at}
+use Rattle.decay.specs.held.Factors.{next_demand, demand_from, next_factors, factors_at}
 use Rattle.decay.specs.declared.step.Step.{Step}
 use Rattle.decay.specs.declared.factors.DemandFactors.{DemandFactors}
 use Rattle.decay.specs.declared.factors.Factors.{Factors}
-use Rattle.decay.specs.declared.mean.DemandSums.{DemandSums}
-use Rattle.decay.specs.declared.mean.FactorSums.{FactorSums}
+use Rattle.decay.specs.declared.mean.Sums.{Sums}
 
 -- the sum of f m for the instants m before n
 unfoldable pub sum_to : (ℕ → ℕ) → ℕ → ℕ
@@ -49,39 +48,78 @@ mean_factors_of k1 k2 volume Q = mean_factors (mean_step_of k1 k2 volume Q) (ste
 abbrev pub mean_demand_of : (start k k2 volume Q : ℕ) → DemandFactors
 mean_demand_of start k k2 volume Q = mean_demand (mean_step_of k k2 volume Q) (step_of k k2 volume Q) start
 
--- the sums of a demand one instant further: what it has come to is added, and it takes a step
-abbrev pub next_demand_sums : Step → DemandSums → DemandSums
-next_demand_sums s d = record { reached = next_demand s d.reached; left = d.left + d.reached.left; turned = d.turned + d.reached.turned }
+-- ---- sums on the way, of demands and of factors alike
 
--- the sums of the factors likewise
-abbrev pub next_factor_sums : Step → FactorSums → FactorSums
-next_factor_sums s f =
-    record {
-      reached = next_factors s f.reached;
-      left = f.left + f.reached.left;
-      turned = f.turned + f.reached.turned;
-      kept = f.kept + f.reached.kept;
-    }
+-- what starts like this and takes m steps
+unfoldable pub walked : {T : Type 0} (next : Step → T → T) (start : T) → Step → ℕ → T
+walked next start s zero = start
+walked next start s (suc m) = next s (walked next start s m)
 
--- a demand is summed up to instant m: it has come to m, and the sums are of the instants before
-pub record DemandSummed (start : ℕ) (step : Step) (m : ℕ) (s : DemandSums) : Type 0 where
+-- the sum of the values v m for the instants m before n
+unfoldable pub total_to : {T : Type 0} (none : T) (plus : T → T → T) (v : ℕ → T) → ℕ → T
+total_to none plus v zero = none
+total_to none plus v (suc m) = plus (total_to none plus v m) (v m)
+
+-- the sums one instant further: what it has come to is added, and it takes a step
+abbrev pub next_sums : {T : Type 0} (next : Step → T → T) (plus : T → T → T) → Step → Sums T → Sums T
+next_sums next plus s r = record { reached = next s r.reached; sum = plus r.sum r.reached }
+
+-- what starts like this is summed up to instant m: it has come to m, and the sum is of the instants before
+pub record Summed {T : Type 0} (next : Step → T → T) (none : T) (plus : T → T → T) (start : T) (step : Step) (m : ℕ) (s : Sums T) : Type 0 where
+  pub reached : s.reached ≡ walked next start step m
+  pub sum : s.sum ≡ total_to none plus (walked next start step) m
+
+-- what has come to an instant is in range, and so is what the n instants before sum up to
+pub record SumsFit {T : Type 0} (shares : T → Type 0) (fit : ℕ → T → Type 0) (n : ℕ) (s : Sums T) : Type 0 where
+  pub reached : shares s.reached
+  pub sum : fit n s.sum
+
+-- ---- demands
+
+-- what is left and what has turned of a demand are together at most one
+abbrev pub DemandShares : DemandFactors → Type 0
+DemandShares d = d.left + d.turned ≤ one
+
+-- a sum of at most n demands
+abbrev pub DemandsFit : ℕ → DemandFactors → Type 0
+DemandsFit n d = d.left + d.turned ≤ n * one
+
+abbrev pub no_demand : DemandFactors
+no_demand = record { left = 0; turned = 0 }
+
+abbrev pub demand_plus : DemandFactors → DemandFactors → DemandFactors
+demand_plus d e = record { left = d.left + e.left; turned = d.turned + e.turned }
+
+-- the average of a sum of 1,024 demands
+abbrev pub demand_averaged : DemandFactors → DemandFactors
+demand_averaged d = record { left = d.left / steps; turned = d.turned / steps }
+
+-- a demand is summed up to instant m
+pub record DemandSummed (start : ℕ) (step : Step) (m : ℕ) (s : Sums DemandFactors) : Type 0 where
   pub reached : s.reached ≡ demand_from start step m
-  pub left : s.left ≡ sum_to (λ i. (demand_from start step i).left) m
-  pub turned : s.turned ≡ sum_to (λ i. (demand_from start step i).turned) m
+  pub left : s.sum.left ≡ sum_to (λ i. (demand_from start step i).left) m
+  pub turned : s.sum.turned ≡ sum_to (λ i. (demand_from start step i).turned) m
 
--- the factors likewise
-pub record FactorsSummed (step : Step) (m : ℕ) (s : FactorSums) : Type 0 where
+-- ---- factors
+
+-- a sum of the factors of at most n instants
+pub record FactorsFit (n : ℕ) (f : Factors) : Type 0 where
+  pub bod : f.left + f.turned ≤ n * one
+  pub deficit : f.kept ≤ n * one
+
+abbrev pub no_factors : Factors
+no_factors = record { left = 0; turned = 0; kept = 0 }
+
+abbrev pub factors_plus : Factors → Factors → Factors
+factors_plus f g = record { left = f.left + g.left; turned = f.turned + g.turned; kept = f.kept + g.kept }
+
+-- the average of a sum of the factors of 1,024 instants
+abbrev pub factors_averaged : Factors → Factors
+factors_averaged f = record { left = f.left / steps; turned = f.turned / steps; kept = f.kept / steps }
+
+-- the factors are summed up to instant m
+pub record FactorsSummed (step : Step) (m : ℕ) (s : Sums Factors) : Type 0 where
   pub reached : s.reached ≡ factors_at step m
-  pub left : s.left ≡ sum_to (λ i. (factors_at step i).left) m
-  pub turned : s.turned ≡ sum_to (λ i. (factors_at step i).turned) m
-  pub kept : s.kept ≡ sum_to (λ i. (factors_at step i).kept) m
-
--- sums of at most 1,024 instants
-pub record DemandSumsFit (d : DemandSums) : Type 0 where
-  pub reached : d.reached.left + d.reached.turned ≤ one
-  pub sums : d.left + d.turned ≤ steps * one
-
-pub record FactorSumsFit (f : FactorSums) : Type 0 where
-  pub reached : AreShares f.reached
-  pub bod : f.left + f.turned ≤ steps * one
-  pub deficit : f.kept ≤ steps * one
+  pub left : s.sum.left ≡ sum_to (λ i. (factors_at step i).left) m
+  pub turned : s.sum.turned ≡ sum_to (λ i. (factors_at step i).turned) m
+  pub kept : s.sum.kept ≡ sum_to (λ i. (factors_at step i).kept) m

@@ -1,42 +1,29 @@
 -- `fixed::quotient` meets its contract: after each chunk the division stands at eleven more bits. Assumes nothing.
-use Rattle.std.proofs.Common.{ℕ, ◌<◌, ◌≡◌, ◌*◌, zero-le, lit<, arith}
+use Rattle.std.proofs.Common.{sym, ℕ, ◌≡◌, ◌+◌, ◌*◌, ◌^◌, ◌≤◌, ap, ◌∙◌, zero-le, arith}
+use Rattle.std.proofs.Math.Pow.{pow_pos, pow_mono}
+use Rattle.std.proofs.lemmas.Nat.{pow-add}
 use native.Mathlib.Nat.{lt_of_le_of_lt}
 use Rattle.decay.specs.Fixed.{quotient}
-use Rattle.decay.specs.held.Digits.{chunked}
-use Rattle.decay.specs.declared.fixed.Division.{Division}
-use Rattle.decay.proofs.fixed.Digits.{Divided, divided_start, divided_next, divided_digits, divided_rest}
+use Rattle.decay.proofs.fixed.Digits.{divided_next, divided_digits, divided_rest}
 use Rattle.decay.proofs.fixed.quotient.Goals as goal
 
-positive : {n d : ℕ} → n < d → 0 < d
-positive h = lt_of_le_of_lt zero-le h
+more_bits : (c : ℕ) → 2 ^ (11 * c) * 2048 ≡ 2 ^ (11 * (c + 1))
+more_bits c = sym (pow-add 2 (11 * c) 11) ∙ ap (λ (n : ℕ). 2 ^ n) {x = 11 * c + 11} {y = 11 * (c + 1)} (omega arith)
 
-first_chunk : (n d : ℕ) {r : Division} → n < d → r ≡ chunked (record { digits = 0; rest = n }) d → Divided n d 2048 r
-first_chunk n d h e = rw e (divided_next (positive h) (divided_start n d h))
-
-next_chunk : {n d b : ℕ} {part r : Division} → n < d → Divided n d b part → r ≡ chunked part d → Divided n d (b * 2048) r
-next_chunk h p e = rw e (divided_next (positive h) p)
-
-pub chunk-second-requires : goal.chunk-second-requires
-chunk-second-requires c =
+pub chunk-part-requires : goal.chunk-part-requires
+chunk-part-requires c =
+    let u = c.loop.invariant in
     let h = c.requires.0 in
-    let first = first_chunk _ _ h c.chunk-first.ensures in
-    (omega (arith, divided_digits h (lit< tt) first), divided_rest (positive h) first, c.requires.1)
+    let few : 2 ^ (11 * c.loop.counter) ≤ 2 ^ 33 = pow_mono {j = 33} (omega arith) in
+    (omega (arith, few, divided_digits h (pow_pos (11 * c.loop.counter)) u.1), divided_rest (lt_of_le_of_lt zero-le h) u.1, c.requires.1)
 
-pub chunk-third-requires : goal.chunk-third-requires
-chunk-third-requires c =
-    let h = c.requires.0 in
-    let second = next_chunk h (first_chunk _ _ h c.chunk-first.ensures) c.chunk-second.ensures in
-    (omega (arith, divided_digits h (lit< tt) second), divided_rest (positive h) second, c.requires.1)
-
-pub chunk-last-requires : goal.chunk-last-requires
-chunk-last-requires c =
-    let h = c.requires.0 in
-    let third = next_chunk h (next_chunk h (first_chunk _ _ h c.chunk-first.ensures) c.chunk-second.ensures) c.chunk-third.ensures in
-    (divided_digits h (lit< tt) third, divided_rest (positive h) third, c.requires.1)
+pub loop-preserved : goal.loop-preserved
+loop-preserved c =
+    let u = c.loop.invariant in
+    (omega arith, rw (c.chunk-part.ensures, ← more_bits c.loop.counter) (divided_next (lt_of_le_of_lt zero-le c.requires.0) u.1))
 
 pub returns : goal.returns
 unfolding quotient
 returns c =
-    let h = c.requires.0 in
-    let third = next_chunk h (next_chunk h (first_chunk _ _ h c.chunk-first.ensures) c.chunk-second.ensures) c.chunk-third.ensures in
-    (next_chunk h third c.chunk-last.ensures).digits_is
+    let last : c.loop.counter ≡ 4 = omega arith in
+    (rw last at c.loop.invariant.1).digits_is
