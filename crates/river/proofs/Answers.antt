@@ -1,13 +1,11 @@
 -- Laws of answers: what passes a guard and a sequence, and what an accepted answer says about the guards before it.
--- The orders of the checks are named here so that their rows are checked before the laws: a wrong order is refused by them.
 -- Assumes nothing.
 use Prim.Native.Nat.{ℕ}
-use mathlib.Core.Path.{◌≡◌, refl, ap, sym, ◌∙◌}
+use mathlib.Core.Path.{◌≡◌, refl}
 use mathlib.Core.Bool.{Bool, true, false, ◌&&◌}
 use native.Mathlib.Omega.{arith}
-use Rattle.river.specs.Refusal.{Answer, accepted, refused, refuse, need, choose, after, outcome_of, go_on}
-use Rattle.river.specs.declared.refusal.Outcome.{Outcome}
-use Rattle.river.specs.declared.refusal.Refusal.{Refusal}
+use Rattle.river.specs.Refusal.{Answer, accepted, refused, refuse, need, choose, after}
+use Rattle.river.specs.declared.refusal.Rule.{Rule}
 
 -- two constructors are not equal
 pub clash : {P : Type 0} → ◌≡◌ {A = ℕ} 0 1 → P
@@ -15,9 +13,6 @@ clash z = absurd (let h : ⊥ = omega arith in h)
 
 pub never : {A : Type 0} {a : A} {r : _} {P : Type 0} → ◌≡◌ {A = Answer A} (refused r) (accepted a) → P
 never e = clash (cc)
-
-pub no_refusal : {P : Type 0} {r : Refusal} → Outcome.Accepted ≡ Outcome.Refused r → P
-no_refusal e = clash (cc)
 
 pub record Both (a b : Bool) : Type 0 where
   pub left : a ≡ true
@@ -32,11 +27,11 @@ pub both : {a b : Bool} → a ≡ true → b ≡ true → (a && b) ≡ true
 both p q = rw (p, q)
 
 module _ {A : Type 0} where
-  pub need_true : (b : Bool) (n i : ℕ) (x : Answer A) → b ≡ true → need b n i x ≡ x
+  pub need_true : (b : Bool) (n : Rule) (i : ℕ) (x : Answer A) → b ≡ true → need b n i x ≡ x
   unfolding need
   need_true b n i x p = rw p
 
-  pub need_false : (b : Bool) (n i : ℕ) (x : Answer A) → b ≡ false → need b n i x ≡ refused (refuse n i)
+  pub need_false : (b : Bool) (n : Rule) (i : ℕ) (x : Answer A) → b ≡ false → need b n i x ≡ refused (refuse n i)
   unfolding need
   need_false b n i x p = rw p
 
@@ -56,11 +51,6 @@ module _ {A : Type 0} where
   unfolding after
   after_refused x f p = rw p
 
-  pub after_all : (x : Answer A) → after x accepted ≡ x
-  unfolding after
-  after_all (accepted a) = refl
-  after_all (refused r) = refl
-
   -- a sequence of three
   pub after_after : {B C : Type 0} (x : Answer A) (f : A → Answer B) (g : B → Answer C) → after (after x f) g ≡ after x (λ a. after (f a) g)
   unfolding after
@@ -72,7 +62,7 @@ module _ {A : Type 0} where
     pub test : b ≡ true
     pub rest : x ≡ accepted a
 
-  pub passed : (b : Bool) (n i : ℕ) (x : Answer A) {a : A} → need b n i x ≡ accepted a → Passed b x a
+  pub passed : (b : Bool) (n : Rule) (i : ℕ) (x : Answer A) {a : A} → need b n i x ≡ accepted a → Passed b x a
   unfolding need
   passed true n i x e = record { test = refl; rest = e }
   passed false n i x e = never e
@@ -87,15 +77,3 @@ module _ {A : Type 0} where
   unfolding after
   went (accepted a) f e = record { value = a; first = refl; then = e }
   went (refused r) f e = never e
-
-  -- what the program's outcome says of the answer that it stands for, with the value beside it
-  pub is_accepted : (a : A) {o : Outcome} {x : Answer A} → outcome_of o a ≡ x → o ≡ Outcome.Accepted → x ≡ accepted a
-  is_accepted a e f = sym e ∙ ap (λ (o : Outcome). outcome_of o a) f
-
-  pub is_refused : (a : A) {o : Outcome} {x : Answer A} {r : Refusal} → outcome_of o a ≡ x → o ≡ Outcome.Refused r → x ≡ refused r
-  is_refused a e f = sym e ∙ ap (λ (o : Outcome). outcome_of o a) f
-
-  pub goes_on : (o : Outcome) (a : A) → go_on o (accepted a) ≡ outcome_of o a
-  unfolding go_on
-  goes_on Outcome.Accepted a = refl
-  goes_on (Outcome.Refused r) a = refl

@@ -10,6 +10,7 @@ use native.Mathlib.Omega.{arith}
 use lib.ListN.{length, drop, length-append}
 use lib.Seq.{drop-append_seam}
 use borrow.Author.Tests.{le-leb, leb-true, eqb-true}
+use Rattle.std.specs.Prelude.{Option, Some, None}
 use Rattle.river.specs.Bytes.{AreBytes, two_at, marked}
 use Rattle.river.specs.Card.{LawfulCard, EachFrom, RV, optional, size_of, longest_card}
 use Rattle.river.specs.Described.{InRange}
@@ -22,12 +23,7 @@ use Rattle.river.specs.Write.{encode, encode_card, encode_cards, encode_header}
 use Rattle.river.specs.declared.card.RateFactors.{RateFactors}
 use Rattle.river.specs.declared.card.Nitrification.{Nitrification}
 use Rattle.river.specs.declared.card.Dam.{Dam}
-use Rattle.river.specs.declared.card.Amount.{Amount}
-use Rattle.river.specs.declared.card.Amount.TheVariants.{Given}
 use Rattle.river.specs.declared.card.Card.{Card}
-use Rattle.river.specs.declared.card.Dam.TheVariants.{Aerating}
-use Rattle.river.specs.declared.card.Nitrification.TheVariants.{Nitrifying}
-use Rattle.river.specs.declared.card.RateFactors.TheVariants.{PerDegree}
 use Rattle.river.proofs.Answers.{need_true, after_accepted, passed, went}
 use Rattle.river.proofs.bytes.Numbers.{are_bytes_drop, true_marked, two_bytes_two_at, leads_spelled}
 use Rattle.river.proofs.range.Ranges.{count_ok_true, true_count_ok}
@@ -195,33 +191,37 @@ one_river x y p q e =
     let c = ap read_file e in
     cc
 
+-- a value and none are not equal
+some_or_none : {A B : Type 0} {v : B} (f : A → Option B) (x y : A) → f x ≡ None → f y ≡ Some v → x ≡ y → ⊥
+some_or_none f x y p q e = let z : ◌≡◌ {A = ℕ} 0 1 = cc (ap f e) in omega arith
+
 -- THEOREM: rate factors make another river than none, whatever their numbers, 1,000 too
-pub factors_or_none : {decay aeration : ℕ} (x y : River) → x.factors ≡ RateFactors.Absent → y.factors ≡ PerDegree decay aeration → x ≡ y → ⊥
-factors_or_none x y p q e = let z : ◌≡◌ {A = ℕ} 0 1 = cc (ap (λ (r : River). r.factors) e) in omega arith
+pub factors_or_none : {factors : RateFactors} (x y : River) → x.factors ≡ None → y.factors ≡ Some factors → x ≡ y → ⊥
+factors_or_none = some_or_none (λ r. r.factors)
 
 -- THEOREM: and another file
-pub factors_in_file : {decay aeration : ℕ} (x y : River) → LawfulRiver x → LawfulRiver y → x.factors ≡ RateFactors.Absent → y.factors ≡ PerDegree decay aeration → encode x ≡ encode y → ⊥
+pub factors_in_file : {factors : RateFactors} (x y : River) → LawfulRiver x → LawfulRiver y → x.factors ≡ None → y.factors ≡ Some factors → encode x ≡ encode y → ⊥
 factors_in_file x y l k p q e = factors_or_none x y p q (one_river x y l k e)
 
 -- THEOREM: a dam makes another card than no dam, whatever its numbers
-pub dam_or_none : {share generating : ℕ} (c d : Card) → c.dam ≡ Dam.Absent → d.dam ≡ Aerating share generating → c ≡ d → ⊥
-dam_or_none c d p q e = let z : ◌≡◌ {A = ℕ} 0 1 = cc (ap (λ (x : Card). x.dam) e) in omega arith
+pub dam_or_none : {dam : Dam} (c d : Card) → c.dam ≡ None → d.dam ≡ Some dam → c ≡ d → ⊥
+dam_or_none = some_or_none (λ c. c.dam)
 
 -- THEOREM: a take makes another card than no take, whatever its number, 0 too; and so, by `one_river`, another file
-pub take_or_none : {n : ℕ} (c d : Card) → c.optionals.take ≡ Amount.Absent → d.optionals.take ≡ Given n → c ≡ d → ⊥
-take_or_none c d p q e = let z : ◌≡◌ {A = ℕ} 0 1 = cc (ap (λ (x : Card). x.optionals.take) e) in omega arith
+pub take_or_none : {n : ℕ} (c d : Card) → c.optionals.take ≡ None → d.optionals.take ≡ Some n → c ≡ d → ⊥
+take_or_none = some_or_none (λ c. c.optionals.take)
 
 -- THEOREM: a pressure likewise, 760 too
-pub pressure_or_none : {n : ℕ} (c d : Card) → c.optionals.pressure ≡ Amount.Absent → d.optionals.pressure ≡ Given n → c ≡ d → ⊥
-pressure_or_none c d p q e = let z : ◌≡◌ {A = ℕ} 0 1 = cc (ap (λ (x : Card). x.optionals.pressure) e) in omega arith
+pub pressure_or_none : {n : ℕ} (c d : Card) → c.optionals.pressure ≡ None → d.optionals.pressure ≡ Some n → c ≡ d → ⊥
+pressure_or_none = some_or_none (λ c. c.optionals.pressure)
 
 -- THEOREM: a sludge bed likewise, one of demand 0 too
-pub sludge_or_none : {n : ℕ} (c d : Card) → c.optionals.sludge ≡ Amount.Absent → d.optionals.sludge ≡ Given n → c ≡ d → ⊥
-sludge_or_none c d p q e = let z : ◌≡◌ {A = ℕ} 0 1 = cc (ap (λ (x : Card). x.optionals.sludge) e) in omega arith
+pub sludge_or_none : {n : ℕ} (c d : Card) → c.optionals.sludge ≡ None → d.optionals.sludge ≡ Some n → c ≡ d → ⊥
+sludge_or_none = some_or_none (λ c. c.optionals.sludge)
 
 -- THEOREM: a nitrification likewise, one of zeros too
-pub nitrification_or_none : {rate concentration load : ℕ} (c d : Card) → c.optionals.nitrification ≡ Nitrification.Absent → d.optionals.nitrification ≡ Nitrifying rate concentration load → c ≡ d → ⊥
-nitrification_or_none c d p q e = let z : ◌≡◌ {A = ℕ} 0 1 = cc (ap (λ (x : Card). x.optionals.nitrification) e) in omega arith
+pub nitrification_or_none : {nitrification : Nitrification} (c d : Card) → c.optionals.nitrification ≡ None → d.optionals.nitrification ≡ Some nitrification → c ≡ d → ⊥
+nitrification_or_none = some_or_none (λ c. c.optionals.nitrification)
 
 -- each card's records are at most as long as the longest card's
 cards_length : (cs : List Card) → length (encode_cards cs) ≤ longest_card * length cs

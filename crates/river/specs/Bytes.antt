@@ -1,6 +1,7 @@
 -- Whole numbers as bytes, high byte first, and two-byte marks.
 use Rattle.std.specs.Prelude.{ℕ, ◌+◌, ◌*◌, ◌/◌, ◌%◌, ◌<◌, ◌≡◌, List, [], ◌∷◌, ◌++◌, Bool, ◌&&◌, get_or, length, eqb}
 use Rattle.std.proofs.lemmas.List.Edits.{sets}
+pub use Rattle.river.specs.declared.bytes.Mark.{Mark}
 
 -- every element is a byte
 pub record AreBytes (s : List ℕ) : Type 0 where
@@ -31,10 +32,6 @@ abbrev pub four_at : List ℕ → ℕ → ℕ
 four_at s k = two_at s k * 65_536 + two_at s (k + 2)
 
 -- a two-byte mark
-pub record Mark : Type 0 where
-  pub first : ℕ
-  pub second : ℕ
-
 abbrev pub mark : ℕ → ℕ → Mark
 mark a b = record { first = a; second = b }
 

@@ -1,14 +1,11 @@
 -- Cards: the ranges of their fields, outlets, the lawful lists of cards, and the records of a card.
-use Rattle.std.specs.Prelude.{◌≡◌, Bool, true, ◌&&◌, cond, List, [], ◌∷◌, ℕ, suc, ◌+◌, ◌≤◌, ◌<◌, length, take, leb, ltb, eqb}
+use Rattle.std.specs.Prelude.{◌≡◌, Option, Some, None, Bool, true, ◌&&◌, cond, List, [], ◌∷◌, ℕ, suc, ◌+◌, ◌≤◌, ◌<◌, length, take, leb, ltb, eqb}
 use Prim.Native.Char.{code}
 use Rattle.river.specs.declared.card.Card.{Card}
 use Rattle.river.specs.declared.card.Cards.{Cards}
 use Rattle.river.specs.declared.card.Optionals.{Optionals}
 use Rattle.river.specs.declared.card.Dam.{Dam}
-use Rattle.river.specs.declared.card.Amount.{Amount}
-use Rattle.river.specs.declared.card.Amount.TheVariants.{Given}
 use Rattle.river.specs.declared.card.Nitrification.{Nitrification}
-use Rattle.river.specs.declared.card.Nitrification.TheVariants.{Nitrifying}
 use Rattle.river.specs.declared.source.Demand.TheVariants.{Nitrogenous}
 use Rattle.river.specs.Bytes.{Mark, mark}
 use Rattle.river.specs.Described.{InRange}
@@ -21,9 +18,9 @@ abbrev pub card_list : Cards → List Card
 card_list cs = take cs.count cs.at
 
 -- an amount, or what stands for none
-abbrev pub amount_or : ℕ → Amount → ℕ
-amount_or none Amount.Absent = none
-amount_or none (Given n) = n
+abbrev pub amount_or : ℕ → Option ℕ → ℕ
+amount_or none None = none
+amount_or none (Some n) = n
 
 -- a card's optional fields: their records in file order, and both ways between the fields and what is held of these
 abbrev pub fields : Fielded Optionals
@@ -48,16 +45,16 @@ abbrev pub no_optionals : Optionals
 no_optionals = optionals_of (absent field_records)
 
 -- optional fields with another take, pressure, sludge bed or nitrification
-abbrev pub with_take : Amount → Optionals → Optionals
+abbrev pub with_take : Option ℕ → Optionals → Optionals
 with_take take o = let vs = fields_of o in optionals_of (take, vs.1)
 
-abbrev pub with_pressure : Amount → Optionals → Optionals
+abbrev pub with_pressure : Option ℕ → Optionals → Optionals
 with_pressure pressure o = let vs = fields_of o in optionals_of (vs.0, (pressure, vs.1.1))
 
-abbrev pub with_sludge : Amount → Optionals → Optionals
+abbrev pub with_sludge : Option ℕ → Optionals → Optionals
 with_sludge sludge o = let vs = fields_of o in optionals_of (vs.0, (vs.1.0, (sludge, vs.1.1.1)))
 
-abbrev pub with_nitrification : Nitrification → Optionals → Optionals
+abbrev pub with_nitrification : Option Nitrification → Optionals → Optionals
 with_nitrification nitrification o = let vs = fields_of o in optionals_of (vs.0, (vs.1.0, (vs.1.1.0, (nitrification, vs.1.1.1.1))))
 
 -- the card that stands for a reach beyond the last one
@@ -73,7 +70,7 @@ blank =
       inflow_bod = 0;
       inflow_oxygen = 0;
       load = 0;
-      dam = Dam.Absent;
+      dam = None;
       optionals = no_optionals;
     }
 
@@ -86,11 +83,11 @@ pub record FieldsInRange (c : Card) : Type 0 where
   pub inflow_oxygen : c.inflow_oxygen ≤ 20_000
 
 -- a nitrification with its rate left out, and one whose numbers are in range, its rate aside
-abbrev pub without_rate : Nitrification → Nitrification
-without_rate Nitrification.Absent = Nitrification.Absent
-without_rate (Nitrifying rate concentration load) = Nitrifying 0 concentration load
+abbrev pub without_rate : Option Nitrification → Option Nitrification
+without_rate None = None
+without_rate (Some n) = Some (record n { rate = 0 })
 
-abbrev pub RegularNitrification : Nitrification → Type 0
+abbrev pub RegularNitrification : Option Nitrification → Type 0
 RegularNitrification n = InRange NT (without_rate n)
 
 -- the ranges of a card's rates; one without nitrification has a nitrogenous rate of 0
@@ -175,7 +172,7 @@ abbrev pub optional : List Kind
 optional = dam_record ∷ field_records
 
 -- what a dam and optional fields are of them, and what a card holds
-abbrev pub values_of : Dam → Optionals → Values optional
+abbrev pub values_of : Option Dam → Optionals → Values optional
 values_of dam o = (dam, fields_of o)
 
 abbrev pub optional_of : Card → Values optional

@@ -2,6 +2,7 @@
 use Rattle.std.specs.Prelude.{Bool, true, ◌&&◌, ◌≡◌, List, [], ◌∷◌, ◌++◌, ℕ, ◌+◌, length, drop, leb}
 use Rattle.river.specs.Bytes.{Mark, marked}
 use Rattle.river.specs.Refusal.{Answer, accepted, need, choose, after}
+use Rattle.river.specs.declared.refusal.Rule.TheVariants.{CutShort, FieldRange}
 
 -- a kind of optional record
 pub record Kind : Type 1 where
@@ -22,7 +23,7 @@ pub record Kind : Type 1 where
 unfoldable pub read_optional : (k : Kind) → ℕ → List ℕ → Answer k.Value
 read_optional k i s =
     choose (marked s k.mark)
-    (need (leb k.size (length s)) 1 i (need (k.test s) 4 i (accepted (k.decode s))))
+    (need (leb k.size (length s)) CutShort i (need (k.test s) FieldRange i (accepted (k.decode s))))
     (accepted k.none)
 
 -- a value for each of some kinds

@@ -7,12 +7,13 @@ use Rattle.river.specs.Optional.{Values, absent, read_optional, read_optionals}
 use Rattle.river.specs.Refusal.{Answer, accepted, need, after}
 use Rattle.river.specs.River.{River, river_of}
 use Rattle.river.specs.Records.{factors_record}
+use Rattle.river.specs.declared.refusal.Rule.TheVariants.{CutShort, WrongMark, ReachCount, FieldRange, WrongOutlet, BytesLeft}
 
 -- the header of a file: 1, 2, 3, with reach 0, or the reach count
 unfoldable pub read_header : List ℕ → Answer ℕ
 read_header s =
-    need (leb header_bytes (length s)) 1 0
-    (need (marked s RV) 2 0 (need (count_ok (two_at s 2)) 3 0 (accepted (two_at s 2))))
+    need (leb header_bytes (length s)) CutShort 0
+    (need (marked s RV) WrongMark 0 (need (count_ok (two_at s 2)) ReachCount 0 (accepted (two_at s 2))))
 
 -- the card in an `RE` record, with what it holds of the records that follow
 unfoldable pub card_at : List ℕ → Values optional → Card
@@ -34,15 +35,15 @@ card_at s vs =
 -- reach i of n at the start of the bytes: 1, 2, 4, 5, then the records that follow its `RE` record, or its card
 unfoldable pub read_reach : ℕ → ℕ → List ℕ → Answer Card
 read_reach n i s =
-    need (leb reach_bytes (length s)) 1 i
-    (need (marked s RE) 2 i
-    (need (in_range (card_at s (absent optional))) 4 i
-    (need (outlet_ok n i (card_at s (absent optional)).outlet) 5 i
+    need (leb reach_bytes (length s)) CutShort i
+    (need (marked s RE) WrongMark i
+    (need (in_range (card_at s (absent optional))) FieldRange i
+    (need (outlet_ok n i (card_at s (absent optional)).outlet) WrongOutlet i
     (after (read_optionals optional i (drop reach_bytes s)) (λ vs. accepted (card_at s vs))))))
 
 -- the reaches from i on, of n, where m are due; 6, with reach 0, if bytes remain after the last record
 unfoldable pub read_reaches : ℕ → ℕ → ℕ → List ℕ → Answer (List Card)
-read_reaches n i zero s = need (eqb (length s) 0) 6 0 (accepted [])
+read_reaches n i zero s = need (eqb (length s) 0) BytesLeft 0 (accepted [])
 read_reaches n i (suc m) s =
     after (read_reach n i s)
     (λ c. after (read_reaches n (suc i) m (drop (size_of c) s)) (λ cs. accepted (c ∷ cs)))

@@ -1,15 +1,9 @@
 -- The optional records, each by its description: the tables of "The river file".
 use Rattle.std.specs.Prelude.{[], ◌∷◌, ℕ}
-use Rattle.std.proofs.Math.Option.{none, some}
 use Prim.Native.Char.{code}
-use Rattle.river.specs.declared.card.Amount.{Amount}
-use Rattle.river.specs.declared.card.Amount.TheVariants.{Given}
 use Rattle.river.specs.declared.card.Dam.{Dam}
-use Rattle.river.specs.declared.card.Dam.TheVariants.{Aerating}
 use Rattle.river.specs.declared.card.Nitrification.{Nitrification}
-use Rattle.river.specs.declared.card.Nitrification.TheVariants.{Nitrifying}
 use Rattle.river.specs.declared.card.RateFactors.{RateFactors}
-use Rattle.river.specs.declared.card.RateFactors.TheVariants.{PerDegree}
 use Rattle.river.specs.Bytes.{Mark, mark}
 use Rattle.river.specs.Described.{Described, kind_of}
 use Rattle.river.specs.Fields.{Field, two, four, between, up_to, any}
@@ -24,11 +18,10 @@ abbrev pub Th : Described
 Th =
     record {
       Value = RateFactors;
-      absent = RateFactors.Absent;
       mark = mark (code "T") (code "H");
       fields = rate_factor ∷ rate_factor ∷ [];
-      make = PerDegree;
-      numbers = λ factors. elim factors [ RateFactors.Absent ↦ none | PerDegree decay aeration ↦ some (decay, (aeration, tt)) ];
+      make = λ decay aeration. record { decay = decay; aeration = aeration };
+      numbers = λ factors. (factors.decay, (factors.aeration, tt));
     }
 
 abbrev pub factors_record : Kind
@@ -39,11 +32,10 @@ abbrev pub DM : Described
 DM =
     record {
       Value = Dam;
-      absent = Dam.Absent;
       mark = mark (code "D") (code "M");
       fields = up_to two 1_000 ∷ up_to four 100_000_000 ∷ [];
-      make = Aerating;
-      numbers = λ dam. elim dam [ Dam.Absent ↦ none | Aerating share generating ↦ some (share, (generating, tt)) ];
+      make = λ share generating. record { share = share; generating = generating };
+      numbers = λ dam. (dam.share, (dam.generating, tt));
     }
 
 abbrev pub dam_record : Kind
@@ -53,12 +45,11 @@ dam_record = kind_of DM
 abbrev pub amount : Mark → Field → Described
 amount m f =
     record {
-      Value = Amount;
-      absent = Amount.Absent;
+      Value = ℕ;
       mark = m;
       fields = f ∷ [];
-      make = Given;
-      numbers = λ a. elim a [ Amount.Absent ↦ none | Given n ↦ some (n, tt) ];
+      make = λ n. n;
+      numbers = λ n. (n, tt);
     }
 
 -- the `WD` record: mark; take (4; to 100,000,000)
@@ -92,11 +83,10 @@ abbrev pub NT : Described
 NT =
     record {
       Value = Nitrification;
-      absent = Nitrification.Absent;
       mark = mark (code "N") (code "T");
       fields = up_to two rate_most ∷ up_to four 1_000_000 ∷ any four ∷ up_to four 0 ∷ [];
-      make = λ rate concentration load zeros. Nitrifying rate concentration load;
-      numbers = λ n. elim n [ Nitrification.Absent ↦ none | Nitrifying rate concentration load ↦ some (rate, (concentration, (load, (0, tt)))) ];
+      make = λ rate concentration load zeros. record { rate = rate; concentration = concentration; load = load };
+      numbers = λ n. (n.rate, (n.concentration, (n.load, (0, tt))));
     }
 
 abbrev pub nitrification_record : Kind

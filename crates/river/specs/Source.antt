@@ -1,21 +1,20 @@
 -- The demands on oxygen that a reach has, BOD and nitrogenous BOD. Each has a rate, and a source: it comes into a reach by its inflow, the
 -- concentration in it, and a load.
-use Rattle.std.specs.Prelude.{ℕ, ◌+◌, ◌*◌, ◌<◌, ◌≤◌}
+use Rattle.std.specs.Prelude.{Option, Some, None, ℕ, ◌+◌, ◌*◌, ◌<◌, ◌≤◌}
 use Rattle.river.specs.declared.card.Card.{Card}
 use Rattle.river.specs.declared.card.Nitrification.{Nitrification}
-use Rattle.river.specs.declared.card.Nitrification.TheVariants.{Nitrifying}
 use Rattle.river.specs.declared.source.Demand.{Demand}
 use Rattle.river.specs.declared.source.Demand.TheVariants.{Bod, Nitrogenous}
 use Rattle.river.specs.declared.source.Source.{Source}
 
 -- the source and the rate of nitrogenous BOD; a reach without nitrification adds none, and its rate is 0
-abbrev pub nitrogenous_source : (inflow : ℕ) → Nitrification → Source
-nitrogenous_source inflow Nitrification.Absent = record { inflow = inflow; concentration = 0; load = 0 }
-nitrogenous_source inflow (Nitrifying rate concentration load) = record { inflow = inflow; concentration = concentration; load = load }
+abbrev pub nitrogenous_source : (inflow : ℕ) → Option Nitrification → Source
+nitrogenous_source inflow None = record { inflow = inflow; concentration = 0; load = 0 }
+nitrogenous_source inflow (Some n) = record { inflow = inflow; concentration = n.concentration; load = n.load }
 
-abbrev pub nitrogenous_rate : Nitrification → ℕ
-nitrogenous_rate Nitrification.Absent = 0
-nitrogenous_rate (Nitrifying rate concentration load) = rate
+abbrev pub nitrogenous_rate : Option Nitrification → ℕ
+nitrogenous_rate None = 0
+nitrogenous_rate (Some n) = n.rate
 
 -- the source of a demand of a reach
 abbrev pub source_of : Demand → Card → Source

@@ -1,15 +1,14 @@
 -- Writing: the file of a river, and what writing leaves in a buffer.
-use Rattle.std.specs.Prelude.{◌≡◌, List, [], ◌∷◌, ◌++◌, ℕ, suc, ◌≤◌, ◌<◌, length, drop, leb}
+use Rattle.std.specs.Prelude.{◌≡◌, Option, List, [], ◌∷◌, ◌++◌, ℕ, suc, ◌≤◌, ◌<◌, length, drop, leb}
 use Rattle.river.specs.declared.card.Card.{Card}
 use Rattle.river.specs.declared.card.RateFactors.{RateFactors}
-use Rattle.river.specs.declared.refusal.Outcome.{Outcome}
-use Rattle.river.specs.declared.write.Written.{Written}
 use Rattle.river.specs.Bytes.{two_bytes, narrow_bytes, four_bytes, mark_bytes}
 use Rattle.river.specs.Card.{RV, RE, optional, optional_of, count_ok, in_range, outlet_ok}
 use Rattle.river.specs.Optional.{encode_optionals, optionals_in_range}
 use Rattle.river.specs.Refusal.{Answer, accepted, refused, need, after}
 use Rattle.river.specs.River.{River, LawfulRiver}
 use Rattle.river.specs.Records.{factors_record}
+use Rattle.river.specs.declared.refusal.Rule.TheVariants.{ReachCount, FieldRange, WrongOutlet, BufferShort}
 
 -- the `RE` record of a card
 abbrev pub encode_reach : Card → List ℕ
@@ -36,7 +35,7 @@ abbrev pub encode_header : ℕ → List ℕ
 encode_header n = mark_bytes RV ++ two_bytes n
 
 -- the opening of a file: the header, and the record of the rate factors
-abbrev pub encode_opening : ℕ → RateFactors → List ℕ
+abbrev pub encode_opening : ℕ → Option RateFactors → List ℕ
 encode_opening n factors = encode_header n ++ factors_record.encode factors
 
 -- the file of a river
@@ -46,8 +45,8 @@ encode r = encode_opening (length r.cards) r.factors ++ encode_cards r.cards
 -- the card of reach i of n: 4 and 5, then 4 for the records that follow
 unfoldable pub check_card : ℕ → ℕ → Card → Answer Unit
 check_card n i c =
-    need (in_range c) 4 i
-    (need (outlet_ok n i c.outlet) 5 i (need (optionals_in_range optional (optional_of c)) 4 i (accepted tt)))
+    need (in_range c) FieldRange i
+    (need (outlet_ok n i c.outlet) WrongOutlet i (need (optionals_in_range optional (optional_of c)) FieldRange i (accepted tt)))
 
 -- the cards of the reaches from i on, of n
 unfoldable pub check_from : ℕ → ℕ → List Card → Answer Unit
@@ -56,31 +55,22 @@ check_from n i (c ∷ cs) = after (check_card n i c) (λ _. check_from n (suc i)
 
 -- 3 for a reach count n, then 4 with reach 0 for the rate factors, then the reaches
 unfoldable pub check_river : ℕ → River → Answer Unit
-check_river n r = need (count_ok n) 3 0 (need (factors_record.in_range r.factors) 4 0 (check_from n 1 r.cards))
+check_river n r = need (count_ok n) ReachCount 0 (need (factors_record.in_range r.factors) FieldRange 0 (check_from n 1 r.cards))
 
 -- the refusals of a river with n reaches, then 12 for a buffer of a length, else the file's length
 unfoldable pub write_answer : ℕ → River → ℕ → Answer ℕ
 write_answer n r room =
-    after (check_river n r) (λ _. need (leb (length (encode r)) room) 12 0 (accepted (length (encode r))))
+    after (check_river n r) (λ _. need (leb (length (encode r)) room) BufferShort 0 (accepted (length (encode r))))
 
 -- the buffer that an answer leaves: the file at its start, and as it was after a refusal
 unfoldable pub buffer_written : Answer ℕ → River → List ℕ → List ℕ
 buffer_written (accepted l) r before = encode r ++ drop l before
 buffer_written (refused x) r before = before
 
--- the answers of the program, case by case: a check's, and that of writing
-abbrev pub check_of : Answer Unit → Outcome
-check_of (accepted u) = Outcome.Accepted
-check_of (refused r) = Outcome.Refused r
-
-abbrev pub written_of : Written → Answer ℕ
-written_of (Written.Length l) = accepted l
-written_of (Written.Refused r) = refused r
-
 -- what a write of a river with n reaches is: its answer and the whole buffer
-pub record Writes (n : ℕ) (r : River) (before : List ℕ) (w : Written) (exit : List ℕ) : Type 0 where
-  pub answer : written_of w ≡ write_answer n r (length before)
-  pub buffer : exit ≡ buffer_written (written_of w) r before
+pub record Writes (n : ℕ) (r : River) (before : List ℕ) (w : Answer ℕ) (exit : List ℕ) : Type 0 where
+  pub answer : w ≡ write_answer n r (length before)
+  pub buffer : exit ≡ buffer_written w r before
 
 -- what writing accepts: a lawful river whose file has room
 pub record HasRoom (r : River) (room l : ℕ) : Type 0 where

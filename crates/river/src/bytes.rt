@@ -1,15 +1,23 @@
 // Whole numbers as bytes, high byte first, and two-byte marks.
 ghost use Rattle.std.specs.Prelude.{◌≡◌, [], ◌∷◌, ◌+◌, ◌≤◌, ◌<◌, length, drop};
-ghost use Rattle.river.specs.Bytes.{byte_at, two_at, four_at, mark, marked, two_bytes, narrow_bytes, four_bytes, Put};
+ghost use Rattle.river.specs.Bytes.{byte_at, two_at, four_at, marked, mark_bytes, two_bytes, narrow_bytes, four_bytes, Put};
+ghost use Rattle.river.specs.held.Cursors.{Room, Puts};
+
+// A two-byte mark, with which a record begins.
+#[derive(Clone, Copy)]
+pub struct Mark {
+    pub first: u8,
+    pub second: u8,
+}
+
+// How many numbers two bytes hold.
+const TWO_BYTES: u32 = 65_536;
 
 // The byte at a place, 0 past the end.
 pub fn byte_at(s: &[u8], k: usize) -> u8
     ensures { result ≡ byte_at s.now k }
 {
-    if k < s.len() {
-        return s[k];
-    }
-    0
+    s.get(k).copied().unwrap_or(0)
 }
 
 // The number in the two bytes from a place on.
@@ -17,7 +25,7 @@ pub fn two_at(s: &[u8], k: usize) -> u16
     requires { k < 64 }
     ensures { result ≡ two_at s.now k }
 {
-    byte_at(s, k) as u16 * 256 + byte_at(s, k + 1) as u16
+    u16::from_be_bytes([byte_at(s, k), byte_at(s, k + 1)])
 }
 
 // The number in the four bytes from a place on.
@@ -25,73 +33,91 @@ pub fn four_at(s: &[u8], k: usize) -> u32
     requires { k < 62 }
     ensures { result ≡ four_at s.now k }
 {
-    two_at(s, k) as u32 * 65_536 + two_at(s, k + 2) as u32
+    u32::from_be_bytes([
+        byte_at(s, k),
+        byte_at(s, k + 1),
+        byte_at(s, k + 2),
+        byte_at(s, k + 3),
+    ])
 }
 
 // The bytes from a place on, none past the end.
 pub fn behind(s: &[u8], k: usize) -> &[u8]
     ensures { result.now ≡ drop k s.now }
 {
-    let end = s.len();
-    if k < end {
-        return &s[k..];
-    }
-    &s[end..]
+    s.get(k..).unwrap_or(&[])
 }
 
 // Whether bytes begin with a mark.
-pub fn marked(s: &[u8], a: u8, b: u8) -> bool
-    ensures { result ≡ marked s.now (mark a b) }
+pub fn marked(s: &[u8], mark: Mark) -> bool
+    ensures { result ≡ marked s.now mark }
 {
-    if byte_at(s, 0) != a {
-        return false;
+    byte_at(s, 0) == mark.first && byte_at(s, 1) == mark.second
+}
+
+// Bytes at a place, and the next place.
+pub fn put_bytes(out: &mut [u8], at: usize, bytes: &[u8]) -> usize
+    requires { at + length bytes.now ≤ length out.old }
+    ensures { Put out.old at bytes.now out.new result }
+{
+    let end = at + bytes.len();
+    out[at..end].copy_from_slice(bytes);
+    end
+}
+
+// A buffer that bytes are put into, and the place of the next one. A method puts its bytes there and moves on behind them.
+#[derive(Drop)]
+pub struct Cursor<'a> {
+    pub out: &'a mut [u8],
+    pub at: usize,
+}
+
+impl<'a> Cursor<'a> {
+    // Bytes.
+    pub fn bytes(&mut self, bytes: &[u8])
+        requires { Room self.old (length bytes.now) }
+        ensures { Puts self.old bytes.now self.new }
+    {
+        self.at = put_bytes(self.out, self.at, bytes);
     }
-    byte_at(s, 1) == b
-}
 
-// A byte at a place, and the next place.
-pub fn put_byte(out: &mut [u8], at: usize, x: u8) -> usize
-    requires { at + 1 ≤ length out.old }
-    ensures { Put out.old at (x ∷ []) out.new result }
-{
-    out[at] = x;
-    at + 1
-}
+    // A byte.
+    pub fn byte(&mut self, x: u8)
+        requires { Room self.old 1 }
+        ensures { Puts self.old (x ∷ []) self.new }
+    {
+        self.bytes(&[x]);
+    }
 
-// Two bytes at a place, and the next place.
-pub fn put_pair(out: &mut [u8], at: usize, a: u8, b: u8) -> usize
-    requires { at + 2 ≤ length out.old }
-    ensures { Put out.old at (a ∷ b ∷ []) out.new result }
-{
-    out[at] = a;
-    out[at + 1] = b;
-    at + 2
-}
+    // A mark.
+    pub fn mark(&mut self, mark: Mark)
+        requires { Room self.old 2 }
+        ensures { Puts self.old (mark_bytes mark) self.new }
+    {
+        self.bytes(&[mark.first, mark.second]);
+    }
 
-// A number as two bytes.
-pub fn put_two(out: &mut [u8], at: usize, x: u16) -> usize
-    requires { at + 2 ≤ length out.old }
-    ensures { Put out.old at (two_bytes x) out.new result }
-{
-    put_pair(out, at, (x / 256) as u8, (x % 256) as u8)
-}
+    // A number as two bytes.
+    pub fn two(&mut self, x: u16)
+        requires { Room self.old 2 }
+        ensures { Puts self.old (two_bytes x) self.new }
+    {
+        self.bytes(&x.to_be_bytes());
+    }
 
-// How many numbers two bytes hold.
-const TWO_BYTES: u32 = 65_536;
+    // A number as two bytes, modulo 65,536.
+    pub fn narrow(&mut self, x: u32)
+        requires { Room self.old 2 }
+        ensures { Puts self.old (narrow_bytes x) self.new }
+    {
+        self.two((x % TWO_BYTES) as u16);
+    }
 
-// A number as two bytes, modulo 65,536.
-pub fn put_narrow(out: &mut [u8], at: usize, x: u32) -> usize
-    requires { at + 2 ≤ length out.old }
-    ensures { Put out.old at (narrow_bytes x) out.new result }
-{
-    put_two(out, at, (x % TWO_BYTES) as u16)
-}
-
-// A number as four bytes.
-pub fn put_four(out: &mut [u8], at: usize, x: u32) -> usize
-    requires { at + 4 ≤ length out.old }
-    ensures { Put out.old at (four_bytes x) out.new result }
-{
-    let next = put_two(out, at, (x / TWO_BYTES) as u16);
-    put_two(out, next, (x % TWO_BYTES) as u16)
+    // A number as four bytes.
+    pub fn four(&mut self, x: u32)
+        requires { Room self.old 4 }
+        ensures { Puts self.old (four_bytes x) self.new }
+    {
+        self.bytes(&x.to_be_bytes());
+    }
 }

@@ -5,7 +5,7 @@ ghost use Rattle.river.specs.Fields.{within};
 ghost use Rattle.river.specs.Records.{dam_record, nitrification_record, rate_factor, factors_record};
 ghost use Rattle.river.specs.held.Layouts.{amount_record};
 
-use crate::card::{Amount, Card, Dam, FLOW_MOST, Layout, Nitrification, REACHES, RateFactors};
+use crate::card::{Card, Dam, FLOW_MOST, Layout, Nitrification, REACHES, RateFactors};
 use crate::source::{Demand, rate_of};
 
 // The largest values of the fields of `RE`, `DM` and `NT` records; that of a rate is the limit of check 15, too.
@@ -27,129 +27,84 @@ const FACTOR_LEAST: u16 = 1_000;
 const FACTOR_MOST: u16 = 1_100;
 
 // Whether the fields of a card's `RE` record are in range.
+#[tactic(auto, using(crate::proofs::Tests::ranges), unfolding(crate::specs::Card::in_range))]
 pub fn in_range(c: Card) -> bool
     ensures { result ≡ in_range c }
 {
-    if TEMPERATURE_MOST < c.temperature {
-        return false;
-    }
-    if RATE_MOST < c.k1 {
-        return false;
-    }
-    if RATE_MOST < c.k2 {
-        return false;
-    }
-    if VOLUME_MOST < c.volume {
-        return false;
-    }
-    if FLOW_MOST < c.inflow {
-        return false;
-    }
-    if BOD_MOST < c.inflow_bod {
-        return false;
-    }
-    c.inflow_oxygen <= OXYGEN_MOST
+    c.temperature <= TEMPERATURE_MOST
+        && c.k1 <= RATE_MOST
+        && c.k2 <= RATE_MOST
+        && c.volume <= VOLUME_MOST
+        && c.inflow <= FLOW_MOST
+        && c.inflow_bod <= BOD_MOST
+        && c.inflow_oxygen <= OXYGEN_MOST
 }
 
 // Whether the rates of a card are in range.
+#[tactic(auto, using(crate::proofs::Tests::ranges), unfolding(crate::specs::Card::rates_in_range))]
 pub fn rates_in_range(c: Card) -> bool
     ensures { result ≡ rates_in_range c }
 {
-    if RATE_MOST < c.k1 {
-        return false;
-    }
-    if RATE_MOST < c.k2 {
-        return false;
-    }
-    rate_of(Demand::Nitrogenous, c) <= RATE_MOST
+    c.k1 <= RATE_MOST && c.k2 <= RATE_MOST && rate_of(Demand::Nitrogenous, c) <= RATE_MOST
 }
 
 // Whether the fields of a dam's `DM` record are in range.
-pub fn dam_in_range(d: Dam) -> bool
-    ensures { result ≡ dam_record.in_range d }
+#[tactic(auto, using(crate::proofs::Tests::ranges), unfolding(crate::specs::Fields::within, crate::specs::Fields::all_within))]
+pub fn dam_in_range(dam: Option<Dam>) -> bool
+    ensures { result ≡ dam_record.in_range dam }
 {
-    let Dam::Aerating { share, generating } = d else {
-        return true;
-    };
-    if SHARE_MOST < share {
-        return false;
-    }
-    generating <= FLOW_MOST
+    dam.is_none_or(|d| d.share <= SHARE_MOST && d.generating <= FLOW_MOST)
 }
 
 // Whether an amount is in the range of its layout.
-pub(crate) fn amount_in_range(layout: Layout, amount: Amount) -> bool
+#[tactic(auto, using(crate::proofs::Tests::ranges), unfolding(crate::specs::Fields::within, crate::specs::Fields::all_within))]
+pub(crate) fn amount_in_range(layout: Layout, amount: Option<u32>) -> bool
     ensures { result ≡ (amount_record layout).in_range amount }
 {
-    let Amount::Given(n) = amount else {
-        return true;
-    };
-    if n < layout.least {
-        return false;
-    }
-    n <= layout.most
+    amount.is_none_or(|n| (layout.least..=layout.most).contains(&n))
 }
 
 // Whether the fields of a nitrification's `NT` record are in range; any load is.
-pub(crate) fn nitrification_in_range(n: Nitrification) -> bool
-    ensures { result ≡ nitrification_record.in_range n }
+#[tactic(auto, using(crate::proofs::Tests::ranges), unfolding(crate::specs::Fields::within, crate::specs::Fields::all_within))]
+pub(crate) fn nitrification_in_range(nitrification: Option<Nitrification>) -> bool
+    ensures { result ≡ nitrification_record.in_range nitrification }
 {
-    let Nitrification::Nitrifying {
-        rate,
-        concentration,
-        load: _,
-    } = n
-    else {
-        return true;
-    };
-    if RATE_MOST < rate {
-        return false;
-    }
-    concentration <= BOD_MOST
+    nitrification.is_none_or(|n| n.rate <= RATE_MOST && n.concentration <= BOD_MOST)
 }
 
 // Whether a rate factor is in range.
+#[tactic(auto, using(crate::proofs::Tests::ranges), unfolding(crate::specs::Fields::within))]
 fn factor_in_range(factor: u16) -> bool
     ensures { result ≡ within rate_factor factor }
 {
-    if factor < FACTOR_LEAST {
-        return false;
-    }
-    factor <= FACTOR_MOST
+    (FACTOR_LEAST..=FACTOR_MOST).contains(&factor)
 }
 
 // Whether the fields of the `TH` record of rate factors are in range.
-pub(crate) fn factors_in_range(factors: RateFactors) -> bool
+#[tactic(auto, using(crate::proofs::Tests::ranges), unfolding(crate::specs::Fields::all_within))]
+pub(crate) fn factors_in_range(factors: Option<RateFactors>) -> bool
     ensures { result ≡ factors_record.in_range factors }
 {
-    let RateFactors::PerDegree { decay, aeration } = factors else {
-        return true;
-    };
-    if !factor_in_range(decay) {
-        return false;
-    }
-    factor_in_range(aeration)
+    factors.is_none_or(|f| factor_in_range(f.decay) && factor_in_range(f.aeration))
 }
 
-// Whether reach i of n may have an outlet.
+// Whether reach i of n may have an outlet. Count and reach come side by side here and in the functions that read or check one card: the reach is
+// another at each call, so a struct of the two would be made anew each time.
+#[tactic(auto, using(crate::proofs::Tests::ranges), unfolding(crate::specs::Card::outlet_ok))]
 pub fn outlet_ok(n: u8, i: u8, outlet: u8) -> bool
     ensures { result ≡ outlet_ok n i outlet }
 {
     if i == n {
-        return outlet == 0;
+        outlet == 0
+    } else {
+        i < outlet && outlet <= n
     }
-    if outlet <= i {
-        return false;
-    }
-    outlet <= n
 }
 
 // Whether a river may have so many reaches.
+#[tactic(auto, using(crate::proofs::Tests::ranges), unfolding(crate::specs::Card::count_ok))]
 pub fn count_ok(n: usize) -> bool
     ensures { result ≡ count_ok n }
 {
-    if n < 1 {
-        return false;
-    }
-    n <= REACHES
+    (1..=REACHES).contains(&n)
 }

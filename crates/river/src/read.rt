@@ -1,423 +1,271 @@
 // Reading of a river file: the header, then card after card.
-ghost use Rattle.std.specs.Prelude.{◌≡◌, true, false, ◌<◌, ◌^◌, drop};
-ghost use Rattle.river.specs.Bytes.{mark};
-ghost use Rattle.river.specs.Card.{values_of, blank};
-ghost use Rattle.river.specs.Optional.{read_optional};
-ghost use Rattle.river.specs.Refusal.{refuse, outcome_of};
-ghost use Rattle.river.specs.Fields.{number_at};
-ghost use Rattle.river.specs.Records.{dam_record, nitrification_record, factors_record};
-ghost use Rattle.river.specs.held.Layouts.{width_of, amount_record};
+ghost use Rattle.std.specs.Prelude.{◌≡◌, Option, List, ℕ, IfOk, ◌<◌, ◌≤◌, ◌^◌, length, drop};
+ghost use Rattle.river.specs.Card.{optional, blank};
+ghost use Rattle.river.specs.Optional.{absent, read_optional};
+ghost use Rattle.river.specs.Records.{Th, DM, NT, dam_record, nitrification_record, factors_record};
+ghost use Rattle.river.specs.held.Layouts.{described, amount_record};
 ghost use Rattle.river.specs.Read.{read_header, card_at, read_reach};
-ghost use Rattle.river.specs.held.Optionals.{Finds, ReadsOn, ReadsOptionals};
-ghost use Rattle.river.specs.held.Reader.{YieldsReach};
+ghost use Rattle.river.specs.held.Optionals.{Decodes, Takes, ReadsOn, decoded, found_in, length_if};
+ghost use Rattle.river.specs.held.Reader.{YieldsReach, records_read};
 
 use crate::bytes::{behind, byte_at, four_at, marked, two_at};
 use crate::card::{
-    Amount, Card, DAM_BYTES, Dam, FACTORS_BYTES, HEADER_BYTES, Layout, NITRIFICATION_BYTES,
-    Nitrification, Optionals, PRESSURE, REACH_BYTES, RateFactors, SLUDGE, TAKE, layout_size,
+    Card, DAM, Dam, FACTORS, Form, HEADER_BYTES, Layout, NITRIFICATION, Nitrification, Optionals,
+    PRESSURE, REACH_BYTES, REACH_MARK, RIVER_MARK, RateFactors, SLUDGE, TAKE, layout_size,
+    length_if,
 };
 use crate::range::{
     amount_in_range, count_ok, dam_in_range, factors_in_range, in_range, nitrification_in_range,
     outlet_ok,
 };
-use crate::refusal::{Outcome, refuse};
+use crate::refusal::{Refusal, Rule};
 
-// What reading the header answers: the reach count where it is accepted.
+// What is read at a place, and the place behind it.
 #[derive(Clone, Copy)]
-pub struct HeaderRead {
-    pub outcome: Outcome,
-    pub count: u8,
-}
-
-// What reading the rate factors answers: the factors where they are accepted.
-#[derive(Clone, Copy)]
-pub struct FactorsRead {
-    pub outcome: Outcome,
-    pub factors: RateFactors,
-}
-
-// How far reading has come in the bytes of a reach: the outcome so far, and the place behind what is read.
-#[derive(Clone, Copy)]
-pub struct Place {
-    pub outcome: Outcome,
-    pub at: usize,
-}
-
-// Whether a record is found, and the place behind it, or where it would be.
-#[derive(Clone, Copy)]
-pub struct Finding {
-    pub found: bool,
-    pub place: Place,
-}
-
-// What reading a dam answers: the place behind it, and the dam where it is accepted.
-#[derive(Clone, Copy)]
-pub struct DamRead {
-    pub place: Place,
-    pub dam: Dam,
-}
-
-// What reading an amount answers: the place behind it, and the amount where it is accepted.
-#[derive(Clone, Copy)]
-pub struct AmountRead {
-    pub place: Place,
-    pub amount: Amount,
-}
-
-// What reading a nitrification answers: the place behind it, and the nitrification where it is accepted.
-#[derive(Clone, Copy)]
-pub struct NitrificationRead {
-    pub place: Place,
-    pub nitrification: Nitrification,
-}
-
-// What reading the records behind an `RE` record answers: the place behind them, and a dam and optional fields where they are accepted.
-#[derive(Clone, Copy)]
-pub struct OptionalsRead {
-    pub place: Place,
-    pub dam: Dam,
-    pub optionals: Optionals,
-}
-
-// What reading a reach answers: its card and the next position where it is accepted.
-#[derive(Clone, Copy)]
-pub struct ReachRead {
-    pub outcome: Outcome,
-    pub card: Card,
+pub struct Taken<T> {
+    pub value: T,
     pub next: usize,
 }
 
-// An outcome, and no reach count.
-fn no_count(outcome: Outcome) -> HeaderRead
-    ensures { outcome_of result.outcome result.count ≡ outcome_of outcome 0 }
-{
-    HeaderRead { outcome, count: 0 }
-}
-
 // The header of a file: refusals 1, 2 and 3, or the reach count.
-pub fn read_header(file: &[u8]) -> HeaderRead
-    ensures { outcome_of result.outcome result.count ≡ read_header file.now }
+#[tactic(auto, using(crate::proofs::Tests::ranges), unfolding(crate::specs::Read::read_header, crate::specs::Refusal::need, crate::specs::Card::count_ok))]
+pub fn read_header(file: &[u8]) -> Result<u8, Refusal>
+    ensures { result ≡ read_header file.now }
 {
     if file.len() < HEADER_BYTES {
-        return no_count(Outcome::Refused(refuse(1, 0)));
+        return Err(Rule::CutShort.at(0));
     }
-    if !marked(file, b'R', b'V') {
-        return no_count(Outcome::Refused(refuse(2, 0)));
+    if !marked(file, RIVER_MARK) {
+        return Err(Rule::WrongMark.at(0));
     }
     let count = two_at(file, 2);
-    if !count_ok(count as usize) {
-        return no_count(Outcome::Refused(refuse(3, 0)));
+    if !count_ok(usize::from(count)) {
+        return Err(Rule::ReachCount.at(0));
     }
-    HeaderRead {
-        outcome: Outcome::Accepted,
-        count: count as u8,
-    }
+    // A count in range fits a byte.
+    Ok(count as u8)
 }
 
-// An outcome, and no rate factors.
-fn no_factors(outcome: Outcome) -> FactorsRead
-    ensures { outcome_of result.outcome result.factors ≡ outcome_of outcome RateFactors.Absent }
+// The value in the record of a form at the start, if the record is there: refusal 1 where the bytes end within it, and 4 where
+// its decoder finds no value in range.
+#[tactic(auto, using(crate::proofs::Tests::ranges), unfolding(crate::specs::held::Optionals::found_in, crate::specs::Refusal::choose, crate::specs::Refusal::need))]
+fn value_here<T: Copy, F: FnOnce(&[u8]) -> Option<T>>(
+    s: &[u8],
+    reach: u8,
+    form: Form,
+    decode: F,
+) -> Result<Option<T>, Refusal>
+    requires { F.IsAlwaysCallable decode }
+    ensures answer { (decoded : List ℕ → Option T) → Decodes F.FnOnce decode decoded → result ≡ found_in form.mark form.size reach s.now decoded }
+    ensures room { IfOk result (λ v. length_if form.size v ≤ length s.now) }
 {
-    FactorsRead {
-        outcome,
-        factors: RateFactors::Absent,
+    if !marked(s, form.mark) {
+        return Ok(None);
     }
+    if s.len() < form.size {
+        return Err(Rule::CutShort.at(reach));
+    }
+    let value = decode(s).ok_or(Rule::FieldRange.at(reach))?;
+    Ok(Some(value))
+}
+
+// The value in the record of a form at a place, if the record is there, and the place behind it: refusals 1 and 4. Bytes, place and reach come side by
+// side here and below: the place moves on from record to record, so a struct of them would be made anew at each.
+fn take<T: Copy, F: FnOnce(&[u8]) -> Option<T>>(
+    s: &[u8],
+    at: usize,
+    reach: u8,
+    form: Form,
+    decode: F,
+) -> Result<Taken<Option<T>>, Refusal>
+    requires { F.IsAlwaysCallable decode }
+    ensures { Takes F.FnOnce decode form.mark form.size reach s.now at result }
+{
+    let value = value_here(behind(s, at), reach, form, decode)?;
+    Ok(Taken {
+        value,
+        next: at + length_if(form.size, value),
+    })
+}
+
+// The rate factors in the bytes of a `TH` record, if they are in range. This and the next three are the decoders that `take` is handed: they have the
+// fields of their records, and nothing else in common.
+#[tactic(auto, unfolding(crate::specs::Fields::all_within))]
+fn factors_in(bytes: &[u8]) -> Option<RateFactors>
+    ensures { result ≡ decoded Th bytes.now }
+{
+    let factors = RateFactors {
+        decay: two_at(bytes, 2),
+        aeration: two_at(bytes, 4),
+    };
+    factors_in_range(Some(factors)).then_some(factors)
+}
+
+// The dam in the bytes of a `DM` record, if its fields are in range.
+#[tactic(auto, unfolding(crate::specs::Fields::all_within))]
+fn dam_in(bytes: &[u8]) -> Option<Dam>
+    ensures { result ≡ decoded DM bytes.now }
+{
+    let dam = Dam {
+        share: two_at(bytes, 2),
+        generating: four_at(bytes, 4),
+    };
+    dam_in_range(Some(dam)).then_some(dam)
+}
+
+// The number in the bytes of a layout's record, if it is in range.
+#[tactic(auto, unfolding(crate::specs::Fields::all_within))]
+fn amount_in(bytes: &[u8], layout: Layout) -> Option<u32>
+    ensures { result ≡ decoded (described layout) bytes.now }
+{
+    let amount = if layout.wide {
+        four_at(bytes, 2)
+    } else {
+        u32::from(two_at(bytes, 2))
+    };
+    amount_in_range(layout, Some(amount)).then_some(amount)
+}
+
+// The nitrification in the bytes of an `NT` record, if its fields are in range and its last four bytes are all 0.
+#[tactic(auto, unfolding(crate::specs::Fields::all_within))]
+fn nitrification_in(bytes: &[u8]) -> Option<Nitrification>
+    ensures { result ≡ decoded NT bytes.now }
+{
+    if four_at(bytes, 12) != 0 {
+        return None;
+    }
+    let nitrification = Nitrification {
+        rate: u32::from(two_at(bytes, 2)),
+        concentration: four_at(bytes, 4),
+        load: four_at(bytes, 8),
+    };
+    nitrification_in_range(Some(nitrification)).then_some(nitrification)
 }
 
 // The rate factors in the `TH` record at the start, if there is one: refusals 1 and 4.
-pub fn read_factors(s: &[u8]) -> FactorsRead
-    ensures { outcome_of result.outcome result.factors ≡ read_optional factors_record 0 s.now }
+pub fn read_factors(s: &[u8]) -> Result<Option<RateFactors>, Refusal>
+    ensures { result ≡ read_optional factors_record 0 s.now }
 {
-    if !marked(s, b'T', b'H') {
-        return no_factors(Outcome::Accepted);
-    }
-    if s.len() < FACTORS_BYTES {
-        return no_factors(Outcome::Refused(refuse(1, 0)));
-    }
-    let factors = RateFactors::PerDegree {
-        decay: two_at(s, 2),
-        aeration: two_at(s, 4),
+    value_here(s, 0, FACTORS, factors_in)
+}
+
+// The dam in the `DM` record at a place, if there is one: refusals 1 and 4.
+pub fn read_dam(s: &[u8], at: usize, reach: u8) -> Result<Taken<Option<Dam>>, Refusal>
+    ensures { ReadsOn dam_record reach s.now at result }
+{
+    take(s, at, reach, DAM, dam_in)
+}
+
+// The amount in a layout's record at a place, if there is one: refusals 1 and 4.
+pub(crate) fn read_amount(
+    s: &[u8],
+    at: usize,
+    reach: u8,
+    layout: Layout,
+) -> Result<Taken<Option<u32>>, Refusal>
+    ensures { ReadsOn (amount_record layout) reach s.now at result }
+{
+    let form = Form {
+        mark: layout.mark,
+        size: layout_size(layout),
     };
-    if !factors_in_range(factors) {
-        return no_factors(Outcome::Refused(refuse(4, 0)));
-    }
-    FactorsRead {
-        outcome: Outcome::Accepted,
-        factors,
-    }
+    take(s, at, reach, form, |bytes| amount_in(bytes, layout))
 }
 
-// A refusal, at no place.
-fn refused_at(number: u8, reach: u8) -> Place
-    ensures { result ≡ record { outcome = Outcome.Refused (refuse number reach); at = 0 } }
+// The nitrification in the `NT` record at a place, if there is one: refusals 1 and 4, the latter also where its last four bytes are not all 0.
+pub fn read_nitrification(
+    s: &[u8],
+    at: usize,
+    reach: u8,
+) -> Result<Taken<Option<Nitrification>>, Refusal>
+    ensures { ReadsOn nitrification_record reach s.now at result }
 {
-    Place {
-        outcome: Outcome::Refused(refuse(number, reach)),
-        at: 0,
-    }
+    take(s, at, reach, NITRIFICATION, nitrification_in)
 }
 
-// No record, and where it would be.
-fn not_found(place: Place) -> Finding
-    ensures { result ≡ record { found = false; place = place } }
+// The records that may follow an `RE` record, each behind the one before it: its card with what they hold, or the first refusal.
+fn read_records(s: &[u8], reach: u8, plain: Card) -> Result<Taken<Card>, Refusal>
+    ensures { YieldsReach 0 (records_read reach s.now plain) result }
 {
-    Finding {
-        found: false,
-        place,
-    }
-}
-
-// The record with a mark and a length at a place, if there is one: the refusal of the records before it, or refusal 1.
-fn find(from: Place, s: &[u8], reach: u8, first: u8, second: u8, size: usize) -> Finding
-    ensures { Finds (mark first second) size reach s.now from result }
-{
-    let outcome = from.outcome;
-    let Outcome::Accepted = outcome else {
-        return not_found(from);
-    };
-    let at = from.at;
-    let rest = behind(s, at);
-    if !marked(rest, first, second) {
-        return not_found(from);
-    }
-    if rest.len() < size {
-        return not_found(refused_at(1, reach));
-    }
-    Finding {
-        found: true,
-        place: Place {
-            outcome,
-            at: at + size,
+    let dam = read_dam(s, REACH_BYTES, reach)?;
+    let take = read_amount(s, dam.next, reach, TAKE)?;
+    let pressure = read_amount(s, take.next, reach, PRESSURE)?;
+    let sludge = read_amount(s, pressure.next, reach, SLUDGE)?;
+    let nitrification = read_nitrification(s, sludge.next, reach)?;
+    Ok(Taken {
+        value: Card {
+            dam: dam.value,
+            optionals: Optionals {
+                take: take.value,
+                pressure: pressure.value,
+                sludge: sludge.value,
+                nitrification: nitrification.value,
+            },
+            ..plain
         },
-    }
+        next: nitrification.next,
+    })
 }
 
-// The dam in the `DM` record at a place, if there is one: the refusal of the records before it, or refusals 1 and 4.
-pub fn read_dam(from: Place, s: &[u8], reach: u8) -> DamRead
-    ensures { ReadsOn dam_record reach s.now from result.place result.dam }
-{
-    let finding = find(from, s, reach, b'D', b'M', DAM_BYTES);
-    let place = finding.place;
-    if !finding.found {
-        return DamRead {
-            place,
-            dam: Dam::Absent,
-        };
-    }
-    let rest = behind(s, from.at);
-    let dam = Dam::Aerating {
-        share: two_at(rest, 2),
-        generating: four_at(rest, 4),
-    };
-    if !dam_in_range(dam) {
-        let place = refused_at(4, reach);
-        return DamRead { place, dam };
-    }
-    DamRead { place, dam }
-}
-
-// The number in a record of one number.
-fn number_at(s: &[u8], wide: bool) -> u32
-    ensures { result ≡ number_at (width_of wide) s.now 2 }
-{
-    if wide {
-        four_at(s, 2)
-    } else {
-        two_at(s, 2) as u32
-    }
-}
-
-// The amount in a layout's record at a place, if there is one: the refusal of the records before it, or refusals 1 and 4.
-pub(crate) fn read_amount(from: Place, s: &[u8], reach: u8, layout: Layout) -> AmountRead
-    ensures { ReadsOn (amount_record layout) reach s.now from result.place result.amount }
-{
-    let size = layout_size(layout);
-    let finding = find(from, s, reach, layout.first, layout.second, size);
-    let place = finding.place;
-    if !finding.found {
-        return AmountRead {
-            place,
-            amount: Amount::Absent,
-        };
-    }
-    let rest = behind(s, from.at);
-    let amount = Amount::Given(number_at(rest, layout.wide));
-    if !amount_in_range(layout, amount) {
-        let place = refused_at(4, reach);
-        return AmountRead { place, amount };
-    }
-    AmountRead { place, amount }
-}
-
-// The nitrification in the `NT` record at a place, if there is one: the refusal of the records before it, or refusals 1 and 4, the latter also
-// where its last four bytes are not all 0.
-pub fn read_nitrification(from: Place, s: &[u8], reach: u8) -> NitrificationRead
-    ensures { ReadsOn nitrification_record reach s.now from result.place result.nitrification }
-{
-    let finding = find(from, s, reach, b'N', b'T', NITRIFICATION_BYTES);
-    let place = finding.place;
-    if !finding.found {
-        return NitrificationRead {
-            place,
-            nitrification: Nitrification::Absent,
-        };
-    }
-    let rest = behind(s, from.at);
-    let nitrification = Nitrification::Nitrifying {
-        rate: two_at(rest, 2) as u32,
-        concentration: four_at(rest, 4),
-        load: four_at(rest, 8),
-    };
-    if !nitrification_in_range(nitrification) {
-        let place = refused_at(4, reach);
-        return NitrificationRead {
-            place,
-            nitrification,
-        };
-    }
-    if four_at(rest, 12) != 0 {
-        let place = refused_at(4, reach);
-        return NitrificationRead {
-            place,
-            nitrification,
-        };
-    }
-    NitrificationRead {
-        place,
-        nitrification,
-    }
-}
-
-// The records that may follow an `RE` record, each behind the one before it: the first refusal is the answer.
-fn read_optionals(s: &[u8], reach: u8) -> OptionalsRead
-    ensures { ReadsOptionals reach s.now result }
-{
-    let start = Place {
-        outcome: Outcome::Accepted,
-        at: REACH_BYTES,
-    };
-    let found = read_dam(start, s, reach);
-    let place = found.place;
-    let dam = found.dam;
-    let found = read_amount(place, s, reach, TAKE);
-    let place = found.place;
-    let take = found.amount;
-    let found = read_amount(place, s, reach, PRESSURE);
-    let place = found.place;
-    let pressure = found.amount;
-    let found = read_amount(place, s, reach, SLUDGE);
-    let place = found.place;
-    let sludge = found.amount;
-    let found = read_nitrification(place, s, reach);
-    let place = found.place;
-    let nitrification = found.nitrification;
-    let optionals = Optionals {
-        take,
-        pressure,
-        sludge,
-        nitrification,
-    };
-    OptionalsRead {
-        place,
-        dam,
-        optionals,
-    }
-}
-
-// The card in an `RE` record, with a dam and optional fields.
-fn card_at(s: &[u8], dam: Dam, optionals: Optionals) -> Card
-    ensures { result ≡ card_at s.now (values_of dam optionals) }
+// The card in an `RE` record, without what the records that follow hold.
+#[tactic(auto, unfolding(crate::specs::Read::card_at))]
+fn plain_card(s: &[u8]) -> Card
+    ensures { result ≡ card_at s.now (absent optional) }
 {
     Card {
         outlet: byte_at(s, 2),
         temperature: byte_at(s, 3),
-        k1: two_at(s, 4) as u32,
-        k2: two_at(s, 6) as u32,
+        k1: u32::from(two_at(s, 4)),
+        k2: u32::from(two_at(s, 6)),
         volume: four_at(s, 8),
         inflow: four_at(s, 12),
         inflow_bod: four_at(s, 16),
         inflow_oxygen: two_at(s, 20),
         load: four_at(s, 22),
-        dam,
-        optionals,
+        ..Card::default()
     }
 }
 
-// A card of zeros, with what reading finds where no byte is. It is not made by `card_at`, so that this has one caller, which takes it in.
+// A card of zeros, without a dam and optional fields.
 pub fn blank() -> Card
     ensures { result ≡ blank }
 {
-    let bytes = [0u8; 1];
-    let read = read_optionals(&bytes[..], 0);
-    let dam = read.dam;
-    let optionals = read.optionals;
-    Card {
-        outlet: 0,
-        temperature: 0,
-        k1: 0,
-        k2: 0,
-        volume: 0,
-        inflow: 0,
-        inflow_bod: 0,
-        inflow_oxygen: 0,
-        load: 0,
-        dam,
-        optionals,
-    }
+    Card::default()
 }
 
-// An outcome, and no reach.
-fn no_reach(outcome: Outcome) -> ReachRead
-    ensures { result.outcome ≡ outcome }
-{
-    let card = blank();
-    ReachRead {
-        outcome,
-        card,
-        next: 0,
-    }
-}
-
-// A reach at the start, at a position of the file: refusals 1, 2, 4 and 5, then those of the records behind its `RE` record. These are read
-// before the tests of its fields, so that its card is made once.
-fn read_here(s: &[u8], at: usize, count: u8, reach: u8) -> ReachRead
+// A reach at the start, at a position of the file: refusals 1, 2, 4 and 5, then those of the records behind its `RE` record.
+#[tactic(auto, using(crate::proofs::Tests::ranges), unfolding(crate::specs::Read::read_reach, crate::specs::Read::card_at, crate::specs::Refusal::need, crate::specs::Refusal::after))]
+fn read_here(s: &[u8], at: usize, count: u8, reach: u8) -> Result<Taken<Card>, Refusal>
     requires { at < 2 ^ 63 }
     ensures { YieldsReach at (read_reach count reach s.now) result }
 {
     if s.len() < REACH_BYTES {
-        return no_reach(Outcome::Refused(refuse(1, reach)));
+        return Err(Rule::CutShort.at(reach));
     }
-    if !marked(s, b'R', b'E') {
-        return no_reach(Outcome::Refused(refuse(2, reach)));
+    if !marked(s, REACH_MARK) {
+        return Err(Rule::WrongMark.at(reach));
     }
-    let read = read_optionals(s, reach);
-    let place = read.place;
-    let dam = read.dam;
-    let optionals = read.optionals;
-    let card = card_at(s, dam, optionals);
-    if !in_range(card) {
-        return no_reach(Outcome::Refused(refuse(4, reach)));
+    let plain = plain_card(s);
+    if !in_range(plain) {
+        return Err(Rule::FieldRange.at(reach));
     }
-    if !outlet_ok(count, reach, card.outlet) {
-        return no_reach(Outcome::Refused(refuse(5, reach)));
+    if !outlet_ok(count, reach, plain.outlet) {
+        return Err(Rule::WrongOutlet.at(reach));
     }
-    let outcome = place.outcome;
-    let Outcome::Accepted = outcome else {
-        return no_reach(outcome);
-    };
-    ReachRead {
-        outcome,
-        card,
-        next: at + place.at,
-    }
+    let read = read_records(s, reach, plain)?;
+    Ok(Taken {
+        value: read.value,
+        next: at + read.next,
+    })
 }
 
 // The reach at a position of a file.
-pub fn read_reach(file: &[u8], at: usize, count: u8, reach: u8) -> ReachRead
+#[tactic(auto, using(crate::proofs::Tests::ranges), unfolding(crate::specs::Read::read_reach, crate::specs::Refusal::need, crate::specs::Refusal::after))]
+pub fn read_reach(file: &[u8], at: usize, count: u8, reach: u8) -> Result<Taken<Card>, Refusal>
     ensures { YieldsReach at (read_reach count reach (drop at file.now)) result }
 {
     if file.len() < at {
-        return no_reach(Outcome::Refused(refuse(1, reach)));
+        return Err(Rule::CutShort.at(reach));
     }
     read_here(behind(file, at), at, count, reach)
 }

@@ -19,40 +19,23 @@ pub struct Source {
     pub load: u32,
 }
 
-// The source of nitrogenous BOD.
-fn nitrogenous_source(inflow: u32, nitrification: Nitrification) -> Source
+// The source of nitrogenous BOD; a reach without nitrification adds none.
+fn nitrogenous_source(inflow: u32, nitrification: Option<Nitrification>) -> Source
     ensures { result ≡ nitrogenous_source inflow nitrification }
 {
-    match nitrification {
-        Nitrification::Absent => Source {
-            inflow,
-            concentration: 0,
-            load: 0,
-        },
-        Nitrification::Nitrifying {
-            rate: _,
-            concentration,
-            load,
-        } => Source {
-            inflow,
-            concentration,
-            load,
-        },
+    let n = nitrification.unwrap_or_default();
+    Source {
+        inflow,
+        concentration: n.concentration,
+        load: n.load,
     }
 }
 
 // The rate of nitrogenous BOD, in thousandths a day.
-fn nitrogenous_rate(nitrification: Nitrification) -> u32
+fn nitrogenous_rate(nitrification: Option<Nitrification>) -> u32
     ensures { result ≡ nitrogenous_rate nitrification }
 {
-    match nitrification {
-        Nitrification::Absent => 0,
-        Nitrification::Nitrifying {
-            rate,
-            concentration: _,
-            load: _,
-        } => rate,
-    }
+    nitrification.unwrap_or_default().rate
 }
 
 // The source of a demand of a reach.
@@ -65,11 +48,7 @@ pub fn source_of(demand: Demand, card: Card) -> Source
             concentration: card.inflow_bod,
             load: card.load,
         },
-        Demand::Nitrogenous => {
-            let optionals = card.optionals;
-            let nitrification = optionals.nitrification;
-            nitrogenous_source(card.inflow, nitrification)
-        }
+        Demand::Nitrogenous => nitrogenous_source(card.inflow, card.optionals.nitrification),
     }
 }
 
@@ -79,11 +58,7 @@ pub fn rate_of(demand: Demand, card: Card) -> u32
 {
     match demand {
         Demand::Bod => card.k1,
-        Demand::Nitrogenous => {
-            let optionals = card.optionals;
-            let nitrification = optionals.nitrification;
-            nitrogenous_rate(nitrification)
-        }
+        Demand::Nitrogenous => nitrogenous_rate(card.optionals.nitrification),
     }
 }
 
@@ -92,5 +67,5 @@ pub fn source_mass(source: Source) -> u64
     requires { SourceInRange source }
     ensures { result ≡ source_mass source }
 {
-    (source.inflow as u64) * (source.concentration as u64) + 1_000 * (source.load as u64)
+    u64::from(source.inflow) * u64::from(source.concentration) + 1_000 * u64::from(source.load)
 }

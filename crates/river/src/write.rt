@@ -1,31 +1,25 @@
-// The check of a card that is to be written, and the answers of writing.
+// The check of a card that is to be written.
 ghost use Rattle.std.specs.Prelude.{◌≡◌};
-ghost use Rattle.river.specs.Write.{check_card, check_of};
+ghost use Rattle.river.specs.Write.{check_card};
 
 use crate::card::Card;
 use crate::put::optionals_in_range;
 use crate::range::{in_range, outlet_ok};
-use crate::refusal::{Outcome, Refusal, refuse};
-
-// What writing answers: the file's length, or a refusal.
-#[derive(Clone, Copy)]
-pub enum Written {
-    Length(usize),
-    Refused(Refusal),
-}
+use crate::refusal::{Refusal, Rule};
 
 // The card of reach i of n: refusals 4 and 5, then 4 for the records that follow its `RE` record.
-pub fn check_card(c: Card, n: u8, i: u8) -> Outcome
-    ensures { result ≡ check_of (check_card n i c) }
+#[tactic(auto, unfolding(crate::specs::Write::check_card, crate::specs::Refusal::need))]
+pub fn check_card(c: Card, n: u8, i: u8) -> Result<(), Refusal>
+    ensures { result ≡ check_card n i c }
 {
     if !in_range(c) {
-        return Outcome::Refused(refuse(4, i));
+        return Err(Rule::FieldRange.at(i));
     }
     if !outlet_ok(n, i, c.outlet) {
-        return Outcome::Refused(refuse(5, i));
+        return Err(Rule::WrongOutlet.at(i));
     }
     if !optionals_in_range(c) {
-        return Outcome::Refused(refuse(4, i));
+        return Err(Rule::FieldRange.at(i));
     }
-    Outcome::Accepted
+    Ok(())
 }

@@ -4,7 +4,7 @@
 use Prim.Native.Nat.{ℕ, ◌*◌}
 use Prim.Native.Char.{code}
 use mathlib.Core.Logic.{◌⊎◌, inl, inr}
-use mathlib.Core.Option.{none, some}
+use Rattle.std.specs.Prelude.{Option, Some, None}
 use mathlib.Core.Path.{◌≡◌, refl, ap, ◌∙◌}
 use mathlib.Core.Bool.{Bool, true, ◌&&◌}
 use mathlib.Core.List.{[], ◌∷◌}
@@ -14,7 +14,7 @@ use Rattle.river.specs.Described.{Described, kind_of}
 use Rattle.river.specs.Fields.{one, four, eight, up_to, any, between}
 use Rattle.river.specs.Optional.{Kind}
 use Rattle.river.proofs.Answers.{both, both_true}
-use Rattle.river.proofs.card.Described.{Lawful, Made, sound}
+use Rattle.river.proofs.card.Described.{Lawful, sound}
 use Rattle.river.proofs.card.Optional.{Present, Sound}
 
 -- a kind with one more rule on its values, for a range that depends on another number
@@ -53,34 +53,33 @@ sound_ruled k rule law free =
           back = λ post r. p.back post (both_true r).left;
         })
 
--- the foot of a branch, if there is one
-pub data Foot : Type 0 where
-  nowhere : Foot
-  foot : (flow bod nitrogenous oxygen mass depth : ℕ) → Foot
+-- the foot of a branch
+pub record Foot : Type 0 where
+  pub flow : ℕ
+  pub bod : ℕ
+  pub nitrogenous : ℕ
+  pub oxygen : ℕ
+  pub mass : ℕ
+  pub depth : ℕ
 
 -- the `FE` record
 abbrev pub FE : Described
 FE =
     record {
       Value = Foot;
-      absent = nowhere;
       mark = mark (code "F") (code "E");
       fields = between four 1 100_000_000 ∷ up_to four 1_000_000_000 ∷ up_to four 1_000_000_000 ∷ up_to four 20_000_000 ∷ any eight ∷ between one 1 127 ∷ [];
-      make = foot;
-      numbers = λ v. elim v [ nowhere ↦ none | foot f b n o m d ↦ some (f, (b, (n, (o, (m, (d, tt)))))) ];
+      make = λ f b n o m d. record { flow = f; bod = b; nitrogenous = n; oxygen = o; mass = m; depth = d };
+      numbers = λ v. (v.flow, (v.bod, (v.nitrogenous, (v.oxygen, (v.mass, (v.depth, tt))))));
     }
 
-cases_foot : (v : Foot) → (v ≡ nowhere) ⊎ Made FE v
-cases_foot nowhere = inl refl
-cases_foot (foot f b n o m d) = inr (record { from = (f, (b, (n, (o, (m, (d, tt)))))); numbers = refl; value = refl })
-
 lawful_foot : Lawful FE
-lawful_foot = record { fits = refl; absent = refl; cases = cases_foot; numbers = λ ns h. refl }
+lawful_foot = record { fits = refl; value = λ v. refl; numbers = λ ns h. refl }
 
 -- M is at most 1,000,000 × flow
-unfoldable pub mass_rule : Foot → Bool
-mass_rule nowhere = true
-mass_rule (foot f b n o m d) = leb m (1_000_000 * f)
+unfoldable pub mass_rule : Option Foot → Bool
+mass_rule None = true
+mass_rule (Some foot) = leb foot.mass (1_000_000 * foot.flow)
 
 -- THEOREM: `FE` records have 27 bytes and are sound
 pub size_foot : (kind_of FE).size ≡ 27

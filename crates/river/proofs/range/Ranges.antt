@@ -12,9 +12,9 @@ use borrow.Author.Tests.{le-leb, leb-true, ltb-true, eq-eqb, eqb-true, ne_eqb}
 use Rattle.river.specs.Card.{FieldsInRange, RegularNitrification, RegularOptionals, with_nitrification, without_rate, without_rates, field_records, fields_of, RatesInRange, rates_in_range, LawfulCard, EachFrom, Each, blank, optional, optional_of, in_range, count_ok, outlet_ok}
 use Rattle.river.specs.Optional.{AllInRange, optionals_in_range}
 use Rattle.river.specs.Source.{nitrogenous_rate}
+use Rattle.std.specs.Prelude.{Option, Some, None}
 use Rattle.river.specs.declared.card.Card.{Card}
 use Rattle.river.specs.declared.card.Nitrification.{Nitrification}
-use Rattle.river.specs.declared.card.Nitrification.TheVariants.{Nitrifying}
 use Rattle.river.specs.declared.card.Optionals.{Optionals}
 use Rattle.river.specs.Described.{InRange}
 use Rattle.river.specs.Records.{DM, rate_most, NT, BP, SD}
@@ -72,13 +72,13 @@ true_rates_in_range c e =
     record { k1 = leb-true _ _ a.left; k2 = leb-true _ _ b.left; nitrogenous = leb-true _ _ b.right }
 
 -- a nitrification is in range exactly where it is regular and its rate is in range
-regular_in_range : (n : Nitrification) → RegularNitrification n → nitrogenous_rate n ≤ rate_most → InRange NT n
-regular_in_range Nitrification.Absent h r = tt
-regular_in_range (Nitrifying rate c l) h r = (record { least = zero-le; most = r }, h.1)
+regular_in_range : (n : Option Nitrification) → RegularNitrification n → nitrogenous_rate n ≤ rate_most → InRange NT n
+regular_in_range None h r = tt
+regular_in_range (Some n) h r = (record { least = zero-le; most = r }, h.1)
 
-in_range_regular : (n : Nitrification) → InRange NT n → RegularNitrification n × (nitrogenous_rate n ≤ rate_most)
-in_range_regular Nitrification.Absent h = (tt, zero-le)
-in_range_regular (Nitrifying rate c l) h = ((record { least = zero-le; most = zero-le }, h.1), h.0.most)
+in_range_regular : (n : Option Nitrification) → InRange NT n → RegularNitrification n × (nitrogenous_rate n ≤ rate_most)
+in_range_regular None h = (tt, zero-le)
+in_range_regular (Some n) h = ((record { least = zero-le; most = zero-le }, h.1), h.0.most)
 
 -- what regular optional fields tell of one of them
 pub regular_pressure : {o : Optionals} → RegularOptionals o → InRange BP o.pressure
@@ -91,10 +91,10 @@ pub regular_nitrification : {o : Optionals} → RegularOptionals o → RegularNi
 regular_nitrification {o} h = true_in_range_lem NT (without_rate o.nitrification) h.in_range.1.1.1.0
 
 -- another nitrification in range leaves optional fields in range, and so it does regular ones
-exchanged : (o : Optionals) (n : Nitrification) → InRange NT n → AllInRange field_records (fields_of o) → AllInRange field_records (fields_of (with_nitrification n o))
+exchanged : (o : Optionals) (n : Option Nitrification) → InRange NT n → AllInRange field_records (fields_of o) → AllInRange field_records (fields_of (with_nitrification n o))
 exchanged o n h r = (r.0, (r.1.0, (r.1.1.0, (in_range_true_lem NT n h, r.1.1.1.1))))
 
-pub regular_with : {n : Nitrification} {o : Optionals} → RegularNitrification n → RegularOptionals o → RegularOptionals (with_nitrification n o)
+pub regular_with : {n : Option Nitrification} {o : Optionals} → RegularNitrification n → RegularOptionals o → RegularOptionals (with_nitrification n o)
 regular_with {n} {o} h r = record { in_range = exchanged (without_rates o) (without_rate n) h r.in_range }
 
 -- the tests of a card hold exactly where it is lawful

@@ -1,128 +1,99 @@
--- Records that are read one behind the other: what is found at a place, what is read there, and what the records that are still due then answer.
+-- Records that are read one behind the other: what is read at a place, and what the records that are still due then answer.
 -- Assumes nothing.
 use Prim.Native.Nat.{ℕ, ◌+◌}
-use mathlib.Core.Path.{◌≡◌, refl, ap, sym, ◌∙◌}
+use mathlib.Core.Path.{◌≡◌, refl, sym, ◌∙◌}
 use mathlib.Core.List.{List, [], ◌∷◌}
-use mathlib.Core.Bool.{Bool, true, false}
+use mathlib.Core.Bool.{Bool, true, false, cond}
 use native.Mathlib.Nat.{add-zero}
 use native.Mathlib.Omega.{arith}
+use lib.Dec.{leb}
 use lib.ListN.{length, drop, length-append}
 use lib.Seq.{drop-drop}
-use lib.Dec.{leb}
-use Rattle.river.specs.Bytes.{marked}
+use Rattle.std.specs.Prelude.{Option, Some, None, Result, Ok, Err, IfOk}
+use Rattle.std.specs.Borrow.{Bor}
+use Rattle.std.specs.Fn.{Once}
+use Rattle.river.specs.Bytes.{Mark, marked}
+use Rattle.river.specs.Described.{Described, value_at, kind_of}
+use Rattle.river.specs.Fields.{numbers_at, all_within}
 use Rattle.river.specs.Optional.{Kind, Values, read_optional, read_optionals, encode_optionals}
-use Rattle.river.specs.Refusal.{Answer, accepted, refused, refuse, need, choose, after, outcome_of, go_on}
-use Rattle.river.specs.declared.read.Finding.{Finding}
-use Rattle.river.specs.declared.read.Place.{Place}
-use Rattle.river.specs.declared.refusal.Outcome.{Outcome}
-use Rattle.river.specs.held.Optionals.{find_at, Finds, ReadsOn}
-use Rattle.river.proofs.Answers.{never, no_refusal, need_true, need_false, choose_true, choose_false, after_all, after_after, after_refused, goes_on}
+use Rattle.river.specs.Refusal.{Answer, accepted, refused, need, choose, after}
+use Rattle.river.specs.declared.read.Taken.{Taken}
+use Rattle.river.specs.declared.refusal.Refusal.{Refusal}
+use Rattle.river.specs.declared.refusal.Rule.TheVariants.{CutShort, FieldRange}
+use Rattle.river.specs.held.Optionals.{Decodes, Takes, ReadsOn, decoded, in_range_at, found_in, length_if}
+use Rattle.river.proofs.Answers.{after_after}
+use Rattle.river.proofs.card.Described.{record_long}
 
--- an outcome with one value says what another makes of it
-carried : {A B : Type 0} (o : Outcome) (a : A) (b : B) (f : A → Answer B) → f a ≡ accepted b → outcome_of o b ≡ after (outcome_of o a) f
-unfolding after
-carried Outcome.Accepted a b f e = sym e
-carried (Outcome.Refused r) a b f e = refl
+-- What is read at a place.
 
-after_goes_on : {A B : Type 0} (o : Outcome) (x : Answer A) (f : A → Answer B) → after (go_on o x) f ≡ go_on o (after x f)
-unfolding after go_on
-after_goes_on Outcome.Accepted x f = refl
-after_goes_on (Outcome.Refused r) x f = refl
-
--- What is found at a place.
-
-module _ (k : Kind) (i : ℕ) (s : List ℕ) where
-  -- what a record comes to, once it is known whether it is there
-  abbrev once_found : Bool → Answer k.Value
-  once_found b = choose b (need (k.test s) 4 i (accepted (k.decode s))) (accepted k.none)
-
-  by_finding : read_optional k i s ≡ after (find_at k.mark k.size i s) once_found
-  unfolding read_optional find_at choose need after
-  by_finding = go (marked s k.mark) (leb k.size (length s))
+module _ (d : Described) where
+  -- what its decoder finds is what its kind reads
+  pub found_is : (i : ℕ) (s : List ℕ) → found_in d.mark (kind_of d).size i s (decoded d) ≡ read_optional (kind_of d) i s
+  unfolding found_in read_optional choose need
+  found_is i s = go (marked s d.mark) (leb (kind_of d).size (length s)) (all_within d.fields (numbers_at d.fields s 2))
     where
-      go : (a b : Bool) → choose a (need b 1 i (need (k.test s) 4 i (accepted (k.decode s)))) (accepted k.none) ≡ after (choose a (need b 1 i (accepted true)) (accepted false)) once_found
-      go true true = refl
-      go true false = refl
-      go false b = refl
+      go : (a b t : Bool) → choose a (need b CutShort i (in_range_at i (cond t (Some (value_at d s)) None))) (accepted None)
+          ≡ choose a (need b CutShort i (need t FieldRange i (accepted (Some (value_at d s))))) (accepted None)
+      go true true true = refl
+      go true true false = refl
+      go true false t = refl
+      go false b t = refl
 
-module _ (k : Kind) {i : ℕ} {s : List ℕ} {from : Place} {r : Finding} (h : Finds k.mark k.size i s from r) where
-  abbrev rest : List ℕ
-  rest = drop from.at s
+  -- its record has its length
+  length_is : (v : Option d.Value) → length_if (kind_of d).size v ≡ length ((kind_of d).encode v)
+  length_is None = refl
+  length_is (Some v) = sym (record_long d (d.numbers v))
 
-  -- the answer, by what was found
-  answers : (o : Outcome) (v : k.Value) → outcome_of o v ≡ after (outcome_of r.place.outcome r.found) (once_found k i rest) → outcome_of o v ≡ go_on from.outcome (read_optional k i rest)
-  answers o v e =
-      e ∙
-      ap (λ (x : Answer Bool). after x (once_found k i rest)) h.answer ∙
-      after_goes_on from.outcome _ _ ∙
-      ap (go_on from.outcome) (sym (by_finding k i rest))
+  -- a record that is taken by a decoder of the description is read
+  pub reads_on : {F : Type 0} {g : Once F (Bor (List ℕ) × Unit {0}) (Option d.Value)} {f : F} {size i : ℕ} {s : List ℕ} {at : ℕ} {r : Result (Taken (Option d.Value)) Refusal}
+      → size ≡ (kind_of d).size → Decodes g f (decoded d) → Takes g f d.mark size i s at r → ReadsOn (kind_of d) i s at r
+  reads_on {size = size} {i} {s} {at} {r} e decodes takes =
+      record { answer = takes.answer (decoded d) decodes ∙ rw e (found_is i (drop at s)); next = go r takes.next }
+    where
+      go : (r : Result (Taken (Option d.Value)) Refusal) → IfOk r (λ taken. taken.next ≡ at + length_if size taken.value) → IfOk r (λ taken. taken.next ≡ at + length ((kind_of d).encode taken.value))
+      go (Ok taken) h = h ∙ rw (e, length_is)
+      go (Err x) h = h
 
-  -- no record is there, or one was refused
-  pub unfound : r.found ≡ false → length (k.encode k.none) ≡ 0 → ReadsOn k i s from r.place k.none
-  unfound e l =
-      record {
-        answer = answers r.place.outcome k.none (carried r.place.outcome r.found k.none (once_found k i rest) (choose_false _ _ _ e));
-        next = λ a. h.next a ∙ rw (e, l);
-      }
+-- What a record with a mark and a length is taken as.
 
-  -- a record is there, and its fields are in range
-  pub found : {v : k.Value} → r.found ≡ true → k.test rest ≡ true → k.decode rest ≡ v → length (k.encode v) ≡ k.size → ReadsOn k i s from r.place v
-  found {v} e t d l =
-      record {
-        answer = answers r.place.outcome v (carried r.place.outcome r.found v (once_found k i rest) (choose_true _ _ _ e ∙ need_true _ _ _ _ t ∙ ap accepted d));
-        next = λ a. h.next a ∙ rw (e, l);
-      }
-
-  -- a record is there, and a field is out of range
-  pub found_out : {to : Place} {v : k.Value} → r.found ≡ true → k.test rest ≡ false → to ≡ record { outcome = Outcome.Refused (refuse 4 i); at = 0 } → ReadsOn k i s from to v
+module _ {F A : Type 0} {g : Once F (Bor (List ℕ) × Unit {0}) (Option A)} {f : F} {m : Mark} {size i at : ℕ} {s rest : List ℕ} {r : Answer (Option A)}
+    (behind : rest ≡ drop at s) (answer : (decode : List ℕ → Option A) → Decodes g f decode → r ≡ found_in m size i rest decode) where
+  pub taken : {v : Option A} {next : ℕ} → r ≡ accepted v → next ≡ at + length_if size v → Takes g f m size i s at (Ok (record { value = v; next = next }))
   unfolding after
-  found_out {to} {v} e t p =
-      record {
-        answer = answers to.outcome v (rw (p, h.there e) (sym (choose_true _ _ _ e ∙ need_false _ _ _ _ t)));
-        next = λ a. no_refusal (sym a ∙ ap (λ (q : Place). q.outcome) p);
-      }
+  taken e n = record { answer = λ decode d. sym e ∙ rw behind at (answer decode d); next = n }
+
+  pub not_taken : {x : Refusal} {y : Result (Taken (Option A)) Refusal} → r ≡ refused x → y ≡ Err x → Takes g f m size i s at y
+  unfolding after
+  not_taken e n = rw n (record { answer = λ decode d. sym e ∙ rw behind at (answer decode d); next = tt })
 
 -- Records that are due.
 
--- an answer is the refusal of the records before a place, or that of the kinds which are still due there; behind all of them is the place that
--- their lengths lead to
-pub record Due {A : Type 0} (x : Answer A) (ks : List Kind) (i : ℕ) (s : List ℕ) (p : Place) (f : Values ks → Answer A) (behind : Values ks → ℕ) : Type 0 where
-  pub is : x ≡ go_on p.outcome (after (read_optionals ks i (drop p.at s)) f)
-  pub leads : p.outcome ≡ Outcome.Accepted → (vs : Values ks) → p.at + length (encode_optionals ks vs) ≡ behind vs
+-- an answer is that of the kinds which are still due at a place; behind all of them is the place that their lengths lead to
+pub record Due {A : Type 0} (x : Answer A) (ks : List Kind) (i : ℕ) (s : List ℕ) (at : ℕ) (f : Values ks → Answer A) (behind : Values ks → ℕ) : Type 0 where
+  pub is : x ≡ after (read_optionals ks i (drop at s)) f
+  pub leads : (vs : Values ks) → at + length (encode_optionals ks vs) ≡ behind vs
 
 -- all of them
-pub all_due : (ks : List Kind) (i : ℕ) (s : List ℕ) (at : ℕ) → Due (read_optionals ks i (drop at s)) ks i s (record { outcome = Outcome.Accepted; at = at }) accepted (λ vs. at + length (encode_optionals ks vs))
-unfolding go_on
-all_due ks i s at = record { is = sym (after_all (read_optionals ks i (drop at s))); leads = λ a vs. refl }
-
--- where a record was read, those before it were
-read_before : {A : Type 0} (x : Answer A) (v : A) (o p : Outcome) → outcome_of p v ≡ go_on o x → p ≡ Outcome.Accepted → o ≡ Outcome.Accepted
-unfolding go_on
-read_before x v Outcome.Accepted p e a = refl
-read_before x v (Outcome.Refused r) p e a = never (sym e ∙ ap (λ (q : Outcome). outcome_of q v) a)
+pub all_due : {A : Type 0} (ks : List Kind) (i : ℕ) (s : List ℕ) (at : ℕ) (f : Values ks → Answer A) → Due (after (read_optionals ks i (drop at s)) f) ks i s at f (λ vs. at + length (encode_optionals ks vs))
+all_due ks i s at f = record { is = refl; leads = λ vs. refl }
 
 -- what is read of the first of them decides what comes next: a refusal, or the records behind
-next_is : {A : Type 0} {x : Answer A} (k : Kind) (ks : List Kind) (i : ℕ) (s : List ℕ) (f : Values (k ∷ ks) → Answer A) (at to : ℕ) (o p : Outcome) (v : k.Value) → x ≡ go_on o (after (read_optionals (k ∷ ks) i (drop at s)) f)
-    → outcome_of p v ≡ go_on o (read_optional k i (drop at s)) → (p ≡ Outcome.Accepted → to ≡ at + length (k.encode v)) → x ≡ go_on p (after (read_optionals ks i (drop to s)) (λ vs. f (v, vs)))
-unfolding read_optionals go_on after
-next_is k ks i s f at to Outcome.Accepted Outcome.Accepted v d e b = d ∙ rw (← e, b refl, ← drop-drop (length (k.encode v)) at s) (after_after (read_optionals ks i _) _ f)
-next_is k ks i s f at to Outcome.Accepted (Outcome.Refused r) v d e b = d ∙ after_refused _ _ (after_refused _ _ (sym e))
-next_is k ks i s f at to (Outcome.Refused q) Outcome.Accepted v d e b = never (sym e)
-next_is k ks i s f at to (Outcome.Refused q) (Outcome.Refused r) v d e b = let same : q ≡ r = cc in d ∙ ap refused same
+module _ {A : Type 0} {x : Answer A} {k : Kind} {ks : List Kind} {i : ℕ} {s : List ℕ} {at : ℕ} {f : Values (k ∷ ks) → Answer A} {behind : Values (k ∷ ks) → ℕ} {r : Result (Taken k.Value) Refusal}
+    (read : ReadsOn k i s at r) where
+  pub next_due : {taken : Taken k.Value} → r ≡ Ok taken → Due x (k ∷ ks) i s at f behind → Due x ks i s taken.next (λ vs. f (taken.value, vs)) (λ vs. behind (taken.value, vs))
+  unfolding read_optionals after
+  next_due {taken} e due =
+      let h = rw e at read in
+      record {
+        is = due.is ∙ rw (← h.answer, h.next, ← drop-drop (length (k.encode taken.value)) at s) (after_after (read_optionals ks i _) _ f);
+        leads = λ vs. let before = due.leads (taken.value, vs) in omega (arith, h.next, length-append (k.encode taken.value) (encode_optionals ks vs), before);
+      }
 
-pub next_due : {A : Type 0} {x : Answer A} {k : Kind} {ks : List Kind} {i : ℕ} {s : List ℕ} {from to : Place} {f : Values (k ∷ ks) → Answer A} {behind : Values (k ∷ ks) → ℕ} {v : k.Value} → ReadsOn k i s from to v
-    → Due x (k ∷ ks) i s from f behind → Due x ks i s to (λ vs. f (v, vs)) (λ vs. behind (v, vs))
-next_due {k = k} {ks} {i} {s} {from} {to} {f} {behind} {v} read due =
-    record {
-      is = next_is k ks i s f from.at to.at from.outcome to.outcome v due.is read.answer read.next;
-      leads = λ a vs. let before = due.leads (read_before (read_optional k i (drop from.at s)) v from.outcome to.outcome read.answer a) (v, vs) in omega (arith, read.next a, length-append (k.encode v) (encode_optionals ks vs), before);
-    }
+  pub stops : {e : Refusal} → r ≡ Err e → Due x (k ∷ ks) i s at f behind → x ≡ refused e
+  unfolding read_optionals after
+  stops e due = let h = rw e at read in due.is ∙ rw (← h.answer)
 
 -- none of them
-module _ {A : Type 0} {x : Answer A} {i : ℕ} {s : List ℕ} {p : Place} {f : Values [] → Answer A} {behind : Values [] → ℕ} (due : Due x [] i s p f behind) where
-  pub none_due : (a : A) → f tt ≡ accepted a → outcome_of p.outcome a ≡ x
-  unfolding read_optionals after
-  none_due a e = sym (due.is ∙ ap (go_on p.outcome) e ∙ goes_on p.outcome a)
-
-  pub place_behind : p.outcome ≡ Outcome.Accepted → p.at ≡ behind tt
-  place_behind a = sym (add-zero p.at) ∙ due.leads a tt
+pub none_due : {A : Type 0} {x : Answer A} {i : ℕ} {s : List ℕ} {at : ℕ} {f : Values [] → Answer A} {behind : Values [] → ℕ} → Due x [] i s at f behind → (x ≡ f tt) × (at ≡ behind tt)
+unfolding read_optionals after
+none_due due = (due.is, sym (add-zero _) ∙ due.leads tt)

@@ -2,7 +2,7 @@
 -- Assumes nothing.
 use Prim.Native.Nat.{ℕ, ◌%◌, ◌≤◌}
 use mathlib.Core.Path.{◌≡◌, refl, ap, sym, subst, ◌∙◌}
-use mathlib.Core.List.{List, [], ◌∷◌, ◌++◌}
+use mathlib.Core.List.{List, ◌∷◌, ◌++◌}
 use mathlib.Core.Bool.{true}
 use native.Mathlib.Nat.{div-add-mod', mod-eq_of_lt}
 use native.Mathlib.Omega.{arith}
@@ -10,17 +10,14 @@ use lib.ListN.{length, drop}
 use lib.Seq.{drop_at}
 use borrow.Author.Tests.{le-leb, leb-true}
 use Rattle.river.specs.Bytes.{AreBytes, byte_at}
-use Rattle.river.specs.Card.{RatesInRange, LawfulCard, RE, optional, optional_of, values_of, blank, in_range, outlet_ok, size_of}
-use Rattle.river.specs.Optional.{Values, absent, read_optional, read_optionals, encode_optionals}
+use Rattle.river.specs.Card.{RatesInRange, LawfulCard, RE, optional, optional_of, in_range, outlet_ok, size_of}
+use Rattle.river.specs.Optional.{Values, absent, encode_optionals}
 use Rattle.river.specs.Read.{card_at, read_reach}
 use Rattle.river.specs.Records.{rate_most}
-use Rattle.river.specs.Refusal.{accepted, choose, after, outcome_of}
+use Rattle.river.specs.Refusal.{accepted}
 use Rattle.river.specs.Write.{encode_reach, encode_card}
 use Rattle.river.specs.declared.card.Card.{Card}
-use Rattle.river.specs.declared.card.Dam.{Dam}
-use Rattle.river.specs.declared.card.Optionals.{Optionals}
-use Rattle.river.specs.declared.refusal.Outcome.{Outcome}
-use Rattle.river.proofs.Answers.{never, need_true, after_accepted, passed, went}
+use Rattle.river.proofs.Answers.{need_true, after_accepted, passed, went}
 use Rattle.river.proofs.bytes.Numbers.{HasMark, true_marked, two_bytes_two_at, narrow_bytes_two_at, four_bytes_four_at, four_at_below, bytes_from, leads_spelled, leads_more, are_bytes_drop}
 use Rattle.river.proofs.range.Ranges.{in_range_true, lawful_card, lawful_optionals}
 use Rattle.river.proofs.card.Optional.{unmarked, AreOptionals, read_optionals_encode, read_optionals_are}
@@ -30,12 +27,6 @@ use Rattle.river.proofs.card.Rows.{sound_optional, length_encode_card}
 pub in_range_card_at : (s : List ℕ) (vs ws : Values optional) → in_range (card_at s vs) ≡ in_range (card_at s ws)
 unfolding in_range card_at
 in_range_card_at s vs ws = refl
-
--- where no byte is, no record is found and every number is zero
-pub blank_is : (o : Outcome) (d : Dam) (x : Optionals) {c : Card} → outcome_of o (values_of d x) ≡ read_optionals optional 0 [] → c ≡ card_at (0 ∷ []) (values_of d x) → c ≡ blank
-unfolding card_at read_optionals read_optional choose after
-blank_is Outcome.Accepted d x e f = let same : values_of d x ≡ absent optional = cc in f ∙ ap (card_at (0 ∷ [])) same
-blank_is (Outcome.Refused r) d x e f = never e
 
 -- Reading what was encoded.
 

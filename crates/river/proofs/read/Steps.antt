@@ -4,20 +4,20 @@ use Prim.Native.Nat.{ℕ, ◌≤◌}
 use mathlib.Core.Path.{◌≡◌, ap, sym, ◌∙◌}
 use mathlib.Core.List.{List}
 use lib.ListN.{length, drop}
+use Rattle.std.specs.Prelude.{Option, Result, Err}
 use Rattle.river.specs.Bytes.{two_at}
 use Rattle.river.specs.Card.{header_bytes}
 use Rattle.river.specs.Optional.{read_optional}
 use Rattle.river.specs.Read.{read_header, read_reaches, read_rest, read_file}
 use Rattle.river.specs.held.Reader.{YieldsReach}
-use Rattle.river.specs.Refusal.{Answer, accepted, refused, after, outcome_of}
+use Rattle.river.specs.Refusal.{Answer, accepted, refused, after}
 use Rattle.river.specs.River.{river_of}
 use Rattle.river.specs.Records.{factors_record}
 use Rattle.river.specs.declared.card.Card.{Card}
 use Rattle.river.specs.declared.card.RateFactors.{RateFactors}
-use Rattle.river.specs.declared.read.ReachRead.{ReachRead}
-use Rattle.river.specs.declared.refusal.Outcome.{Outcome}
+use Rattle.river.specs.declared.read.Taken.{Taken}
 use Rattle.river.specs.declared.refusal.Refusal.{Refusal}
-use Rattle.river.proofs.Answers.{no_refusal, after_accepted, after_refused, passed}
+use Rattle.river.proofs.Answers.{after_accepted, after_refused, passed}
 use Rattle.river.proofs.range.Ranges.{true_count_ok}
 
 -- a file by its header
@@ -37,7 +37,7 @@ unfolding read_file
 header_refuses s e = after_refused _ _ e
 
 -- what follows the header by the rate factors
-pub rest_reaches : (n : ℕ) (s : List ℕ) {f : RateFactors} → read_optional factors_record 0 s ≡ accepted f
+pub rest_reaches : (n : ℕ) (s : List ℕ) {f : Option RateFactors} → read_optional factors_record 0 s ≡ accepted f
     → read_rest n s ≡ after (read_reaches n 1 n (drop (length (factors_record.encode f)) s)) (λ cs. accepted (river_of f cs))
 unfolding read_rest
 rest_reaches n s e = after_accepted _ _ e
@@ -47,5 +47,6 @@ unfolding read_rest
 factors_refuse n s e = after_refused _ _ e
 
 -- a reach that is refused, at any position
-pub refuses : {at : ℕ} {a : Answer Card} {x : ReachRead} {r : Refusal} → x.outcome ≡ Outcome.Refused r → a ≡ refused r → YieldsReach at a x
-refuses {x = x} e f = record { answer = ap (λ (o : Outcome). outcome_of o x.card) e ∙ sym f; place = λ g. no_refusal (sym g ∙ e) }
+pub refuses : {at : ℕ} {a : Answer Card} {x : Result (Taken Card) Refusal} {r : Refusal} → a ≡ refused r → x ≡ Err r → YieldsReach at a x
+unfolding after
+refuses e f = rw f (record { answer = sym e; place = tt })

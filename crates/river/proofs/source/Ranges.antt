@@ -4,9 +4,9 @@ use Prim.Native.Nat.{ℕ, ◌≤◌, zero-le}
 use native.Mathlib.Nat.{mul-le-mul}
 use native.Mathlib.Omega.{arith}
 use lib.Dec.{lit<}
+use Rattle.std.specs.Prelude.{Option, Some, None}
 use Rattle.river.specs.declared.card.Card.{Card}
 use Rattle.river.specs.declared.card.Nitrification.{Nitrification}
-use Rattle.river.specs.declared.card.Nitrification.TheVariants.{Nitrifying}
 use Rattle.river.specs.declared.source.Demand.{Demand}
 use Rattle.river.specs.declared.source.Demand.TheVariants.{Bod, Nitrogenous}
 use Rattle.river.specs.declared.source.Source.{Source}
@@ -16,18 +16,18 @@ use Rattle.river.specs.Source.{nitrogenous_source, source_of, rate_of, source_ma
 use Rattle.river.proofs.range.Ranges.{regular_nitrification}
 
 -- every demand comes in with the inflow of the reach
-nitrogenous_inflow : (inflow : ℕ) (n : Nitrification) → (nitrogenous_source inflow n).inflow ≡ inflow
-nitrogenous_inflow inflow Nitrification.Absent = refl
-nitrogenous_inflow inflow (Nitrifying rate concentration load) = refl
+nitrogenous_inflow : (inflow : ℕ) (n : Option Nitrification) → (nitrogenous_source inflow n).inflow ≡ inflow
+nitrogenous_inflow inflow None = refl
+nitrogenous_inflow inflow (Some n) = refl
 
 pub source_inflow : (d : Demand) (c : Card) → (source_of d c).inflow ≡ c.inflow
 source_inflow Bod c = refl
 source_inflow Nitrogenous c = nitrogenous_inflow c.inflow c.optionals.nitrification
 
 -- the source of nitrogenous BOD is in range
-nitrogenous_in_range : (inflow : ℕ) (n : Nitrification) → inflow ≤ 100_000_000 → RegularNitrification n → SourceInRange (nitrogenous_source inflow n)
-nitrogenous_in_range inflow Nitrification.Absent i h = record { inflow = i; concentration = zero-le; load = lit< tt }
-nitrogenous_in_range inflow (Nitrifying rate concentration load) i h = record { inflow = i; concentration = h.1.0.most; load = omega (arith, h.1.1.0.most) }
+nitrogenous_in_range : (inflow : ℕ) (n : Option Nitrification) → inflow ≤ 100_000_000 → RegularNitrification n → SourceInRange (nitrogenous_source inflow n)
+nitrogenous_in_range inflow None i h = record { inflow = i; concentration = zero-le; load = lit< tt }
+nitrogenous_in_range inflow (Some n) i h = record { inflow = i; concentration = h.1.0.most; load = omega (arith, h.1.1.0.most) }
 
 pub sources_in_range : {n i : ℕ} {c : Card} → RegularCard n i c → SourcesInRange c
 sources_in_range {c = c} h = record { each = each }

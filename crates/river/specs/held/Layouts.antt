@@ -1,7 +1,6 @@
 -- What a layout of the program describes: a record of one number.
 use Rattle.std.specs.Prelude.{Bool, true, false}
 use Rattle.river.specs.declared.card.Layout.{Layout}
-use Rattle.river.specs.Bytes.{mark}
 use Rattle.river.specs.Described.{Described, kind_of}
 use Rattle.river.specs.Fields.{Width, two, four, between}
 use Rattle.river.specs.Optional.{Kind}
@@ -13,7 +12,7 @@ width_of true = four
 width_of false = two
 
 abbrev pub described : Layout → Described
-described l = amount (mark l.first l.second) (between (width_of l.wide) l.least l.most)
+described l = amount l.mark (between (width_of l.wide) l.least l.most)
 
 abbrev pub amount_record : Layout → Kind
 amount_record l = kind_of (described l)

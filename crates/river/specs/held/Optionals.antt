@@ -1,51 +1,50 @@
--- The optional records of a card as the program reads and puts them, one behind the other.
-use Rattle.std.specs.Prelude.{◌≡◌, Bool, true, false, ◌&&◌, cond, List, ℕ, ◌+◌, length, drop, leb}
-use Rattle.river.specs.declared.card.Card.{Card}
-use Rattle.river.specs.declared.put.Spelled.{Spelled}
-use Rattle.river.specs.declared.read.Finding.{Finding}
-use Rattle.river.specs.declared.read.OptionalsRead.{OptionalsRead}
-use Rattle.river.specs.declared.read.Place.{Place}
-use Rattle.river.specs.declared.refusal.Outcome.{Outcome}
-use Rattle.river.specs.Bytes.{Mark, marked, Put}
-use Rattle.river.specs.Card.{reach_bytes, optional, optional_of, values_of}
-use Rattle.river.specs.Optional.{Kind, read_optionals, read_optional, encode_optionals, optionals_in_range}
-use Rattle.river.specs.Refusal.{Answer, accepted, need, choose, outcome_of, go_on}
+-- The optional records of a card as the program reads them, one behind the other.
+use Rattle.std.specs.Prelude.{◌≡◌, Result, IfOk, Option, Some, None, cond, List, ℕ, ◌+◌, length, drop, leb}
+use Rattle.river.specs.declared.read.Taken.{Taken}
+use Rattle.river.specs.declared.refusal.Refusal.{Refusal}
+use Rattle.river.specs.declared.refusal.Rule.TheVariants.{CutShort, FieldRange}
+use Rattle.std.specs.Borrow.{Bor}
+use Rattle.std.specs.Fn.{Once}
+use Rattle.river.specs.Described.{Described, value_at}
+use Rattle.river.specs.Fields.{numbers_at, all_within}
+use Rattle.river.specs.Bytes.{Mark, marked}
+use Rattle.river.specs.Optional.{Kind, read_optional}
+use Rattle.river.specs.Refusal.{Answer, accepted, refused, refuse, need, choose, after}
 
--- whether a record with a mark and a length is at the start of the bytes: 1 at reach i where they end within it
-unfoldable pub find_at : Mark → ℕ → ℕ → List ℕ → Answer Bool
-find_at m size i s = choose (marked s m) (need (leb size (length s)) 1 i (accepted true)) (accepted false)
+-- a decoder of records gives what a function of their bytes does
+abbrev pub Decodes : {F A : Type 0} → Once F (Bor (List ℕ) × Unit {0}) (Option A) → F → (List ℕ → Option A) → Type 0
+Decodes g f decoded = (b : Bor (List ℕ)) (v : _) → g.post f (b, tt) v → v ≡ decoded b.now
 
--- a record is looked for at a place: the refusal of those before, or whether it is there, and the place behind it
-pub record Finds (m : Mark) (size i : ℕ) (s : List ℕ) (from : Place) (r : Finding) : Type 0 where
-  pub answer : outcome_of r.place.outcome r.found ≡ go_on from.outcome (find_at m size i (drop from.at s))
-  pub there : r.found ≡ true → r.place.outcome ≡ Outcome.Accepted
-  pub next : r.place.outcome ≡ Outcome.Accepted → r.place.at ≡ from.at + cond r.found size 0
+-- the value in the bytes of a described record, if its numbers are in range
+abbrev pub decoded : (d : Described) → List ℕ → Option d.Value
+decoded d s = cond (all_within d.fields (numbers_at d.fields s 2)) (Some (value_at d s)) None
 
--- a record is read at a place: the refusal of those before, or its own, or its value, and the place behind it
-pub record ReadsOn (k : Kind) (i : ℕ) (s : List ℕ) (from to : Place) (v : k.Value) : Type 0 where
-  pub answer : outcome_of to.outcome v ≡ go_on from.outcome (read_optional k i (drop from.at s))
-  pub next : to.outcome ≡ Outcome.Accepted → to.at ≡ from.at + length (k.encode v)
+module _ {A : Type 0} where
+  -- a value that was decoded is accepted, and a record without one is out of range at reach i
+  abbrev pub in_range_at : ℕ → Option A → Answer (Option A)
+  in_range_at i None = refused (refuse FieldRange i)
+  in_range_at i (Some v) = accepted (Some v)
 
--- the records behind an `RE` record are read
-pub record ReadsOptionals (i : ℕ) (s : List ℕ) (r : OptionalsRead) : Type 0 where
-  pub answer : outcome_of r.place.outcome (values_of r.dam r.optionals) ≡ read_optionals optional i (drop reach_bytes s)
-  pub next : r.place.outcome ≡ Outcome.Accepted → r.place.at ≡ reach_bytes + length (encode_optionals optional (values_of r.dam r.optionals))
+  -- the answer for the record with a mark and a length at the start of the bytes, by a decoder: cut short at reach i where they end within it
+  unfoldable pub found_in : Mark → ℕ → ℕ → List ℕ → (List ℕ → Option A) → Answer (Option A)
+  found_in m size i s decode =
+      choose (marked s m) (need (leb size (length s)) CutShort i (in_range_at i (decode s))) (accepted None)
 
--- bytes are put behind others, and fields are in range beside others
-pub record Adds (bytes : List ℕ) (fits : Bool) (before : List ℕ) (from : Spelled) (exit : List ℕ) (to : Spelled) : Type 0 where
-  pub put : Put before from.next bytes exit to.next
-  pub in_range : to.in_range ≡ (from.in_range && fits)
+  -- the length of a record, if there is one
+  abbrev pub length_if : ℕ → Option A → ℕ
+  length_if size None = 0
+  length_if size (Some v) = size
 
--- the record of a value is put
-abbrev pub Spells : (k : Kind) → k.Value → List ℕ → Spelled → List ℕ → Spelled → Type 0
-Spells k v = Adds (k.encode v) (k.in_range v)
+-- what was taken, without the place behind it
+abbrev pub value_of : {A : Type 0} → Result (Taken A) Refusal → Answer A
+value_of r = after r (λ taken. accepted taken.value)
 
--- the records behind an `RE` record are put, and told to be in range or not
-pub record SpellsOptionals (c : Card) (before : List ℕ) (at : ℕ) (exit : List ℕ) (r : Spelled) : Type 0 where
-  pub put : Put before at (encode_optionals optional (optional_of c)) exit r.next
-  pub in_range : r.in_range ≡ optionals_in_range optional (optional_of c)
+-- a record with a mark and a length is taken at a place, by a decoder: its refusal, or its value, and the place behind it
+pub record Takes {F A : Type 0} (g : Once F (Bor (List ℕ) × Unit {0}) (Option A)) (f : F) (m : Mark) (size i : ℕ) (s : List ℕ) (at : ℕ) (r : Result (Taken (Option A)) Refusal) : Type 0 where
+  pub answer : (decode : List ℕ → Option A) → Decodes g f decode → value_of r ≡ found_in m size i (drop at s) decode
+  pub next : IfOk r (λ taken. taken.next ≡ at + length_if size taken.value)
 
--- their length, and whether they are in range
-pub record Measured (c : Card) (r : Spelled) : Type 0 where
-  pub size : r.next ≡ length (encode_optionals optional (optional_of c))
-  pub in_range : r.in_range ≡ optionals_in_range optional (optional_of c)
+-- a record is read at a place: its refusal, or its value, and the place behind it
+pub record ReadsOn (k : Kind) (i : ℕ) (s : List ℕ) (at : ℕ) (r : Result (Taken k.Value) Refusal) : Type 0 where
+  pub answer : value_of r ≡ read_optional k i (drop at s)
+  pub next : IfOk r (λ taken. taken.next ≡ at + length (k.encode taken.value))

@@ -1,21 +1,43 @@
--- `river::rewrite::rewrite` meets its contract: the laws of proofs/RoundTrip over what reading and writing yield. That the file's elements are bytes comes from its slice.
+-- `river::rewrite::rewrite` meets its contract: the laws of proofs/RoundTrip over what reading and writing yield. That the file's elements are bytes
+-- comes from its slice.
 -- Assumes nothing.
-use Rattle.std.proofs.Common.{ap}
+use Rattle.std.proofs.Common.{arith, rules, refl, ◌≡◌, ℕ, List, length}
+use Rattle.std.proofs.Math.Seq.{length-take-le}
+use Rattle.river.specs.Card.{card_list}
+use Rattle.river.specs.File.{river_read}
+use Rattle.river.specs.Write.{Writes}
+use Rattle.river.specs.Rewrite.{WritesBack}
 use Rattle.river.specs.Bytes.{AreBytes}
+use Rattle.river.specs.Refusal.{Answer, refused}
+use Rattle.river.proofs.Answers.{after_accepted, after_refused}
 use Rattle.river.proofs.RoundTrip.{end_of, refused_back, written_back}
 use Rattle.river.proofs.rewrite.rewrite.Goals as goal
-use Rattle.river.proofs.rewrite.rewrite.Goals.{After-read_file-reading}
+use Rattle.river.proofs.rewrite.rewrite.Goals.{In_ok-reading}
 
-bytes : (c : After-read_file-reading) → AreBytes c.args.file.now
-bytes c = record { below = λ k. (c.type_inv.file k).fits }
+pub returns-in_err-reading : goal.returns-in_err-reading
+returns-in_err-reading c =
+    let bytes : AreBytes c.args.file.now = record { below = λ k. search rules } in
+    let same : c.from_residual.result ≡ refused c.in_err-reading.field-0.0 = search rules in
+    rw same (refused_back bytes c.read_file.ensures c.in_err-reading.was)
 
-pub returns-in_default : goal.returns-in_default
-returns-in_default c = refused_back (bytes ((goal.at.returns-in_default c).After-read_file-reading)) c.read_file-reading.ensures c.in_default.is
+-- the cards of a reading are as many as it counts
+counted : (c : In_ok-reading) → length (card_list c.in_ok-reading.reading.cards) ≡ c.in_ok-reading.reading.cards.count
+counted c =
+    let cards = c.in_ok-reading.reading.cards in
+    let full : length cards.at ≡ 128 = search rules in
+    length-take-le cards.count cards.at (omega (arith, c.in_ok-reading.ensures.few))
 
-pub returns-in-Length : goal.returns-in-Length
-returns-in-Length c =
-    written_back (bytes ((goal.at.returns-in-Length c).After-read_file-reading)) c.read_file-reading.ensures c.in-Accepted.is c.write_first.ensures (ap end_of c.in-Length.is)
+-- writing what was read ends as rewriting does
+ends : (c : In_ok-reading) {w : Answer ℕ} {o : Answer Unit} {exit : List ℕ} → Writes c.in_ok-reading.reading.cards.count (river_read c.in_ok-reading.reading) c.args.out.now w exit
+    → end_of w ≡ o → WritesBack c.args.file.now c.args.out.now o exit
+ends c writes end =
+    let bytes : AreBytes c.args.file.now = record { below = λ k. search rules } in
+    written_back bytes c.read_file.ensures c.in_ok-reading.was (rw (counted c) writes) end
 
-pub returns-in-Refused : goal.returns-in-Refused
-returns-in-Refused c =
-    written_back (bytes ((goal.at.returns-in-Refused c).After-read_file-reading)) c.read_file-reading.ensures c.in-Accepted.is c.write_first.ensures (ap end_of c.in-Refused.is)
+pub returns-in_err-write_cards : goal.returns-in_err-write_cards
+returns-in_err-write_cards c =
+    let same : c.from_residual-in_err-write_cards.result ≡ refused c.in_err-write_cards.field-0.0 = search rules in
+    rw same (ends ((goal.at.returns-in_err-write_cards c).In_ok-reading) c.in_err-write_cards.ensures (after_refused _ _ refl))
+
+pub returns : goal.returns
+returns c = ends ((goal.at.returns c).In_ok-reading) c.in_ok-write_cards.ensures (after_accepted _ _ refl)

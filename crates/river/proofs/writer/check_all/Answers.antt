@@ -1,34 +1,36 @@
 -- `river::writer::check_all` meets its contract: the tests before the cards, and then card after card.
 -- Assumes nothing.
-use Rattle.std.proofs.Common.{◌+◌, ◌-◌, ◌<◌, sym, subst}
+use Rattle.std.proofs.Common.{rules, sym}
 use Rattle.river.specs.River.{river_of}
-use Rattle.river.specs.Write.{check_card}
-use Rattle.river.specs.declared.writer.Checking.{Checking}
-use Rattle.river.proofs.writer.Lent.{CardsChecked, starts, near, next, fewer, all_checked, from_on, bytes_fit, below}
+use Rattle.river.proofs.writer.Lent.{from_on, refuses_count, refuses_factors, checks_none, refuses_card, checks_more, checks_all}
 use Rattle.river.proofs.writer.check_all.Goals as goal
 
-pub loop-s-init : goal.loop-s-init
-loop-s-init c = subst (CardsChecked (river_of c.args.factors c.args.cards.now)) (sym c.start-s.ensures) (starts (river_of c.args.factors c.args.cards.now))
+pub returns-then-not-count_ok : goal.returns-then-not-count_ok
+returns-then-not-count_ok c =
+    rw c.at.ensures (refuses_count (river_of c.args.factors c.args.cards.now) (sym c.if-not-count_ok.ensures))
 
-pub offset_bounds-cards-i : goal.offset_bounds-cards-i
-offset_bounds-cards-i c = record { fits = bytes_fit (below c.loop-s-test.true c.loop-s.invariant.few) }
+pub returns-then-not-factors_in_range : goal.returns-then-not-factors_in_range
+returns-then-not-factors_in_range c =
+    rw c.at-then-not-factors_in_range.ensures
+    (refuses_factors (river_of c.args.factors c.args.cards.now) (sym c.if-not-count_ok.ensures)
+    (sym c.if-not-factors_in_range.ensures))
 
-pub bounds-cards-i : goal.bounds-cards-i
-bounds-cards-i c = below c.loop-s-test.true c.loop-s.invariant.within
+pub loop-i-init : goal.loop-i-init
+loop-i-init c =
+    rw c.factors_size-length.ensures
+    (checks_none (river_of c.args.factors c.args.cards.now) (sym c.if-not-count_ok.ensures)
+    (sym c.if-not-factors_in_range.ensures))
 
-pub check_next-s-requires : goal.check_next-s-requires
-check_next-s-requires c = (c.loop-s-test.true, c.loop-s.invariant.few, near _ c.loop-s.invariant c.loop-s-test.true)
+pub returns-in_err-check_card : goal.returns-in_err-check_card
+returns-in_err-check_card c =
+    let here = from_on c.args.cards.now c.loop-i.i _ c.loop-i-test.true in
+    let stop = refuses_card _ c.loop-i.invariant here (sym c.in_err-check_card.ensures) in
+    search (rules, stop)
 
-pub loop-s-preserved : goal.loop-s-preserved
-loop-s-preserved c =
-    let x = river_of c.args.factors c.args.cards.now in
-    let here = below c.loop-s-test.true c.loop-s.invariant.within in
-    subst (CardsChecked x) (sym c.check_next-s.ensures) (next x c.loop-s.invariant c.loop-s-test.true (from_on c.args.cards.now c.loop-s.s.passed _ here))
-
-pub loop-s-smaller : goal.loop-s-smaller
-loop-s-smaller c =
-    let s = c.loop-s.s in
-    subst (λ (t : Checking). t.due - t.passed < s.due - s.passed) (sym c.check_next-s.ensures) (fewer s _ (check_card s.due (s.passed + 1) _) c.loop-s-test.true)
+pub loop-i-preserved : goal.loop-i-preserved
+loop-i-preserved c =
+    let here = from_on c.args.cards.now c.loop-i.i _ c.loop-i-test.true in
+    rw c.size_of-length.ensures (checks_more _ c.loop-i.invariant c.loop-i-test.true here (sym c.in_ok-check_card.ensures))
 
 pub returns : goal.returns
-returns c = all_checked _ c.loop-s.invariant c.loop-s-test.false
+returns c = checks_all _ c.loop-i.invariant c.loop-i-test.false

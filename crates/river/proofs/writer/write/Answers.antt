@@ -1,31 +1,27 @@
--- `river::writer::write` meets its contract: the opening, and then card after card.
+-- `river::writer::write` meets its contract: the first refusal of the river, or 12, or its file.
 -- Assumes nothing.
-use Rattle.std.proofs.Common.{arith}
+use Rattle.std.proofs.Common.{rules, sym}
 use Rattle.river.specs.River.{river_of}
-use Rattle.river.proofs.writer.Lent.{begins, room, more, ends, put_fewer, from_on, bytes_fit, below}
+use Rattle.river.proofs.write.Writing.{Passing, refuses_river, passing, refuses_room, writes}
 use Rattle.river.proofs.writer.write.Goals as goal
+use Rattle.river.proofs.writer.write.Goals.{In_ok-length}
 
-pub loop-p-init : goal.loop-p-init
-loop-p-init c = begins (river_of c.args.factors c.args.cards.now) c.args.out.now c.check_all.ensures c.put_start-p.ensures (omega arith)
+pub returns-in_err-length : goal.returns-in_err-length
+returns-in_err-length c =
+    let refused = refuses_river (river_of c.args.factors c.args.cards.now) c.args.out.now (sym c.in_err-length.ensures) in
+    search (rules, refused)
 
-pub offset_bounds-cards-i : goal.offset_bounds-cards-i
-offset_bounds-cards-i c = record { fits = bytes_fit (below c.loop-p-test.true c.loop-p.invariant.few) }
+-- the length of the file where the river passes
+pass : (c : In_ok-length) → Passing (river_of c.args.factors c.args.cards.now) c.args.out.now c.in_ok-length.length
+pass c = passing _ _ (sym c.in_ok-length.ensures)
 
-pub bounds-cards-i : goal.bounds-cards-i
-bounds-cards-i c = below c.loop-p-test.true c.loop-p.invariant.within
+pub returns-then-out-length : goal.returns-then-out-length
+returns-then-out-length c = rw c.at.ensures (refuses_room _ _ (pass ((goal.at.returns-then-out-length c).In_ok-length)) c.if-out-length.true)
 
-pub put_next-p-requires : goal.put_next-p-requires
-put_next-p-requires c =
-    let here = below c.loop-p-test.true c.loop-p.invariant.within in
-    (c.loop-p-test.true, room (river_of c.args.factors c.args.cards.now) c.args.out.now c.loop-p.invariant c.loop-p-test.true (from_on c.args.cards.now c.loop-p.p.put _ here))
-
-pub loop-p-preserved : goal.loop-p-preserved
-loop-p-preserved c =
-    let here = below c.loop-p-test.true c.loop-p.invariant.within in
-    more (river_of c.args.factors c.args.cards.now) c.args.out.now c.loop-p.invariant c.loop-p-test.true (from_on c.args.cards.now c.loop-p.p.put _ here) c.put_next-p.ensures (omega arith)
-
-pub loop-p-smaller : goal.loop-p-smaller
-loop-p-smaller c = put_fewer c.loop-p-test.true c.put_next-p.ensures
+pub put_all-requires : goal.put_all-requires
+put_all-requires c =
+    let p = pass ((goal.at.put_all-requires c).In_ok-length) in
+    record { few = p.few; room = rw p.size c.if-out-length.false }
 
 pub returns : goal.returns
-returns c = rw c.answer.ensures (ends (river_of c.args.factors c.args.cards.now) c.args.out.now c.loop-p.invariant c.loop-p-test.false)
+returns c = writes _ _ (pass ((goal.at.returns c).In_ok-length)) c.if-out-length.false c.put_all.ensures

@@ -1,2 +1,0 @@
--- Laws of records that are put.
-pub mod Spelling
