@@ -8,25 +8,24 @@ use Prim.Native.Nat.{ℕ, zero, suc, ◌<◌, ◌≤◌}
 use native.Mathlib.Nat.{le_refl, le_of_lt, le_of_suc-le-suc, eq-or-lt_of_le}
 use native.Mathlib.Omega.{arith}
 use lib.ListN.{length, get_or}
+use Rattle.std.specs.Prelude.{Result, IsErrAnd}
 use borrow.Author.Tests.{ne_eqb}
 use Rattle.river.specs.declared.card.Card.{Card}
-use Rattle.river.specs.declared.refusal.Outcome.{Outcome}
 use Rattle.river.specs.declared.file.Reading.{Reading}
 use Rattle.river.specs.declared.refusal.Refusal.{Refusal}
-use Rattle.flows.specs.declared.flow.FlowTable.{FlowTable}
-use Rattle.flows.specs.declared.flow.Checked.{Checked}
+use Rattle.flows.specs.declared.flow.ReachFlows.{ReachFlows}
 use Rattle.flows.specs.declared.accept.Acceptance.{Acceptance}
 use Rattle.river.specs.Bytes.{AreBytes}
 use Rattle.river.specs.declared.card.Cards.{Cards}
 use Rattle.river.specs.Card.{Lawful, Regular, card_list, blank}
-use Rattle.river.specs.Refusal.{accepted, refused, outcome_of}
+use Rattle.river.specs.Refusal.{accepted, refused, after}
 use Rattle.river.specs.Read.{read_file}
 use Rattle.river.specs.River.{LawfulRiver}
 use Rattle.flows.specs.Rates.{in_force}
 use Rattle.flows.specs.Flow.{above, feeders_among, joined_if, Flows, flow_check}
 use Rattle.flows.specs.Accept.{AcceptedFile, accept_file}
-use Rattle.flows.specs.held.Accepts.{Accepts}
-use Rattle.river.proofs.Answers.{no_refusal, after_accepted, after_refused, went}
+use Rattle.flows.specs.held.Accepts.{IsAccepted, Accepts}
+use Rattle.river.proofs.Answers.{after_accepted, after_refused, went}
 use Rattle.river.proofs.Files.{reads_lawful, reads_only_lawful}
 use Rattle.river.proofs.range.Ranges.{asked_at, last_outlet, later_outlet}
 use Rattle.flows.proofs.rates.InForce.{regular_in_force, regular_of_lawful, lawful_of_flows}
@@ -84,48 +83,44 @@ all_feeders {cards} h i l = from_all (length cards) (le_of_lt l) (le_refl (lengt
         (eq-or-lt_of_le a)
 
 -- the river of a reading is the answer where the reading is accepted
-was_read : (file : List ℕ) {r : Reading} → Reads file r → r.outcome ≡ Outcome.Accepted → read_file file ≡ accepted (river_read r)
-was_read file {r} h e = sym h.answer ∙ ap (λ (o : Outcome). outcome_of o (river_read r)) e
+was_read : (file : List ℕ) {r : Reading} → Reads file (accepted r) → read_file file ≡ accepted (river_read r)
+unfolding after
+was_read file h = sym h.answer
 
 -- the river that a reading of bytes accepts is lawful
-pub reading_lawful : {file : List ℕ} {r : Reading} → AreBytes file → Reads file r → r.outcome ≡ Outcome.Accepted → LawfulRiver (river_read r)
-reading_lawful {file} {r} b h e = (reads_only_lawful file (river_read r) b (was_read file h e)).lawful
+pub reading_lawful : {file : List ℕ} {r : Reading} → AreBytes file → Reads file (accepted r) → LawfulRiver (river_read r)
+reading_lawful {file} {r} b h = (reads_only_lawful file (river_read r) b (was_read file h)).lawful
 
 -- a refused reading is the answer
-pub reading_refused : {file : List ℕ} {r : Reading} {x : Refusal} (t : FlowTable) → Reads file r → r.outcome ≡ Outcome.Refused x → Accepts file (record { outcome = r.outcome; effective = r.cards; flows = t })
-unfolding accept_file
-reading_refused {file} {r} {x} t h e =
-    let read : read_file file ≡ refused x = sym h.answer ∙ ap (λ (o : Outcome). outcome_of o (river_read r)) e in
-    record {
-      answer = ap (λ (o : Outcome). outcome_of o (card_list r.cards)) e ∙ sym (after_refused _ _ read);
-      lawful = λ q. no_refusal (sym q ∙ e);
-      sound = λ q. no_refusal (sym q ∙ e);
-      tabled = λ q. no_refusal (sym q ∙ e);
-    }
+pub reading_refused : {file : List ℕ} {x : Refusal} {a : Result Acceptance Refusal} → Reads file (refused x) → IsErrAnd a (λ y. y ≡ x) → Accepts file a
+unfolding accept_file after
+reading_refused {a = accepted k} h e = absurd e
+reading_refused {a = refused y} h e = record { answer = rw e (sym (after_refused _ _ (sym h.answer))); sound = tt }
 
 -- a reading that is accepted goes on to the flow check of its cards with the rates in force
-module _ {file : List ℕ} {r : Reading} (cards : Cards) (b : AreBytes file) (h : Reads file r) (e : r.outcome ≡ Outcome.Accepted) (f : card_list cards ≡ in_force (river_read r)) where
+module _ {file : List ℕ} {r : Reading} (cards : Cards) (b : AreBytes file) (h : Reads file (accepted r)) (f : card_list cards ≡ in_force (river_read r)) where
   pub regular_read : Regular (card_list cards)
-  regular_read = rw f (regular_in_force (river_read r) (reading_lawful b h e).cards)
+  regular_read = rw f (regular_in_force (river_read r) (reading_lawful b h).cards)
 
-  pub reading_checked : {k : Checked} → FlowChecked (card_list cards) k → Accepts file (record { outcome = k.outcome; effective = cards; flows = k.flows })
-  unfolding accept_file
-  reading_checked {k} c =
-      let passes : k.outcome ≡ Outcome.Accepted → Flows (card_list cards) =
-      λ q. flows_of_accepted (sym c.answer ∙ ap (λ (o : Outcome). outcome_of o (card_list cards)) q)
-      in
+  pub check_refused : {x : Refusal} {a : Result Acceptance Refusal} → FlowChecked (card_list cards) (refused x) → IsErrAnd a (λ y. y ≡ x) → Accepts file a
+  unfolding accept_file after
+  check_refused {a = accepted k} c q = absurd q
+  check_refused {a = refused y} c q = record { answer = rw q c.answer ∙ ap flow_check f ∙ sym (after_accepted _ _ (was_read file h)); sound = tt }
+
+  pub check_accepted : {t : List ReachFlows} → FlowChecked (card_list cards) (accepted t) → Accepts file (accepted (record { effective = cards; flows = t }))
+  unfolding accept_file after
+  check_accepted c =
+      let passes : Flows (card_list cards) = flows_of_accepted (sym c.answer) in
       record {
-        answer = c.answer ∙ ap flow_check f ∙ sym (after_accepted _ _ (was_read file h e));
-        lawful = λ q. lawful_of_flows regular_read (passes q);
-        sound = passes;
-        tabled = c.tabled;
+        answer = c.answer ∙ ap flow_check f ∙ sym (after_accepted _ _ (was_read file h));
+        sound = record { lawful = lawful_of_flows regular_read passes; sound = passes; tabled = c.tabled };
       }
 
 -- THEOREM: an accepted river has, at every reach, what the flow check asks for from there on
-pub accepted_underway : {file : List ℕ} {r : Acceptance} → Accepts file r → r.outcome ≡ Outcome.Accepted → {i : ℕ} → i ≤ length (card_list r.effective) → Underway (card_list r.effective) i r.flows
-accepted_underway a e l =
+pub accepted_underway : {r : Acceptance} → IsAccepted r → {i : ℕ} → i ≤ length (card_list r.effective) → Underway (card_list r.effective) i r.flows
+accepted_underway a l =
     record {
-      regular = regular_of_lawful (a.lawful e);
+      regular = regular_of_lawful a.lawful;
       within = l;
-      passed = record { sound = λ j k. (a.sound e).each j (omega arith); tabled = first_tabled l (a.tabled e) };
+      passed = record { sound = λ j k. a.sound.each j (omega arith); tabled = first_tabled l a.tabled };
     }

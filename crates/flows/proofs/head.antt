@@ -3,5 +3,6 @@ pub mod SaturationRows
 pub mod Bounds
 pub mod Offset
 pub mod Stored
+pub mod Units
 pub mod Heads
 pub mod Bringing

@@ -1,13 +1,13 @@
 -- "Flows and depth" of the river file paper: what flows into a reach, its flow, undecayed BOD and depth, and the flow check. Cards have the rates
 -- in force.
-use Rattle.std.specs.Prelude.{◌≡◌, Bool, true, false, ◌&&◌, List, ℕ, zero, suc, ◌+◌, ◌*◌, ◌-◌, ◌/◌, ◌<◌, ◌≤◌, min, max, length, get_or, leb, ltb, eqb}
+use Rattle.std.specs.Prelude.{◌≡◌, Option, Some, None, Bool, true, false, ◌&&◌, List, ℕ, zero, suc, ◌+◌, ◌*◌, ◌-◌, ◌/◌, ◌<◌, ◌≤◌, min, max, length, get_or, leb, ltb, eqb}
 use Rattle.river.specs.declared.card.Dam.{Dam}
-use Rattle.river.specs.declared.card.Dam.TheVariants.{Aerating}
 use Rattle.river.specs.declared.card.Card.{Card}
 use Rattle.river.specs.Refusal.{Answer, accepted, need}
 use Rattle.river.specs.Card.{blank, amount_or, RatesInRange, rates_in_range}
 use Rattle.river.specs.declared.source.Demand.TheVariants.{Bod, Nitrogenous}
 use Rattle.river.specs.Source.{source_of, rate_of, source_mass}
+use Rattle.river.specs.declared.refusal.Rule.TheVariants.{NoFlow, FlowLimit, DamFlow, BodLimit, RateLimit, TakeLimit, BedLimit, RateRange}
 
 -- the most litres a second that a reach may carry
 abbrev pub flow_limit : ℕ
@@ -118,13 +118,21 @@ fed none = false
 fed (more card up rest) = true
 
 -- a dam has feeders above it and a generating flow of at most Qu
-unfoldable pub dam_fits : Dam → Bool → ℕ → Bool
-dam_fits Dam.Absent fed Qu = true
-dam_fits (Aerating share generating) fed Qu = fed && leb generating Qu
+unfoldable pub dam_fits : Option Dam → Bool → ℕ → Bool
+dam_fits None fed Qu = true
+dam_fits (Some dam) fed Qu = fed && leb dam.generating Qu
 
 -- a rate times volume is at most 345,600 × Q
 abbrev pub rate_fits : (rate volume Q : ℕ) → Bool
 rate_fits rate volume Q = leb (rate * volume) (rate_limit * Q)
+
+-- and so is that of each rate of a reach
+abbrev pub rates_fit : Card → (Q : ℕ) → Bool
+rates_fit card Q = rate_fits card.k1 card.volume Q && rate_fits card.k2 card.volume Q && rate_fits (rate_of Nitrogenous card) card.volume Q
+
+-- sludge demand times volume is at most 432,000 × Q
+abbrev pub bed_fits : Card → (Q : ℕ) → Bool
+bed_fits card Q = leb (sludge_of card * card.volume) (bed_limit * Q)
 
 -- a group of checks: the answer that comes later, where all of them pass, or the first refusal
 abbrev pub Checks : Type 0
@@ -136,30 +144,30 @@ unfoldable pub ◌then◌ : Checks → Checks → Checks
 ◌then◌ first second later = first (second later)
 
 -- 7: Qm is 0; 8: Qm above 100,000,000; 9: a dam where there are no feeders, or generating flow above Qu
-unfoldable pub flow_rules : Dam → (fed : Bool) (Qu Qm i : ℕ) → Checks
-flow_rules dam fed Qu Qm i = need (ltb 0 Qm) 7 i then need (leb Qm flow_limit) 8 i then need (dam_fits dam fed Qu) 9 i
+unfoldable pub flow_rules : Option Dam → (fed : Bool) (Qu Qm i : ℕ) → Checks
+flow_rules dam fed Qu Qm i = need (ltb 0 Qm) NoFlow i then need (leb Qm flow_limit) FlowLimit i then need (dam_fits dam fed Qu) DamFlow i
 
 -- 10: Mm above 1,000,000 × Qm
 unfoldable pub load_rule : (Qm Mm i : ℕ) → Checks
-load_rule Qm Mm i = need (leb Mm (mass_limit * Qm)) 10 i
+load_rule Qm Mm i = need (leb Mm (mass_limit * Qm)) BodLimit i
 
 -- 13: a take that is not below Qm
 unfoldable pub take_rule : (take Qm i : ℕ) → Checks
-take_rule take Qm i = need (ltb take Qm) 13 i
+take_rule take Qm i = need (ltb take Qm) TakeLimit i
 
 -- 15: a rate in force, k1, k2 or nitrogenous, above 20,000
 unfoldable pub range_rule : Card → (i : ℕ) → Checks
-range_rule card i = need (rates_in_range card) 15 i
+range_rule card i = need (rates_in_range card) RateRange i
 
 -- 11: k1, k2 or the nitrogenous rate, each × volume, above 345,600 × Q
 unfoldable pub rate_rules : Card → (Q i : ℕ) → Checks
 rate_rules card Q i =
-    need (rate_fits card.k1 card.volume Q) 11 i then
-    need (rate_fits card.k2 card.volume Q) 11 i then need (rate_fits (rate_of Nitrogenous card) card.volume Q) 11 i
+    need (rate_fits card.k1 card.volume Q) RateLimit i then
+    need (rate_fits card.k2 card.volume Q) RateLimit i then need (rate_fits (rate_of Nitrogenous card) card.volume Q) RateLimit i
 
 -- 14: sludge demand × volume above 432,000 × Q
 unfoldable pub bed_rule : Card → (Q i : ℕ) → Checks
-bed_rule card Q i = need (leb (sludge_of card * card.volume) (bed_limit * Q)) 14 i
+bed_rule card Q i = need (bed_fits card Q) BedLimit i
 
 -- the checks of reach i in order, by its card, whether it has feeders, Qu, Qm and Mm; 11 and 14 go by Q, the flow after the take
 unfoldable pub checks_of : Card → (fed : Bool) (Qu Qm Mm i : ℕ) → Checks
@@ -184,9 +192,9 @@ unfoldable pub flow_check : List Card → Answer (List Card)
 flow_check cards = checks_from cards 1 (length cards)
 
 -- the rule of check 9 as a fact
-unfoldable pub DamRule : Dam → Feeders → Type 0
-DamRule Dam.Absent up = Unit
-DamRule (Aerating share generating) up = (fed up ≡ true) × (generating ≤ flow_of up)
+unfoldable pub DamRule : Option Dam → Feeders → Type 0
+DamRule None up = Unit
+DamRule (Some dam) up = (fed up ≡ true) × (dam.generating ≤ flow_of up)
 
 -- what checks 7 to 11 and 13 to 15 ask of a reach with this card, with what flows into it
 pub record ReachPasses (card : Card) (up : Feeders) : Type 0 where

@@ -1,9 +1,8 @@
 -- "Head of a reach" of the river file paper: upstream means, the dam and mixing, as equations over the feeders' foot values. A take leaves after
 -- mixing and changes neither figure: what is mixed is divided by Qm = Qu + inflow, the flow before the take.
 -- Concentrations are in units; oxygen is signed; every quotient is rounded down, also below zero.
-use Rattle.std.specs.Prelude.{Bool, true, false, ℕ, ◌+◌, ◌*◌, ◌-◌, ◌/◌, ℤ, pos, negsuc, ◌+ℤ◌, ◌-ℤ◌, ◌*ℤ◌}
+use Rattle.std.specs.Prelude.{Option, Some, None, Bool, true, false, ℕ, ◌+◌, ◌*◌, ◌-◌, ◌/◌, ℤ, pos, negsuc, ◌+ℤ◌, ◌-ℤ◌, ◌*ℤ◌}
 use Rattle.river.specs.declared.card.Dam.{Dam}
-use Rattle.river.specs.declared.card.Dam.TheVariants.{Aerating}
 use Rattle.river.specs.declared.card.Card.{Card}
 use Rattle.river.specs.declared.source.Source.{Source}
 use Rattle.flows.specs.Saturation.{saturation_of}
@@ -24,10 +23,10 @@ upstream_oxygen false Qu sum = pos 0
 upstream_oxygen true Qu sum = floor sum Qu
 
 -- 2. oxygen C below a dam; only the water that does not go through the turbines is aerated
-unfoldable pub aerated : Dam → (saturated Qu : ℕ) → ℤ → ℤ
-aerated Dam.Absent saturated Qu C = C
-aerated (Aerating share generating) saturated Qu C =
-    C +ℤ floor ((pos saturated -ℤ C) *ℤ pos (share * (Qu - generating))) (1_000 * Qu)
+unfoldable pub aerated : Option Dam → (saturated Qu : ℕ) → ℤ → ℤ
+aerated None saturated Qu C = C
+aerated (Some dam) saturated Qu C =
+    C +ℤ floor ((pos saturated -ℤ C) *ℤ pos (dam.share * (Qu - dam.generating))) (1_000 * Qu)
 
 -- 2. the dam of a reach, skipped without feeders; saturation is the reach's own
 unfoldable pub below_dam : Card → (fed : Bool) (Qu : ℕ) → ℤ → ℤ

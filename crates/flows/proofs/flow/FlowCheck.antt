@@ -7,34 +7,32 @@ use Prim.Native.Nat.{ℕ, zero, suc, ◌+◌, ◌-◌, ◌<◌, ◌≤◌, zero-
 use native.Mathlib.Nat.{le_refl, eq-or-lt_of_le, le_of_suc-le-suc, not-suc-le-zero}
 use native.Mathlib.Numerals.{add-one}
 use native.Mathlib.Omega.{arith}
-use lib.ListN.{length}
+use lib.ListN.{length, set}
+use Rattle.std.specs.Prelude.{Option, Some, None, Result, IsErrAnd}
 use borrow.Author.Tests.{leb-true, le-leb}
 use Rattle.river.specs.declared.card.Card.{Card}
 use Rattle.river.specs.declared.card.Dam.{Dam}
-use Rattle.river.specs.declared.card.Dam.TheVariants.{Aerating}
-use Rattle.river.specs.declared.refusal.Outcome.{Outcome}
 use Rattle.river.specs.declared.refusal.Refusal.{Refusal}
-use Rattle.flows.specs.declared.flow.FlowTable.{FlowTable}
-use Rattle.flows.specs.declared.flow.ReachChecked.{ReachChecked}
-use Rattle.river.specs.Refusal.{accepted, outcome_of, go_on}
+use Rattle.flows.specs.declared.flow.ReachFlows.{ReachFlows}
+use Rattle.river.specs.Refusal.{accepted, refused, after}
 use Rattle.river.specs.Card.{Regular}
 use Rattle.flows.specs.Flow.{Feeders, card_of, above, fed, flow_of, mixed_flow, mixed_mass, dam_fits, DamRule, ReachPasses, Flows, reach_checks, checks_from, flow_check}
 use Rattle.flows.specs.held.FlowTable.{Underway, NextChecked, FlowChecked}
-use Rattle.river.proofs.Answers.{no_refusal, both_true, both}
+use Rattle.river.proofs.Answers.{both_true, both}
 use Rattle.flows.proofs.flow.Groups.{Asks, checks_ask, decided}
-use Rattle.flows.proofs.flow.Checks.{Full, with_reach, next_table}
+use Rattle.flows.proofs.flow.Checks.{next_table}
 
 -- the test of check 9 and its rule
-dam_rule_true : (dam : Dam) (up : Feeders) → DamRule dam up → dam_fits dam (fed up) (flow_of up) ≡ true
+dam_rule_true : (dam : Option Dam) (up : Feeders) → DamRule dam up → dam_fits dam (fed up) (flow_of up) ≡ true
 unfolding dam_fits DamRule
-dam_rule_true Dam.Absent up h = refl
-dam_rule_true (Aerating share generating) up h = both h.0 (le-leb generating (flow_of up) h.1)
+dam_rule_true None up h = refl
+dam_rule_true (Some dam) up h = both h.0 (le-leb dam.generating (flow_of up) h.1)
 
-true_dam_rule : (dam : Dam) (up : Feeders) → dam_fits dam (fed up) (flow_of up) ≡ true → DamRule dam up
+true_dam_rule : (dam : Option Dam) (up : Feeders) → dam_fits dam (fed up) (flow_of up) ≡ true → DamRule dam up
 unfolding dam_fits DamRule
-true_dam_rule Dam.Absent up e = tt
-true_dam_rule (Aerating share generating) up e =
-    let b = both_true e in (b.left, leb-true generating (flow_of up) b.right)
+true_dam_rule None up e = tt
+true_dam_rule (Some dam) up e =
+    let b = both_true e in (b.left, leb-true dam.generating (flow_of up) b.right)
 
 -- the checks of a reach ask for what passes the rules
 reach_asks : (card : Card) (up : Feeders) (i : ℕ) → Asks (reach_checks card up i) (ReachPasses card up)
@@ -103,73 +101,57 @@ accepted_of_flows {cards} h =
     ap (checks_from cards 1) (let e : length cards ≡ length cards + 0 = omega arith in e) ∙ behind cards (length cards) 0 h.each
 
 -- before the first reach
-pub at_start : {cards : List Card} (t : FlowTable) → Regular cards → Underway cards 0 t
-at_start t h =
+pub at_start : {cards : List Card} {t : List ReachFlows} → length t ≡ 128 → Regular cards → Underway cards 0 t
+at_start full h =
     record {
       regular = h;
       within = zero-le;
       passed =
           record {
             sound = λ j l. absurd (not-suc-le-zero l);
-            tabled =
-                record {
-                  outlet = λ j l. absurd (not-suc-le-zero l);
-                  upstream = λ j l. absurd (not-suc-le-zero l);
-                  flow = λ j l. absurd (not-suc-le-zero l);
-                  mass = λ j l. absurd (not-suc-le-zero l);
-                  depth = λ j l. absurd (not-suc-le-zero l);
-                };
+            tabled = record { full = full; each = λ j l. absurd (not-suc-le-zero l) };
           };
     }
 
-module _ {cards : List Card} {i : ℕ} {t : FlowTable} (h : Underway cards i t) where
-  module _ (l : i < length cards) {r : ReachChecked} (c : NextChecked cards i r) where
-    -- a refusal of the next reach is the answer
-    pub at_refusal : {x : Refusal} {u : FlowTable} → r.outcome ≡ Outcome.Refused x → FlowChecked cards (record { outcome = r.outcome; flows = u })
-    unfolding flow_check checks_from go_on
-    at_refusal e =
-        let m = length cards - suc i in
-        let later = checks_from cards (suc (suc i)) m in
-        let whole : i + suc m ≡ length cards = omega arith in
-        record {
-          answer =
-              ap (λ (o : Outcome). outcome_of o cards) e
-              ∙ sym (ap (λ (o : Outcome). go_on o later) e)
-              ∙ c.answer.answer later
-              ∙ sym (behind cards i (suc m) h.passed.sound)
-              ∙ ap (checks_from cards 1) whole;
-          tabled = λ q. no_refusal (sym q ∙ e);
-        }
+module _ {cards : List Card} {i : ℕ} {t : List ReachFlows} (h : Underway cards i t) where
+  -- a refusal of the next reach is the answer
+  pub at_refusal : i < length cards → {x : Refusal} {r : Result (List ReachFlows) Refusal} → NextChecked cards i (refused x) → IsErrAnd r (λ y. y ≡ x) → FlowChecked cards r
+  unfolding flow_check checks_from after
+  at_refusal l {r = accepted t} c e = absurd e
+  at_refusal l {r = refused y} c e =
+      let m = length cards - suc i in
+      let whole : i + suc m ≡ length cards = omega arith in
+      record {
+        answer = rw e (c.answer.answer (checks_from cards (suc (suc i)) m)) ∙ sym (behind cards i (suc m) h.passed.sound) ∙ ap (checks_from cards 1) whole;
+        tabled = tt;
+      }
 
-    -- a reach that passes leads to the next
-    pub at_next :
-        {o : ℕ} →
-        r.outcome ≡ Outcome.Accepted →
-        Full t →
-        o ≡ (card_of cards (suc i)).outlet →
-        Underway cards (i + 1) (with_reach t i o r.upstream r.flow r.mass r.depth)
-    at_next e full own =
-        rw
-        add-one
-        record {
-          regular = h.regular;
-          within = l;
-          passed =
-              record {
-                sound =
-                    λ j k. ⊎_elim
-                    (λ (q : j ≡ i). rw q (decided c.answer (reach_asks _ _ _) e))
-                    (λ (q : j < i). h.passed.sound j q)
-                    (eq-or-lt_of_le (le_of_suc-le-suc k));
-                tabled = next_table h.passed.tabled (omega (arith, h.regular.few)) full own (c.upstream e) (c.flow e) (c.mass e) (c.depth e);
-              };
-        }
+  -- a reach that passes leads to the next
+  pub at_next : i < length cards → {x : ReachFlows} → NextChecked cards i (accepted x) → Underway cards (i + 1) (set t i x)
+  unfolding after
+  at_next l c =
+      rw
+      add-one
+      record {
+        regular = h.regular;
+        within = l;
+        passed =
+            record {
+              sound =
+                  λ j k. ⊎_elim
+                  (λ (q : j ≡ i). rw q (decided c.answer (reach_asks _ _ _)))
+                  (λ (q : j < i). h.passed.sound j q)
+                  (eq-or-lt_of_le (le_of_suc-le-suc k));
+              tabled = next_table h.passed.tabled (omega (arith, h.regular.few)) c.flows;
+            };
+      }
 
   -- after the last reach the river is accepted
-  pub at_end : length cards ≤ i → FlowChecked cards (record { outcome = Outcome.Accepted; flows = t })
+  pub at_end : length cards ≤ i → FlowChecked cards (accepted t)
+  unfolding after
   at_end l =
       let e : i ≡ length cards = omega (arith, h.within) in
       record {
         answer = sym (accepted_of_flows (record { each = λ j k. h.passed.sound j (omega arith) }));
-        tabled = λ _. rw e at h.passed.tabled;
+        tabled = rw e at h.passed.tabled;
       }

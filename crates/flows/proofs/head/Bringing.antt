@@ -3,22 +3,22 @@
 use mathlib.Core.Path.{◌≡◌, refl, sym, ap, ap₂, ◌∙◌}
 use mathlib.Core.Bool.{Bool, true, false}
 use mathlib.Core.List.{List}
-use Prim.Native.Nat.{ℕ, zero, suc, ◌+◌, ◌*◌, ◌^◌, ◌<◌, ◌≤◌}
+use Prim.Native.Nat.{ℕ, zero, suc, ◌+◌, ◌*◌, ◌<◌, ◌≤◌}
 use native.Mathlib.Nat.{le_refl, lt_of_le_of_lt, not-suc-le-zero, mul-le-mul_left}
 use native.Mathlib.Omega.{arith}
-use lib.ListN.{get_or, set, length-set}
-use lib.Seq.{get_or-set_same, get_or-set_other}
+use lib.ListN.{length, get_or, set, take, length-set, length-take}
+use lib.Seq.{get_or-take}
 use lib.Dec.{eqb}
 use lib.IntN.{ℤ, pos, sub_ℕ, ◌+ℤ◌, ◌*ℤ◌}
 use Rattle.river.specs.declared.card.Card.{Card}
+use Rattle.flows.specs.declared.flow.ReachFlows.{ReachFlows}
 use Rattle.flows.specs.declared.head.Brought.{Brought}
-use Rattle.flows.specs.declared.head.BroughtTable.{BroughtTable}
 use Rattle.flows.specs.Flow.{Feeders, none, more, feeders_among, joined_if, flow_of, reach_flow, flow_at, mass_at}
-use Rattle.flows.proofs.flow.Table.{entered, Scanned, scanned_next, sum_feeder, sum_other, any_feeder, any_other, sum_so_far}
+use Rattle.flows.proofs.flow.Table.{entered_at, sum_feeder, sum_other, any_feeder, any_other, sum_so_far}
 use Rattle.flows.proofs.head.Offset.{sub_add, times_sub}
-use Rattle.flows.specs.held.FlowTable.{only_if, table_sum}
+use Rattle.flows.specs.held.FlowTable.{no_flow, flows_by, only_if, table_sum, table_any}
 use Rattle.flows.specs.held.Stored.{stored_zero, stored_limit, oxygen_of, oxygen_sum_of}
-use Rattle.flows.specs.held.HeadTable.{nothing_brought, brought_by, brought_entered, BroughtWithFits, brought_with, brought_among, BroughtWithin, BroughtFull, Carried}
+use Rattle.flows.specs.held.HeadTable.{no_brought, nothing_brought, brings_by, brought_by, BroughtWithFits, brought_with, brought_among, brought_by_feeders, BroughtFits, BroughtWithin, Carried}
 use Rattle.river.specs.Card.{blank}
 
 -- what a foot brings is in bounds where its demands together are at most a head's
@@ -32,83 +32,76 @@ brought_within {cards} {i} head bod nitrogenous e falls mass small =
 
 -- nothing brought is in bounds
 pub carried_none : (cards : List Card) → Carried cards nothing_brought 0
-carried_none cards =
-    record {
-      full = record { bod = refl; nitrogenous = refl; oxygen = refl; used = refl };
-      demands = λ j l. absurd (not-suc-le-zero l);
-      oxygen = λ j l. absurd (not-suc-le-zero l);
-    }
+carried_none cards = record { full = refl; within = λ j l. absurd (not-suc-le-zero l) }
 
 -- what one more reach brings, in bounds
-pub carried_next : {cards : List Card} {by_reach : BroughtTable} {i : ℕ} {brought : Brought} → Carried cards by_reach i → i < 128 → BroughtWithin cards i brought → Carried cards (brought_entered by_reach i brought) (suc i)
+pub carried_next : {cards : List Card} {by_reach : List Brought} {i : ℕ} {brought : Brought} → Carried cards by_reach i → i < 128 → BroughtWithin cards i brought → Carried cards (set by_reach i brought) (suc i)
 carried_next {cards} {by_reach} {i} {brought} h few within =
     record {
-      full =
-          record {
-            bod = length-set by_reach.bod i brought.bod ∙ full.bod;
-            nitrogenous = length-set by_reach.nitrogenous i brought.nitrogenous ∙ full.nitrogenous;
-            oxygen = length-set by_reach.oxygen i brought.oxygen ∙ full.oxygen;
-            used = length-set by_reach.used i brought.used ∙ full.used;
-          };
-      demands =
-          entered by_reach.bod i brought.bod (λ j x. x + get_or (set by_reach.nitrogenous i brought.nitrogenous) j 0 ≤ 1000 * mass_at cards (suc j)) (rw full.bod few)
-          (rw (get_or-set_same by_reach.nitrogenous i brought.nitrogenous 0 (rw full.nitrogenous few)) within.demands)
-          (λ j l. rw (get_or-set_other by_reach.nitrogenous i j brought.nitrogenous 0 (λ (q : j ≡ i). omega arith)) (h.demands j l));
-      oxygen =
-          entered by_reach.oxygen i brought.oxygen (λ j x. x ≤ stored_limit * flow_at cards (suc j)) (rw full.oxygen few) within.oxygen h.oxygen;
+      full = length-set by_reach i brought ∙ h.full;
+      within = entered_at by_reach i brought no_brought (BroughtWithin cards) (rw h.full few) within h.within;
     }
-  where
-    full : BroughtFull by_reach
-    full = h.full
 
--- a scan for what the feeders of a reach bring
-module _ (outlets of_bod of_nitrogenous of_oxygen : List ℕ) (of_used : List Bool) (i : ℕ) {most n : ℕ} {held : Brought} (s : Scanned (λ (n : ℕ). brought_among outlets of_bod of_nitrogenous of_oxygen of_used n i) most n held) (l : n < most) where
-  pub brought_with_fits :
-      get_or outlets n 0 ≡ i →
-      table_sum outlets of_bod most i < 2 ^ 64 →
-      table_sum outlets of_nitrogenous most i < 2 ^ 64 →
-      table_sum outlets of_oxygen most i < 2 ^ 64 →
-      BroughtWithFits held (get_or of_bod n 0) (get_or of_nitrogenous n 0) (get_or of_oxygen n 0)
-  brought_with_fits e p q r =
-      rw s.so_far
+-- one step of the loop that gathers what the feeders of reach i bring
+module _ (t : List ReachFlows) (by_reach : List Brought) (i n : ℕ) {held : Brought} (so_far : held ≡ brought_among t by_reach n i) where
+  pub brought_with_fits : n < length t → (flows_by t n).outlet ≡ i → BroughtFits t by_reach i → BroughtWithFits held (brings_by by_reach n)
+  brought_with_fits l e f =
+      rw so_far
       record {
-        bod = lt_of_le_of_lt (sum_so_far outlets of_bod l e) p;
-        nitrogenous = lt_of_le_of_lt (sum_so_far outlets of_nitrogenous l e) q;
-        oxygen = lt_of_le_of_lt (sum_so_far outlets of_oxygen l e) r;
+        bod = lt_of_le_of_lt (sum_so_far t _ l e) f.bod;
+        nitrogenous = lt_of_le_of_lt (sum_so_far t _ l e) f.nitrogenous;
+        oxygen = lt_of_le_of_lt (sum_so_far t _ l e) f.oxygen;
       }
 
-  pub brought_gathered :
-      get_or outlets n 0 ≡ i →
-      {next : Brought} →
-      next ≡ brought_with held (get_or of_bod n 0) (get_or of_nitrogenous n 0) (get_or of_oxygen n 0) (get_or of_used n false) →
-      Scanned (λ (n : ℕ). brought_among outlets of_bod of_nitrogenous of_oxygen of_used n i) most (n + 1) next
-  brought_gathered h e =
-      scanned_next (λ (b : Brought). brought_with b (get_or of_bod n 0) (get_or of_nitrogenous n 0) (get_or of_oxygen n 0) (get_or of_used n false)) s l e
-      (rw (sum_feeder outlets of_bod n i h, sum_feeder outlets of_nitrogenous n i h, sum_feeder outlets of_oxygen n i h, any_feeder outlets of_used n i h))
+  pub brought_gathered : (flows_by t n).outlet ≡ i → brought_with held (brings_by by_reach n) ≡ brought_among t by_reach (n + 1) i
+  brought_gathered h =
+      rw (so_far, sum_feeder t (λ j. (brings_by by_reach j).bod) n i h, sum_feeder t (λ j. (brings_by by_reach j).nitrogenous) n i h, sum_feeder t (λ j. (brings_by by_reach j).oxygen) n i h, any_feeder t (λ j. (brings_by by_reach j).used) n i h)
 
-  pub brought_passed :
-      (get_or outlets n 0 ≡ i → ⊥) → {next : Brought} → next ≡ held → Scanned (λ (n : ℕ). brought_among outlets of_bod of_nitrogenous of_oxygen of_used n i) most (n + 1) next
-  brought_passed h e =
-      scanned_next (λ (b : Brought). b) s l e
-      (rw (sum_other outlets of_bod n i h, sum_other outlets of_nitrogenous n i h, sum_other outlets of_oxygen n i h, any_other outlets of_used n i h))
+  pub brought_passed : ((flows_by t n).outlet ≡ i → ⊥) → held ≡ brought_among t by_reach (n + 1) i
+  brought_passed h =
+      rw (so_far, sum_other t (λ j. (brings_by by_reach j).bod) n i h, sum_other t (λ j. (brings_by by_reach j).nitrogenous) n i h, sum_other t (λ j. (brings_by by_reach j).oxygen) n i h, any_other t (λ j. (brings_by by_reach j).used) n i h)
+
+-- what the feeders among the reaches before one bring is told by the tables of all reaches too
+module _ (t : List ReachFlows) (m : ℕ) where
+  sum_taken : (a b : ℕ → ℕ) (n i : ℕ) → n ≤ m → ((j : ℕ) → j < m → a j ≡ b j) → table_sum (take m t) a n i ≡ table_sum t b n i
+  unfolding table_sum
+  sum_taken a b zero i k e = refl
+  sum_taken a b (suc n) i k e = rw (get_or-take m t n no_flow k, e n k, sum_taken a b n i (omega arith) e)
+
+  any_taken : (a b : ℕ → Bool) (n i : ℕ) → n ≤ m → ((j : ℕ) → j < m → a j ≡ b j) → table_any (take m t) a n i ≡ table_any t b n i
+  unfolding table_any
+  any_taken a b zero i k e = refl
+  any_taken a b (suc n) i k e = rw (get_or-take m t n no_flow k, e n k, any_taken a b n i (omega arith) e)
+
+pub brought_taken : (t : List ReachFlows) (by_reach : List Brought) (i : ℕ) → i ≤ length t → brought_by_feeders t by_reach i ≡ brought_among t by_reach i (suc i)
+brought_taken t by_reach i k =
+    let long : length (take i t) ≡ i = rw length-take (omega arith) in
+    let brings : (j : ℕ) → j < i → brings_by (take i by_reach) j ≡ brings_by by_reach j = λ j l. get_or-take i by_reach j no_brought l in
+    rw (
+      long,
+      sum_taken t i (λ j. (brings_by (take i by_reach) j).bod) (λ j. (brings_by by_reach j).bod) i (suc i) (le_refl i) (λ j l. ap (λ (b : Brought). b.bod) (brings j l)),
+      sum_taken t i (λ j. (brings_by (take i by_reach) j).nitrogenous) (λ j. (brings_by by_reach j).nitrogenous) i (suc i) (le_refl i) (λ j l. ap (λ (b : Brought). b.nitrogenous) (brings j l)),
+      sum_taken t i (λ j. (brings_by (take i by_reach) j).oxygen) (λ j. (brings_by by_reach j).oxygen) i (suc i) (le_refl i) (λ j l. ap (λ (b : Brought). b.oxygen) (brings j l)),
+      any_taken t i (λ j. (brings_by (take i by_reach) j).used) (λ j. (brings_by by_reach j).used) i (suc i) (le_refl i) (λ j l. ap (λ (b : Brought). b.used) (brings j l)),
+    )
 
 -- S adds up flow × what g gives for each feeder
 pub record AddsFlowTimes (S : Feeders → ℤ) (g : Card → Feeders → ℤ) : Type 0 where
   pub nothing : S none ≡ pos 0
   pub plus : (card : Card) (up rest : Feeders) → S (more card up rest) ≡ pos (reach_flow card up) *ℤ g card up +ℤ S rest
 
--- the tables of outlets, and of flow × stored oxygen, of the first n reaches
-pub record StoredTable (cards : List Card) (g : Card → Feeders → ℤ) (stored : ℕ → ℕ) (outlets values : List ℕ) (n : ℕ) : Type 0 where
-  pub outlet : (j : ℕ) → j < n → get_or outlets j 0 ≡ (get_or cards j blank).outlet
-  pub value : (j : ℕ) → j < n → get_or values j 0 ≡ flow_at cards (suc j) * stored j
+-- the table of outlets, and of flow × stored oxygen, of the first n reaches
+pub record StoredTable (cards : List Card) (g : Card → Feeders → ℤ) (stored : ℕ → ℕ) (t : List ReachFlows) (values : ℕ → ℕ) (n : ℕ) : Type 0 where
+  pub outlet : (j : ℕ) → j < n → (flows_by t j).outlet ≡ (get_or cards j blank).outlet
+  pub value : (j : ℕ) → j < n → values j ≡ flow_at cards (suc j) * stored j
   pub oxygen : (j : ℕ) → j < n → oxygen_of (stored j) ≡ g (get_or cards j blank) (feeders_among cards j (suc j))
 
-fewer : {cards : List Card} {g : Card → Feeders → ℤ} {stored : ℕ → ℕ} {outlets values : List ℕ} {n : ℕ} → StoredTable cards g stored outlets values (suc n) → StoredTable cards g stored outlets values n
-fewer t =
+fewer : {cards : List Card} {g : Card → Feeders → ℤ} {stored : ℕ → ℕ} {t : List ReachFlows} {values : ℕ → ℕ} {n : ℕ} → StoredTable cards g stored t values (suc n) → StoredTable cards g stored t values n
+fewer h =
     record {
-      outlet = λ j l. t.outlet j (omega arith);
-      value = λ j l. t.value j (omega arith);
-      oxygen = λ j l. t.oxygen j (omega arith);
+      outlet = λ j l. h.outlet j (omega arith);
+      value = λ j l. h.value j (omega arith);
+      oxygen = λ j l. h.oxygen j (omega arith);
     }
 
 -- one feeder's flow × stored oxygen, and the offset for its flow
@@ -121,13 +114,13 @@ more_oxygen q s x r =
     ∙ ap (sub_ℕ (q * s + x)) (omega arith))
 
 -- the sum over a table of flow × stored oxygen, less the offset for each unit of flow, is that over the feeders
-pub oxygen_of_feeders : {S : Feeders → ℤ} {g : Card → Feeders → ℤ} {cards : List Card} {stored : ℕ → ℕ} {outlets values : List ℕ} {n : ℕ} → AddsFlowTimes S g → StoredTable cards g stored outlets values n → (i : ℕ) → oxygen_sum_of (flow_of (feeders_among cards n i)) (table_sum outlets values n i) ≡ S (feeders_among cards n i)
+pub oxygen_of_feeders : {S : Feeders → ℤ} {g : Card → Feeders → ℤ} {cards : List Card} {stored : ℕ → ℕ} {t : List ReachFlows} {values : ℕ → ℕ} {n : ℕ} → AddsFlowTimes S g → StoredTable cards g stored t values n → (i : ℕ) → oxygen_sum_of (flow_of (feeders_among cards n i)) (table_sum t values n i) ≡ S (feeders_among cards n i)
 unfolding table_sum feeders_among flow_of only_if joined_if
-oxygen_of_feeders {n = zero} a t i = sym a.nothing
-oxygen_of_feeders {S} {g} {cards} {stored} {outlets} {values} {n = suc n} a t i =
-    rw (t.outlet n (le_refl (suc n)), t.value n (le_refl (suc n)))
-    (step (eqb (get_or cards n blank).outlet i) (get_or cards n blank) (feeders_among cards n (suc n)) (feeders_among cards n i) (stored n) (table_sum outlets values n i)
-    (t.oxygen n (le_refl (suc n))) (oxygen_of_feeders a (fewer t) i))
+oxygen_of_feeders {n = zero} a h i = sym a.nothing
+oxygen_of_feeders {S} {g} {cards} {stored} {t} {values} {n = suc n} a h i =
+    rw (h.outlet n (le_refl (suc n)), h.value n (le_refl (suc n)))
+    (step (eqb (get_or cards n blank).outlet i) (get_or cards n blank) (feeders_among cards n (suc n)) (feeders_among cards n i) (stored n) (table_sum t values n i)
+    (h.oxygen n (le_refl (suc n))) (oxygen_of_feeders a (fewer h) i))
   where
     step : (b : Bool) (card : Card) (up rest : Feeders) (s x : ℕ) → oxygen_of s ≡ g card up → oxygen_sum_of (flow_of rest) x ≡ S rest → oxygen_sum_of (flow_of (joined_if b card up rest)) (only_if b (reach_flow card up * s) + x) ≡ S (joined_if b card up rest)
     step true card up rest s x e f = more_oxygen (reach_flow card up) s x (flow_of rest) ∙ ap₂ ◌+ℤ◌ (ap (λ (z : ℤ). pos (reach_flow card up) *ℤ z) e) f ∙ sym (a.plus card up rest)

@@ -1,38 +1,38 @@
 -- The head of a reach of an accepted river: what its parts need, and that its demands together stay within the undecayed BOD.
-use mathlib.Core.Path.{◌≡◌, sym, ap, ◌∙◌}
+use Rattle.std.specs.Prelude.{Option, Some, None}
+use mathlib.Core.Path.{◌≡◌, refl, sym, ap, subst, ◌∙◌}
 use mathlib.Core.Bool.{Bool, true, false}
 use mathlib.Core.List.{List}
 use Prim.Native.Nat.{ℕ, zero, suc, ◌+◌, ◌*◌, ◌<◌, ◌≤◌}
-use native.Mathlib.Nat.{le_refl, le_of_lt, le_trans, lt_of_lt_of_le, le-add_right}
-use native.Mathlib.Numerals.{one-add}
+use native.Mathlib.Nat.{le_refl, le_trans, lt_of_lt_of_le, le-add_right}
 use native.Mathlib.Omega.{arith}
-use lib.ListN.{get_or}
-use lib.Dec.{ltb, eqb, leb-suc-suc}
+use lib.ListN.{get_or, take, length-take}
+use lib.Dec.{ltb, eqb}
+use borrow.Author.Tests.{lt-ltb, ltb-true}
 use Rattle.river.specs.declared.card.Card.{Card}
 use Rattle.river.specs.declared.card.Dam.{Dam}
-use Rattle.river.specs.declared.card.Dam.TheVariants.{Aerating}
 use Rattle.river.specs.declared.source.Demand.{Demand}
 use Rattle.river.specs.declared.source.Demand.TheVariants.{Bod, Nitrogenous}
 use Rattle.river.specs.declared.source.Source.{Source}
-use Rattle.flows.specs.declared.flow.FlowTable.{FlowTable}
+use Rattle.flows.specs.declared.flow.ReachFlows.{ReachFlows}
 use Rattle.flows.specs.declared.head.Brought.{Brought}
-use Rattle.flows.specs.declared.head.BroughtTable.{BroughtTable}
 use Rattle.flows.specs.declared.head.Head.{Head}
 use Rattle.river.specs.Card.{blank}
 use Rattle.river.specs.Described.{InRange}
 use Rattle.river.specs.Records.{DM}
-use Rattle.flows.specs.Flow.{Feeders, card_of, above, feeders_among, joined_if, flow_of, mass_of, deepest, fed, flow_limit, mixed_flow, reach_flow, mixed_mass, reach_mass, own_mass, flow_at, mass_at, ReachPasses, DamRule}
+use Rattle.flows.specs.Flow.{Feeders, none, more, card_of, above, feeders_among, joined_if, flow_of, mass_of, fed, mixed_flow, reach_flow, mixed_mass, reach_mass, flow_at, mass_at, ReachPasses, DamRule}
 use Rattle.flows.specs.Head.{head_demand}
 use Rattle.river.proofs.range.Ranges.{asked_at}
 use Rattle.river.proofs.source.Ranges.{source_inflow}
-use Rattle.flows.proofs.flow.Table.{sum_of_feeders, sum_scaled, sums_scaled, fed_deepest}
-use Rattle.flows.proofs.flow.Take.{flow_remains, flow_within, mixed_bounded, mass_scaled, still_within}
+use Rattle.flows.proofs.flow.Table.{sum_of_feeders, sum_scaled, sums_scaled}
+use Rattle.flows.proofs.flow.Take.{flow_remains, mixed_bounded, mass_scaled, still_within}
 use Rattle.flows.proofs.head.Bounds.{head_demand_kept, conditions_in_range}
-use Rattle.flows.proofs.flow.Checks.{first_tabled, flows_add, masses_add, flow_table, mass_table}
-use Rattle.flows.specs.held.FlowTable.{feeder_sum, Tabled}
+use Rattle.flows.proofs.flow.Checks.{FirstOf, flows_add, masses_add, flow_table, mass_table}
+use Rattle.flows.proofs.head.Bringing.{brought_taken}
+use Rattle.flows.specs.held.FlowTable.{flows_by}
 use Rattle.river.specs.Source.{source_of, source_mass}
 use Rattle.flows.specs.held.Stored.{stored_limit}
-use Rattle.flows.specs.held.HeadTable.{DamWithin, HeadReady, DemandReady, brought_to, BroughtFits, HeadInput, HeadOf, HeadTabled}
+use Rattle.flows.specs.held.HeadTable.{DamWithin, HeadReady, brings_by, brought_among, brought_by_feeders, BroughtFits, HeadInput, HeadOf, HeadTabled}
 
 -- feeders that pass have water
 pub flow_of_fed : (cards : List Card) (n i : ℕ) → ((j : ℕ) → j < n → ReachPasses (card_of cards (suc j)) (above cards (suc j))) → fed (feeders_among cards n i) ≡ true → 0 < flow_of (feeders_among cards n i)
@@ -45,10 +45,16 @@ flow_of_fed cards (suc n) i s e =
     step true p f e = lt_of_lt_of_le p (le-add_right _ _)
     step false p f e = f e
 
-dam_within : (dam : Dam) (up : Feeders) → InRange DM dam → DamRule dam up → DamWithin dam (flow_of up)
+-- and so there are feeders exactly where Qu is above 0
+fed_by_flow : (up : Feeders) → (fed up ≡ true → 0 < flow_of up) → ltb 0 (flow_of up) ≡ fed up
+unfolding fed flow_of
+fed_by_flow none f = refl
+fed_by_flow (more card up rest) f = lt-ltb 0 (flow_of (more card up rest)) (f refl)
+
+dam_within : (dam : Option Dam) (up : Feeders) → InRange DM dam → DamRule dam up → DamWithin dam (flow_of up)
 unfolding DamRule
-dam_within Dam.Absent up l r = tt
-dam_within (Aerating share generating) up l r = (l.0.most, r.1)
+dam_within None up l r = tt
+dam_within (Some dam) up l r = (l.0.most, r.1)
 
 -- flow × two demands at a head is at most what comes down and comes in of both
 both_kept : (s t : Source) (fed : Bool) (Qu Qm a b : ℕ) → Qm ≡ Qu + s.inflow → Qm ≡ Qu + t.inflow → Qm * (head_demand s fed Qu a + head_demand t fed Qu b) ≤ a + b + 1000 * (source_mass s + source_mass t)
@@ -68,96 +74,70 @@ head_demands_within_mass {card} {up} bod nitrogenous s h =
     inflow : (d : Demand) → mixed_flow card up ≡ flow_of up + (source_of d card).inflow
     inflow d = ap (λ (x : ℕ). flow_of up + x) (sym (source_inflow d card))
 
--- what a head asks for has what each demand asks for
-module _ {card : Card} {fed : Bool} {Qu : ℕ} {brought : Brought} (h : HeadInput card fed Qu brought) where
-  part_input : (d : Demand) {source : Source} {sum : ℕ} → sum + 1000 * source_mass (source_of d card) ≤ brought.bod + brought.nitrogenous + 1000 * own_mass card → source ≡ source_of d card → DemandReady source fed Qu sum
-  part_input d k e =
-      rw e
-      record {
-        flows = rw (source_inflow d card) h.ready.flows;
-        within = omega (arith, k, h.demands, source_inflow d card);
-      }
+-- Qu of reach i + 1, by the table
+abbrev pub qu_by : List ReachFlows → ℕ → ℕ
+qu_by flows i = (flows_by flows i).upstream
 
-  pub bod_input : {source : Source} → source ≡ source_of Bod card → DemandReady source fed Qu brought.bod
-  bod_input = part_input Bod (omega arith)
-
-  pub nitrogenous_input : {source : Source} → source ≡ source_of Nitrogenous card → DemandReady source fed Qu brought.nitrogenous
-  nitrogenous_input = part_input Nitrogenous (omega arith)
-
--- whether reach i + 1 has feeders, its Qu, and what the feeders bring, by the tables
-abbrev pub fed_by : FlowTable → ℕ → Bool
-fed_by flows i = ltb 1 (get_or flows.depth i 0)
-
-abbrev pub qu_by : FlowTable → ℕ → ℕ
-qu_by flows i = get_or flows.upstream i 0
-
-abbrev pub brought_by_tables : FlowTable → BroughtTable → ℕ → Brought
-brought_by_tables flows by_reach i = brought_to flows.outlet by_reach.bod by_reach.nitrogenous by_reach.oxygen by_reach.used i
-
-module _ {cards : List Card} {flows : FlowTable} {by_reach : BroughtTable} {i : ℕ} (h : HeadTabled cards flows by_reach i) where
-  -- the tables of the reaches before
-  prior : Tabled cards i flows
-  prior = first_tabled (le_of_lt h.within) h.tabled
+module _ {cards : List Card} {flows : List ReachFlows} {by_reach : List Brought} {i : ℕ} (h : HeadTabled cards flows by_reach i) where
+  -- the table of the reaches before
+  pub prior : FirstOf cards i flows
+  prior j l = h.tabled.each j (omega (arith, h.within))
 
   here : ReachPasses (card_of cards (suc i)) (above cards (suc i))
   here = h.sound.each i h.within
 
-  -- what the feeders bring
-  sum_demands : feeder_sum flows.outlet by_reach.bod i + feeder_sum flows.outlet by_reach.nitrogenous i ≤ 1000 * mass_of (above cards (suc i))
-  sum_demands =
-      rw (sum_of_feeders masses_add (mass_table prior) (suc i)) at
-      (sums_scaled flows.outlet by_reach.bod by_reach.nitrogenous flows.mass 1000 i (suc i) (λ j l. rw (prior.mass j l) (h.carried.demands j l)))
-
-  sum_oxygen : feeder_sum flows.outlet by_reach.oxygen i ≤ stored_limit * flow_of (above cards (suc i))
-  sum_oxygen =
-      rw (sum_of_feeders flows_add (flow_table prior) (suc i)) at
-      (sum_scaled flows.outlet by_reach.oxygen flows.flow stored_limit i (suc i) (λ j l. rw (prior.flow j l) (h.carried.oxygen j l)))
-
   pub reach_few : i < 128
   reach_few = omega (arith, h.within, h.lawful.few)
 
-  pub sums_fit : BroughtFits flows.outlet by_reach.bod by_reach.nitrogenous by_reach.oxygen i
+  -- what the feeders bring
+  pub brought_here : brought_by_feeders flows by_reach i ≡ brought_among flows by_reach i (suc i)
+  brought_here = brought_taken flows by_reach i (rw h.tabled.full (omega (arith, reach_few)))
+
+  sum_demands : (brought_by_feeders flows by_reach i).bod + (brought_by_feeders flows by_reach i).nitrogenous ≤ 1000 * mass_of (above cards (suc i))
+  sum_demands =
+      subst (λ (b : Brought). b.bod + b.nitrogenous ≤ 1000 * mass_of (above cards (suc i))) (sym brought_here)
+      (rw (sum_of_feeders masses_add (mass_table prior) (suc i)) at
+      (sums_scaled flows (λ j. (brings_by by_reach j).bod) (λ j. (brings_by by_reach j).nitrogenous) (λ j. (flows_by flows j).mass) 1000 i (suc i)
+      (λ j l. rw (prior j l) (h.carried.within j l).demands)))
+
+  sum_oxygen : (brought_by_feeders flows by_reach i).oxygen ≤ stored_limit * flow_of (above cards (suc i))
+  sum_oxygen =
+      subst (λ (b : Brought). b.oxygen ≤ stored_limit * flow_of (above cards (suc i))) (sym brought_here)
+      (rw (sum_of_feeders flows_add (flow_table prior) (suc i)) at
+      (sum_scaled flows (λ j. (brings_by by_reach j).oxygen) (λ j. (flows_by flows j).flow) stored_limit i (suc i) (λ j l. rw (prior j l) (h.carried.within j l).oxygen)))
+
+  pub sums_fit : BroughtFits (take i flows) (take i by_reach) (suc i)
   sums_fit =
       record {
-        few = reach_few;
+        each = length-take i by_reach ∙ rw (h.carried.full, ← h.tabled.full) (sym (length-take i flows));
         bod = omega (arith, sum_demands, mixed_bounded here);
         nitrogenous = omega (arith, sum_demands, mixed_bounded here);
         oxygen = omega (arith, sum_oxygen, here.bounded);
       }
 
-  -- the flow after the take, whether there are feeders, and Qu, by the tables
-  pub flow_bounded : get_or flows.flow i 0 ≤ flow_limit
-  flow_bounded = rw (h.tabled.flow i h.within) (flow_within here)
-
-  pub fed_here : fed_by flows i ≡ fed (above cards (suc i))
-  fed_here =
-      let d = deepest (above cards (suc i)) in
-      ap (ltb 1) (h.tabled.depth i h.within ∙ one-add d) ∙ leb-suc-suc 1 d ∙ fed_deepest (above cards (suc i))
-
+  -- Qu, and whether there are feeders
   pub qu_here : qu_by flows i ≡ flow_of (above cards (suc i))
-  qu_here = h.tabled.upstream i h.within
+  qu_here = ap (λ (f : ReachFlows). f.upstream) (h.tabled.each i h.within)
 
-  ready : HeadReady (card_of cards (suc i)) (fed (above cards (suc i))) (flow_of (above cards (suc i)))
+  pub fed_here : ltb 0 (flow_of (above cards (suc i))) ≡ fed (above cards (suc i))
+  fed_here = fed_by_flow (above cards (suc i)) (flow_of_fed cards i (suc i) (λ j l. h.sound.each j (omega (arith, h.within))))
+
+  ready : HeadReady (card_of cards (suc i)) (ltb 0 (flow_of (above cards (suc i)))) (flow_of (above cards (suc i)))
   ready =
       let regular = (asked_at h.lawful i h.within).regular in
       record {
         fields = regular.in_range;
         saturation = conditions_in_range regular;
         dam = dam_within (card_of cards (suc i)).dam (above cards (suc i)) regular.dam here.dam_rule;
-        flows =
-            record {
-              flowing = here.flowing;
-              bounded = here.bounded;
-              feeders_flow = flow_of_fed cards i (suc i) (λ j l. h.sound.each j (omega (arith, h.within)));
-            };
+        flows = record { flowing = here.flowing; bounded = here.bounded; feeders_flow = ltb-true 0 (flow_of (above cards (suc i))) };
       }
 
   -- the same of the card that the program works with
   module _ {card : Card} (ec : card ≡ card_of cards (suc i)) where
-    module _ {Qu : ℕ} {brought : Brought} (eq : Qu ≡ qu_by flows i) (es : brought ≡ brought_by_tables flows by_reach i) where
-      pub head_input : HeadInput card (fed_by flows i) Qu brought
+    module _ {Qu : ℕ} {brought : Brought} (eq : Qu ≡ qu_by flows i) (es : brought ≡ brought_by_feeders flows by_reach i) where
+      pub head_input : HeadInput card (ltb 0 Qu) Qu brought
       head_input =
-          rw (es, eq, qu_here, fed_here, ec)
+          rw (es, eq, qu_here, ec)
           record {
             ready = ready;
             demands = omega (arith, sum_demands, here.mass_rule);
@@ -165,7 +145,7 @@ module _ {cards : List Card} {flows : FlowTable} {by_reach : BroughtTable} {i : 
           }
 
       -- Q × both demands at the head
-      pub head_within : {r : Head} → HeadOf card (fed_by flows i) Qu brought r → flow_at cards (suc i) * (r.bod + r.nitrogenous) ≤ 1000 * mass_at cards (suc i)
+      pub head_within : {r : Head} → HeadOf card (ltb 0 Qu) Qu brought r → flow_at cards (suc i) * (r.bod + r.nitrogenous) ≤ 1000 * mass_at cards (suc i)
       head_within {r} of =
           let k = rw (es, eq, qu_here, fed_here, ec) at of in
           rw (k.bod, k.nitrogenous) (head_demands_within_mass _ _ here sum_demands)

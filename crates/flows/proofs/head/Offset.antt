@@ -1,12 +1,14 @@
 -- Signed numbers as differences of natural ones: sums, products and rounding down of numbers that are held with an offset.
 -- Rounding down commutes with a whole offset, so a mean, a mixture or aeration of stored oxygen is one floor of natural numbers.
-use mathlib.Core.Path.{◌≡◌, refl, sym, ap, ◌∙◌}
-use Prim.Native.Nat.{ℕ, zero, suc, ◌+◌, ◌-◌, ◌*◌, ◌/◌, ◌≤◌, ◌<◌}
+use mathlib.Core.Path.{◌≡◌, sym, ap, ◌∙◌}
+use Prim.Native.Nat.{ℕ, suc, ◌+◌, ◌-◌, ◌*◌, ◌/◌, ◌≤◌, ◌<◌}
 use native.Mathlib.Decide.{dec_le}
 use native.Mathlib.Nat.{mul_comm, add-mul, suc-mul, add-mul-div_right, div-eq_of_lt-le, div-lt_iff_lt-mul, lt-div-mul-add, div-mul-le_self}
 use native.Mathlib.Omega.{arith}
 use borrow.Author.Tests.{lt-ltb, le-ltb}
-use lib.IntN.{ℤ, pos, negsuc, neg_ℤ, sub_ℕ, ◌+ℤ◌, ◌-ℤ◌, ◌*ℤ◌, neg_ℤ-neg_ℤ, *ℤ_comm}
+use borrow.Author.Differences.{up, down}
+use Rattle.std.proofs.lemmas.Int.{ints}
+use lib.IntN.{ℤ, pos, negsuc, neg_ℤ, sub_ℕ, ◌+ℤ◌, ◌-ℤ◌, ◌*ℤ◌, *ℤ_comm}
 use Rattle.flows.specs.Head.{floor}
 
 -- a difference by the order of its two numbers
@@ -16,65 +18,37 @@ sub_pos a b h = rw (le-ltb a b h)
 pub sub_neg : (a b : ℕ) → a < b → sub_ℕ a b ≡ negsuc (b - suc a)
 sub_neg a b h = rw (lt-ltb a b h)
 
+-- what a difference has above zero and below; sums of differences follow from this
+apart : (a b : ℕ) → up (sub_ℕ a b) + b ≡ down (sub_ℕ a b) + a
+apart a b = by_order (dec_le b a)
+  where
+    by_order : Dec (b ≤ a) → up (sub_ℕ a b) + b ≡ down (sub_ℕ a b) + a
+    by_order (yes h) = rw (sub_pos a b h) (omega arith)
+    by_order (no n) = rw (sub_neg a b (omega arith)) (omega arith)
+
 -- two differences are equal where the cross sums are
 pub sub_eq : (a b c d : ℕ) → a + d ≡ c + b → sub_ℕ a b ≡ sub_ℕ c d
-sub_eq a b c d e = by_order (dec_le b a)
-  where
-    by_order : Dec (b ≤ a) → sub_ℕ a b ≡ sub_ℕ c d
-    by_order (yes h) = sub_pos a b h ∙ ap pos (omega arith) ∙ sym (sub_pos c d (omega arith))
-    by_order (no n) = sub_neg a b (omega arith) ∙ ap negsuc (omega arith) ∙ sym (sub_neg c d (omega arith))
+sub_eq a b c d e = omega (arith, ints, apart a b, apart c d)
 
 -- a whole number less another is their difference
 pub minus : (a b : ℕ) → pos a -ℤ pos b ≡ sub_ℕ a b
-minus a zero = ap pos (omega arith) ∙ sym (sub_pos a 0 (omega arith))
-minus a (suc b) = refl
+minus a b = omega (arith, ints, apart a b)
 
 -- a difference and a whole number
 pub sub_plus : (a b c : ℕ) → sub_ℕ a b +ℤ pos c ≡ sub_ℕ (a + c) b
-sub_plus a b c = by_order (dec_le b a)
-  where
-    by_order : Dec (b ≤ a) → sub_ℕ a b +ℤ pos c ≡ sub_ℕ (a + c) b
-    by_order (yes h) =
-        ap (λ (z : ℤ). z +ℤ pos c) (sub_pos a b h) ∙ ap pos (omega arith) ∙ sym (sub_pos (a + c) b (omega arith))
-    by_order (no n) =
-        ap (λ (z : ℤ). z +ℤ pos c) (sub_neg a b (omega arith)) ∙ sub_eq c (suc (b - suc a)) (a + c) b (omega arith)
-
--- a difference and a negative number
-sub_plus_neg : (a b c : ℕ) → sub_ℕ a b +ℤ negsuc c ≡ sub_ℕ a (b + suc c)
-sub_plus_neg a b c = by_order (dec_le b a)
-  where
-    by_order : Dec (b ≤ a) → sub_ℕ a b +ℤ negsuc c ≡ sub_ℕ a (b + suc c)
-    by_order (yes h) = ap (λ (z : ℤ). z +ℤ negsuc c) (sub_pos a b h) ∙ sub_eq (a - b) (suc c) a (b + suc c) (omega arith)
-    by_order (no n) =
-        ap (λ (z : ℤ). z +ℤ negsuc c) (sub_neg a b (omega arith)) ∙ ap negsuc (omega arith) ∙ sym (sub_neg a (b + suc c) (omega arith))
+sub_plus a b c = omega (arith, ints, apart a b, apart (a + c) b)
 
 -- two differences
 pub sub_add : (a b c d : ℕ) → sub_ℕ a b +ℤ sub_ℕ c d ≡ sub_ℕ (a + c) (b + d)
-sub_add a b c d = by_order (dec_le d c)
-  where
-    by_order : Dec (d ≤ c) → sub_ℕ a b +ℤ sub_ℕ c d ≡ sub_ℕ (a + c) (b + d)
-    by_order (yes h) =
-        ap (λ (z : ℤ). sub_ℕ a b +ℤ z) (sub_pos c d h) ∙ sub_plus a b (c - d) ∙ sub_eq (a + (c - d)) b (a + c) (b + d) (omega arith)
-    by_order (no n) =
-        ap (λ (z : ℤ). sub_ℕ a b +ℤ z) (sub_neg c d (omega arith)) ∙ sub_plus_neg a b (d - suc c) ∙ sub_eq a (b + suc (d - suc c)) (a + c) (b + d) (omega arith)
-
--- minus a whole number, and minus a difference
-minus_pos : (n : ℕ) → neg_ℤ (pos n) ≡ sub_ℕ 0 n
-minus_pos zero = refl
-minus_pos (suc n) = ap negsuc (omega arith) ∙ sym (sub_neg 0 (suc n) (omega arith))
-
-minus_sub : (a b : ℕ) → neg_ℤ (sub_ℕ a b) ≡ sub_ℕ b a
-minus_sub a b = by_order (dec_le a b)
-  where
-    by_order : Dec (a ≤ b) → neg_ℤ (sub_ℕ a b) ≡ sub_ℕ b a
-    by_order (yes h) =
-        ap neg_ℤ (sub_eq a b 0 (b - a) (omega arith) ∙ sym (minus_pos (b - a))) ∙ neg_ℤ-neg_ℤ (pos (b - a)) ∙ sym (sub_pos b a h)
-    by_order (no n) = ap neg_ℤ (sub_pos a b (omega arith)) ∙ minus_pos (a - b) ∙ sub_eq 0 (a - b) b a (omega arith)
+sub_add a b c d = omega (arith, ints, apart a b, apart c d, apart (a + c) (b + d))
 
 -- the difference of two numbers held with the same offset
 pub sub_minus : (a b k : ℕ) → sub_ℕ a k -ℤ sub_ℕ b k ≡ sub_ℕ a b
-sub_minus a b k =
-    ap (λ (z : ℤ). sub_ℕ a k +ℤ z) (minus_sub b k) ∙ sub_add a k k b ∙ sub_eq (a + k) (k + b) a b (omega arith)
+sub_minus a b k = omega (arith, ints, apart a k, apart b k, apart a b)
+
+-- minus a whole number
+minus_pos : (n : ℕ) → neg_ℤ (pos n) ≡ sub_ℕ 0 n
+minus_pos n = omega (arith, ints, apart 0 n)
 
 -- a difference times a whole number
 pub sub_times : (a b w : ℕ) → sub_ℕ a b *ℤ pos w ≡ sub_ℕ (a * w) (b * w)

@@ -1,5 +1,4 @@
 -- The bench values of the river file paper for saturation, proved from the definitions by computation.
--- They are named by the laws of saturation, so that these rows are checked first.
 use mathlib.Core.Path.{◌≡◌, refl}
 use Rattle.flows.specs.Saturation.{saturation, saturation_thousandths, standard_pressure}
 

@@ -1,15 +1,14 @@
 -- Cards with the rates in force: what they have of the cards as given, and that they are lawful too where they pass the flow check.
-use mathlib.Core.Path.{◌≡◌, refl, sym, subst}
-use mathlib.Core.List.{List, [], ◌∷◌, map}
+use mathlib.Core.Path.{◌≡◌, refl, sym, ap, subst, ◌∙◌}
+use mathlib.Core.List.{List, [], ◌∷◌, ◌++◌, map}
 use Prim.Native.Nat.{ℕ, zero, suc, ◌<◌}
 use native.Mathlib.Nat.{not-suc-le-zero, le_of_suc-le-suc}
 use native.Mathlib.Omega.{arith}
-use lib.ListN.{length, get_or, length-map}
+use lib.ListN.{length, take, drop, get_or, length-map}
+use Rattle.std.specs.Prelude.{Option, Some, None}
 use Rattle.river.specs.declared.card.Card.{Card}
 use Rattle.river.specs.declared.card.Nitrification.{Nitrification}
-use Rattle.river.specs.declared.card.Nitrification.TheVariants.{Nitrifying}
 use Rattle.river.specs.declared.card.RateFactors.{RateFactors}
-use Rattle.river.specs.declared.card.RateFactors.TheVariants.{PerDegree}
 use Rattle.river.specs.Card.{RegularNitrification, RegularCard, LawfulCard, RatesInRange, EachFrom, Lawful, Regular, blank}
 use Rattle.river.specs.River.{River}
 use Rattle.flows.specs.Rates.{decay_in_force, aeration_in_force, with_rate, card_in_force, in_force, CorrectableCard}
@@ -18,14 +17,14 @@ use Rattle.river.proofs.range.Ranges.{regular_nitrification, regular_with, asked
 use Rattle.flows.proofs.rates.Correction.{thousand}
 
 -- factors that change no rate leave the cards as given
-record ChangesNothing (f : RateFactors) : Type 0 where
+record ChangesNothing (f : Option RateFactors) : Type 0 where
   decay : (T rate : ℕ) → decay_in_force f T rate ≡ rate
   aeration : (T rate : ℕ) → aeration_in_force f T rate ≡ rate
 
-module _ (f : RateFactors) (still : ChangesNothing f) where
-  nitrification_stays : (T : ℕ) (n : Nitrification) → with_rate (decay_in_force f T) n ≡ n
-  nitrification_stays T Nitrification.Absent = refl
-  nitrification_stays T (Nitrifying rate concentration load) = rw still.decay
+module _ (f : Option RateFactors) (still : ChangesNothing f) where
+  nitrification_stays : (T : ℕ) (n : Option Nitrification) → with_rate (decay_in_force f T) n ≡ n
+  nitrification_stays T None = refl
+  nitrification_stays T (Some n) = rw still.decay
 
   card_stays : (c : Card) → card_in_force f c ≡ c
   card_stays c = rw (nitrification_stays, still.decay, still.aeration)
@@ -35,27 +34,36 @@ module _ (f : RateFactors) (still : ChangesNothing f) where
   cards_stay (c ∷ cs) = λ j. card_stays c j ∷ cards_stay cs j
 
 -- no factors
-pub as_given : (cs : List Card) → map (card_in_force RateFactors.Absent) cs ≡ cs
+pub as_given : (cs : List Card) → map (card_in_force None) cs ≡ cs
 unfolding decay_in_force aeration_in_force
-as_given = cards_stay RateFactors.Absent (record { decay = λ T rate. refl; aeration = λ T rate. refl })
+as_given = cards_stay None (record { decay = λ T rate. refl; aeration = λ T rate. refl })
 
 -- THEOREM: and factors of 1,000, at any temperature
-pub nothing_corrected : (cs : List Card) → map (card_in_force (PerDegree 1_000 1_000)) cs ≡ cs
+pub nothing_corrected : (cs : List Card) → map (card_in_force (Some (record { decay = 1_000; aeration = 1_000 }))) cs ≡ cs
 unfolding decay_in_force aeration_in_force
-nothing_corrected = cards_stay (PerDegree 1_000 1_000) (record { decay = thousand; aeration = thousand })
+nothing_corrected = cards_stay (Some (record { decay = 1_000; aeration = 1_000 })) (record { decay = thousand; aeration = thousand })
 
 -- the card of a reach
-pub card_in_force_lem : (f : RateFactors) (cs : List Card) (j : ℕ) → j < length cs → get_or (map (card_in_force f) cs) j blank ≡ card_in_force f (get_or cs j blank)
+pub card_in_force_lem : (f : Option RateFactors) (cs : List Card) (j : ℕ) → j < length cs → get_or (map (card_in_force f) cs) j blank ≡ card_in_force f (get_or cs j blank)
 card_in_force_lem f [] j l = absurd (not-suc-le-zero l)
 card_in_force_lem f (c ∷ cs) zero l = refl
 card_in_force_lem f (c ∷ cs) (suc j) l = card_in_force_lem f cs j (le_of_suc-le-suc l)
 
--- cards that were lawful stay regular
-nitrification_regular : (change : ℕ → ℕ) (n : Nitrification) → RegularNitrification n → RegularNitrification (with_rate change n)
-nitrification_regular change Nitrification.Absent h = tt
-nitrification_regular change (Nitrifying rate concentration load) h = h
+-- where the cards before it are corrected, the next is as given
+pub next_given : (f : Card → Card) (cs : List Card) (i : ℕ) {now : List Card} → now ≡ map f (take i cs) ++ drop i cs → i < length cs → get_or now i blank ≡ get_or cs i blank
+next_given f cs i e l = ap (λ (s : List Card). get_or s i blank) e ∙ same cs i l
+  where
+    same : (cs : List Card) (i : ℕ) → i < length cs → get_or (map f (take i cs) ++ drop i cs) i blank ≡ get_or cs i blank
+    same [] i l = absurd (not-suc-le-zero l)
+    same (c ∷ cs) zero l = refl
+    same (c ∷ cs) (suc i) l = same cs i (le_of_suc-le-suc l)
 
-card_regular : (f : RateFactors) (n i : ℕ) (c : Card) → RegularCard n i c → RegularCard n i (card_in_force f c)
+-- cards that were lawful stay regular
+nitrification_regular : (change : ℕ → ℕ) (n : Option Nitrification) → RegularNitrification n → RegularNitrification (with_rate change n)
+nitrification_regular change None h = tt
+nitrification_regular change (Some n) h = h
+
+card_regular : (f : Option RateFactors) (n i : ℕ) (c : Card) → RegularCard n i c → RegularCard n i (card_in_force f c)
 card_regular f n i c h =
     record {
       in_range =
@@ -72,7 +80,7 @@ card_regular f n i c h =
       optionals = regular_with (nitrification_regular (decay_in_force f c.temperature) c.optionals.nitrification (regular_nitrification h.optionals)) h.optionals;
     }
 
-regular_from : (f : RateFactors) (n i : ℕ) (cs : List Card) → EachFrom LawfulCard n i cs → EachFrom RegularCard n i (map (card_in_force f) cs)
+regular_from : (f : Option RateFactors) (n i : ℕ) (cs : List Card) → EachFrom LawfulCard n i cs → EachFrom RegularCard n i (map (card_in_force f) cs)
 regular_from f n i [] h = tt
 regular_from f n i (c ∷ cs) h = (card_regular f n i c h.0.regular, regular_from f n (suc i) cs h.1)
 

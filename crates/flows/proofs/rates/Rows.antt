@@ -1,19 +1,16 @@
 -- The bench values of the river file paper for corrected rates, proved from the definitions by computation.
--- They are named by the laws of the correction and of the cards with the rates in force, so that these rows are checked first.
 use mathlib.Core.Path.{◌≡◌, refl}
+use Rattle.std.specs.Prelude.{Some, None}
 use Rattle.river.specs.declared.card.Card.{Card}
-use Rattle.river.specs.declared.card.Dam.{Dam}
-use Rattle.river.specs.declared.card.Nitrification.TheVariants.{Nitrifying}
-use Rattle.river.specs.declared.card.RateFactors.TheVariants.{PerDegree}
 use Rattle.river.specs.declared.source.Demand.TheVariants.{Nitrogenous}
 use Rattle.river.specs.Card.{no_optionals, with_nitrification}
 use Rattle.river.specs.Source.{rate_of}
-use Rattle.flows.specs.Rates.{warmed, cooled, corrected_rate, decay_in_force, aeration_in_force, card_in_force}
+use Rattle.flows.specs.Rates.{scaled, corrected_rate, decay_in_force, aeration_in_force, card_in_force}
 
 -- a card at 25 degrees, all of whose rates are 1,000, with rates in force by two factors
 abbrev warm : Card
 warm =
-    card_in_force (PerDegree 1_047 1_024)
+    card_in_force (Some (record { decay = 1_047; aeration = 1_024 }))
     (record {
       outlet = 0;
       temperature = 25;
@@ -24,8 +21,8 @@ warm =
       inflow_bod = 0;
       inflow_oxygen = 0;
       load = 0;
-      dam = Dam.Absent;
-      optionals = with_nitrification (Nitrifying 1_000 0 0) no_optionals;
+      dam = None;
+      optionals = with_nitrification (Some (record { rate = 1_000; concentration = 0; load = 0 })) no_optionals;
     })
 
 pub record RateRows : Type 0 where
@@ -44,7 +41,7 @@ pub record RateRows : Type 0 where
 
 -- THEOREM: these values, a row each
 pub rate_rows : RateRows
-unfolding corrected_rate warmed cooled decay_in_force aeration_in_force
+unfolding corrected_rate scaled decay_in_force aeration_in_force
 rate_rows =
     record {
       at_25 = refl;

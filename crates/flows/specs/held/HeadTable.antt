@@ -1,27 +1,25 @@
 -- The tables that the program keeps of what reaches bring, and what the head of a reach needs and promises. Nothing here has to be believed
 -- of the paper: laws tie the tables to its definitions.
-use Rattle.std.specs.Prelude.{◌≡◌, Bool, true, false, ◌||◌, List, ℕ, suc, ◌+◌, ◌*◌, ◌<◌, ◌≤◌, ◌^◌, length, get_or, set, replicate}
+use Rattle.std.specs.Prelude.{◌≡◌, Option, Some, None, Bool, true, false, ◌||◌, List, ℕ, suc, ◌+◌, ◌*◌, ◌<◌, ◌≤◌, ◌^◌, length, take, get_or, replicate}
 use Rattle.river.specs.declared.card.Dam.{Dam}
-use Rattle.river.specs.declared.card.Dam.TheVariants.{Aerating}
 use Rattle.river.specs.declared.card.Card.{Card}
 use Rattle.river.specs.declared.source.Demand.TheVariants.{Bod, Nitrogenous}
 use Rattle.river.specs.declared.source.Source.{Source}
-use Rattle.flows.specs.declared.flow.FlowTable.{FlowTable}
+use Rattle.flows.specs.declared.flow.ReachFlows.{ReachFlows}
 use Rattle.flows.specs.declared.head.Brought.{Brought}
-use Rattle.flows.specs.declared.head.BroughtTable.{BroughtTable}
 use Rattle.flows.specs.declared.head.Head.{Head}
 use Rattle.river.specs.Card.{FieldsInRange, Lawful}
 use Rattle.flows.specs.Saturation.{SaturationInRange}
 use Rattle.river.specs.Source.{source_of, source_mass}
 use Rattle.flows.specs.Flow.{flow_limit, mass_limit, Flows, own_mass, flow_at, mass_at}
 use Rattle.flows.specs.Head.{head_demand, head_oxygen}
-use Rattle.flows.specs.held.FlowTable.{table_sum, table_any, feeder_sum, Tabled}
+use Rattle.flows.specs.held.FlowTable.{table_sum, table_any, Tabled}
 use Rattle.flows.specs.held.Stored.{stored_limit, oxygen_of, oxygen_sum_of}
 
 -- a dam's share is at most 1,000, and its generating flow at most Qu
-abbrev pub DamWithin : Dam → (Qu : ℕ) → Type 0
-DamWithin Dam.Absent Qu = Unit
-DamWithin (Aerating share generating) Qu = (share ≤ 1_000) × (generating ≤ Qu)
+abbrev pub DamWithin : Option Dam → (Qu : ℕ) → Type 0
+DamWithin None Qu = Unit
+DamWithin (Some dam) Qu = (dam.share ≤ 1_000) × (dam.generating ≤ Qu)
 
 -- a part of a whole that is small enough for a product with 16 bits
 pub record PartOf (part whole : ℕ) : Type 0 where
@@ -56,60 +54,61 @@ pub record OxygenReady (card : Card) (fed : Bool) (Qu sum : ℕ) : Type 0 where
   pub ready : HeadReady card fed Qu
   pub within : sum ≤ stored_limit * Qu
 
--- tables of nothing brought
-abbrev pub nothing_brought : BroughtTable
-nothing_brought = record { bod = replicate 128 0; nitrogenous = replicate 128 0; oxygen = replicate 128 0; used = replicate 128 false }
+-- nothing brought, and that by each of 128 reaches
+abbrev pub no_brought : Brought
+no_brought = record { bod = 0; nitrogenous = 0; oxygen = 0; used = false }
+
+abbrev pub nothing_brought : List Brought
+nothing_brought = replicate 128 no_brought
+
+-- what reach j + 1 brings
+abbrev pub brings_by : List Brought → (j : ℕ) → Brought
+brings_by by_reach j = get_or by_reach j no_brought
 
 -- what a foot brings: flow × each demand and flow × stored oxygen, and whether oxygen is used up there or above
 abbrev pub brought_by : (flow bod nitrogenous oxygen : ℕ) (used : Bool) → Brought
 brought_by flow bod nitrogenous oxygen used =
     record { bod = flow * bod; nitrogenous = flow * nitrogenous; oxygen = flow * oxygen; used = used }
 
--- tables with what reach i + 1 brings entered
-abbrev pub brought_entered : BroughtTable → ℕ → Brought → BroughtTable
-brought_entered by_reach i brought =
-    record {
-      bod = set by_reach.bod i brought.bod;
-      nitrogenous = set by_reach.nitrogenous i brought.nitrogenous;
-      oxygen = set by_reach.oxygen i brought.oxygen;
-      used = set by_reach.used i brought.used;
-    }
-
 -- what is brought with what one more feeder brings, and what that needs
-abbrev pub brought_with : Brought → (bod nitrogenous oxygen : ℕ) (used : Bool) → Brought
-brought_with brought bod nitrogenous oxygen used =
+abbrev pub brought_with : Brought → Brought → Brought
+brought_with brought more =
     record {
-      bod = brought.bod + bod;
-      nitrogenous = brought.nitrogenous + nitrogenous;
-      oxygen = brought.oxygen + oxygen;
-      used = used || brought.used;
+      bod = brought.bod + more.bod;
+      nitrogenous = brought.nitrogenous + more.nitrogenous;
+      oxygen = brought.oxygen + more.oxygen;
+      used = more.used || brought.used;
     }
 
-pub record BroughtWithFits (brought : Brought) (QL QLn QC : ℕ) : Type 0 where
-  pub bod : brought.bod + QL < 2 ^ 64
-  pub nitrogenous : brought.nitrogenous + QLn < 2 ^ 64
-  pub oxygen : brought.oxygen + QC < 2 ^ 64
+pub record BroughtWithFits (brought more : Brought) : Type 0 where
+  pub bod : brought.bod + more.bod < 2 ^ 64
+  pub nitrogenous : brought.nitrogenous + more.nitrogenous < 2 ^ 64
+  pub oxygen : brought.oxygen + more.oxygen < 2 ^ 64
 
--- what the feeders of reach i among the first n reaches bring, by tables of outlets and of what each reach brings
-abbrev pub brought_among : (outlets of_bod of_nitrogenous of_oxygen : List ℕ) (of_used : List Bool) (n i : ℕ) → Brought
-brought_among outlets of_bod of_nitrogenous of_oxygen of_used n i =
+-- what the feeders of reach i among the first n reaches bring, by a table of the reaches and by what each brings
+abbrev pub brought_among : (t : List ReachFlows) (by_reach : List Brought) (n i : ℕ) → Brought
+brought_among t by_reach n i =
     record {
-      bod = table_sum outlets of_bod n i;
-      nitrogenous = table_sum outlets of_nitrogenous n i;
-      oxygen = table_sum outlets of_oxygen n i;
-      used = table_any outlets of_used n i;
+      bod = table_sum t (λ j. (brings_by by_reach j).bod) n i;
+      nitrogenous = table_sum t (λ j. (brings_by by_reach j).nitrogenous) n i;
+      oxygen = table_sum t (λ j. (brings_by by_reach j).oxygen) n i;
+      used = table_any t (λ j. (brings_by by_reach j).used) n i;
     }
 
--- what all feeders of reach i + 1 bring
-abbrev pub brought_to : (outlets of_bod of_nitrogenous of_oxygen : List ℕ) (of_used : List Bool) (i : ℕ) → Brought
-brought_to outlets of_bod of_nitrogenous of_oxygen of_used i = brought_among outlets of_bod of_nitrogenous of_oxygen of_used i (suc i)
+-- what all feeders of reach i in a table bring
+abbrev pub brought_to : (t : List ReachFlows) (by_reach : List Brought) (i : ℕ) → Brought
+brought_to t by_reach i = brought_among t by_reach (length t) i
 
--- what these sums need: they fit eight bytes
-pub record BroughtFits (outlets of_bod of_nitrogenous of_oxygen : List ℕ) (i : ℕ) : Type 0 where
-  pub few : i < 128
-  pub bod : feeder_sum outlets of_bod i < 2 ^ 64
-  pub nitrogenous : feeder_sum outlets of_nitrogenous i < 2 ^ 64
-  pub oxygen : feeder_sum outlets of_oxygen i < 2 ^ 64
+-- what these sums need: what each reach of the table brings, and that they fit eight bytes
+pub record BroughtFits (t : List ReachFlows) (by_reach : List Brought) (i : ℕ) : Type 0 where
+  pub each : length by_reach ≡ length t
+  pub bod : table_sum t (λ j. (brings_by by_reach j).bod) (length t) i < 2 ^ 64
+  pub nitrogenous : table_sum t (λ j. (brings_by by_reach j).nitrogenous) (length t) i < 2 ^ 64
+  pub oxygen : table_sum t (λ j. (brings_by by_reach j).oxygen) (length t) i < 2 ^ 64
+
+-- what flows into reach i + 1 brings, by the reaches before it
+abbrev pub brought_by_feeders : (t : List ReachFlows) (by_reach : List Brought) (i : ℕ) → Brought
+brought_by_feeders t by_reach i = brought_to (take i t) (take i by_reach) (suc i)
 
 -- what the head of a reach needs, by its card, whether it has feeders, Qu, and what the feeders bring
 pub record HeadInput (card : Card) (fed : Bool) (Qu : ℕ) (brought : Brought) : Type 0 where
@@ -128,21 +127,13 @@ pub record BroughtWithin (cards : List Card) (i : ℕ) (brought : Brought) : Typ
   pub demands : brought.bod + brought.nitrogenous ≤ 1_000 * mass_at cards (suc i)
   pub oxygen : brought.oxygen ≤ stored_limit * flow_at cards (suc i)
 
--- tables of 128 reaches
-pub record BroughtFull (by_reach : BroughtTable) : Type 0 where
-  pub bod : length by_reach.bod ≡ 128
-  pub nitrogenous : length by_reach.nitrogenous ≡ 128
-  pub oxygen : length by_reach.oxygen ≡ 128
-  pub used : length by_reach.used ≡ 128
-
--- tables of what the first n reaches bring, in these bounds
-pub record Carried (cards : List Card) (by_reach : BroughtTable) (n : ℕ) : Type 0 where
-  pub full : BroughtFull by_reach
-  pub demands : (j : ℕ) → j < n → get_or by_reach.bod j 0 + get_or by_reach.nitrogenous j 0 ≤ 1_000 * mass_at cards (suc j)
-  pub oxygen : (j : ℕ) → j < n → get_or by_reach.oxygen j 0 ≤ stored_limit * flow_at cards (suc j)
+-- what the first n of 128 reaches bring, in these bounds
+pub record Carried (cards : List Card) (by_reach : List Brought) (n : ℕ) : Type 0 where
+  pub full : length by_reach ≡ 128
+  pub within : (j : ℕ) → j < n → BroughtWithin cards j (brings_by by_reach j)
 
 -- the tables before the head of reach i + 1: an accepted river, its flows and what the reaches before bring
-pub record HeadTabled (cards : List Card) (flows : FlowTable) (by_reach : BroughtTable) (i : ℕ) : Type 0 where
+pub record HeadTabled (cards : List Card) (flows : List ReachFlows) (by_reach : List Brought) (i : ℕ) : Type 0 where
   pub lawful : Lawful cards
   pub sound : Flows cards
   pub within : i < length cards

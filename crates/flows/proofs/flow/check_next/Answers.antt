@@ -9,7 +9,7 @@ use Rattle.river.specs.declared.card.Card.{Card}
 use Rattle.flows.specs.declared.flow.Upstream.{Upstream}
 use Rattle.flows.proofs.flow.Count.{card_in_range, card_sources, own_mass_few}
 use Rattle.flows.proofs.flow.Groups.{checks_ask, decided}
-use Rattle.flows.proofs.flow.Checks.{gathered_small, next_refused, next_passed}
+use Rattle.flows.proofs.flow.Checks.{gathered_small, next_answer, next_flows, next_refused, next_passed}
 use Rattle.flows.proofs.flow.check_next.Goals as goal
 
 -- the reaches before have passed, and this is a reach of the river
@@ -31,34 +31,37 @@ overflow_add-mass c =
     let s = c.requires in
     omega (arith, gathered_small (next s) s.gathered, own_mass_few s.own s.underway.regular s.within c.own_mass.ensures)
 
-pub returns-in_default : goal.returns-in_default
-returns-in_default c =
+pub returns-in_err-check : goal.returns-in_err-check
+returns-in_err-check c =
     λ here.
-    next_refused (here.underway, here.within) here.gathered here.own c.own_mass.ensures (add-one _) c.check-outcome.ensures c.in_default.is
+    next_refused (next_answer (next here) here.gathered here.own c.from.ensures c.own_mass.ensures (add-one _) c.in_err-check.ensures) c.from_residual.ensures.1
 
 -- what has passed: 13 and 8
-pub remaining_mass-mass-requires : goal.remaining_mass-mass-requires
-remaining_mass-mass-requires c =
-    let passed = decided c.check-outcome.ensures (checks_ask _ _ _ _ _ _) c.in-Accepted.is in
+pub remaining_mass-requires : goal.remaining_mass-requires
+remaining_mass-requires c =
+    let passed = decided c.in_ok-check.ensures (checks_ask _ _ _ _ _ _) in
     (rw c.take_of-take.ensures passed.1.1.0, passed.0.1.0)
 
-pub overflow_sub-remaining : goal.overflow_sub-remaining
-overflow_sub-remaining c =
-    let passed = decided c.check-outcome.ensures (checks_ask _ _ _ _ _ _) c.in-Accepted.is in
+pub overflow_sub-result : goal.overflow_sub-result
+overflow_sub-result c =
+    let passed = decided c.in_ok-check.ensures (checks_ask _ _ _ _ _ _) in
     rw c.take_of-take.ensures (le_of_lt passed.1.1.0)
 
-pub overflow_add-depth : goal.overflow_add-depth
-overflow_add-depth c = let s = c.requires in omega (arith, gathered_small (next s) s.gathered)
+pub overflow_add-result : goal.overflow_add-result
+overflow_add-result c = let s = c.requires in omega (arith, gathered_small (next s) s.gathered)
 
 pub overflow_cast-result : goal.overflow_cast-result
 overflow_cast-result c =
-    omega (arith, (decided c.check-outcome.ensures (checks_ask _ _ _ _ _ _) c.in-Accepted.is).0.1.0)
+    omega (arith, (decided c.in_ok-check.ensures (checks_ask _ _ _ _ _ _)).0.1.0)
 
 pub overflow_cast-result-2 : goal.overflow_cast-result-2
 overflow_cast-result-2 c =
-    omega (arith, (decided c.check-outcome.ensures (checks_ask _ _ _ _ _ _) c.in-Accepted.is).0.1.0)
+    omega (arith, (decided c.in_ok-check.ensures (checks_ask _ _ _ _ _ _)).0.1.0)
 
 pub returns : goal.returns
 returns c =
     λ here.
-    next_passed (here.underway, here.within) here.gathered here.own c.own_mass.ensures (add-one _) c.check-outcome.ensures c.take_of-take.ensures c.remaining_mass-mass.ensures
+    let at = next here in
+    next_passed
+    (next_answer at here.gathered here.own c.from.ensures c.own_mass.ensures (add-one _) c.in_ok-check.ensures)
+    (next_flows at here.gathered here.own c.from.ensures c.own_mass.ensures c.take_of-take.ensures c.remaining_mass.ensures)

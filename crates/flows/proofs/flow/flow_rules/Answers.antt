@@ -1,28 +1,17 @@
--- `flows::flow::flow_rules` meets its contract: each answer follows from the tests that led to it.
-use mathlib.Core.Path.{sym, ◌∙◌}
-use native.Mathlib.Omega.{arith}
-use borrow.Author.Tests.{lt-ltb, le-ltb, le-leb, lt-leb}
-use Rattle.river.specs.Refusal.{need, go_on}
-use Rattle.flows.specs.Flow.{◌then◌, flow_rules}
+-- `flows::flow::flow_rules` meets its contract: the answers of its checks join.
+use Rattle.flows.specs.Flow.{flow_rules}
+use Rattle.flows.proofs.flow.Groups.{stops, leaves}
 use Rattle.flows.proofs.flow.flow_rules.Goals as goal
 
-pub returns-then-flow-eq0 : goal.returns-then-flow-eq0
-unfolding flow_rules ◌then◌ need go_on
-returns-then-flow-eq0 c = record { answer = λ later. rw (c.refuse.ensures, le-ltb 0 c.args.flow (omega arith)) }
+pub returns-in_err-need : goal.returns-in_err-need
+unfolding flow_rules
+returns-in_err-need c = stops _ c.in_err-need.ensures c.from_residual.ensures.1
 
-pub returns-then-flow-gt-FLOW_LIMIT : goal.returns-then-flow-gt-FLOW_LIMIT
-unfolding flow_rules ◌then◌ need go_on
-returns-then-flow-gt-FLOW_LIMIT c =
-    record { answer = λ later. rw (c.refuse-then-flow-gt-FLOW_LIMIT.ensures, lt-ltb 0 c.args.flow (omega arith), lt-leb _ _ c.if-flow-gt-FLOW_LIMIT.true) }
-
-pub returns-then-not-dam_fits : goal.returns-then-not-dam_fits
-unfolding flow_rules ◌then◌ need go_on
-returns-then-not-dam_fits c =
-    let q = c.args.flow in
-    record { answer = λ later. rw (c.refuse-then-not-dam_fits.ensures, lt-ltb 0 q (omega arith), le-leb _ _ c.if-flow-gt-FLOW_LIMIT.false, sym c.dam_fits.ensures ∙ c.if-not-dam_fits.true) }
+pub returns-in_err-need-2 : goal.returns-in_err-need-2
+unfolding flow_rules
+returns-in_err-need-2 c =
+    leaves c.in_ok-need.ensures (stops _ c.in_err-need-2.ensures c.from_residual-in_err-need-2.ensures.1)
 
 pub returns : goal.returns
-unfolding flow_rules ◌then◌ need go_on
-returns c =
-    let q = c.args.flow in
-    record { answer = λ later. rw (lt-ltb 0 q (omega arith), le-leb _ _ c.if-flow-gt-FLOW_LIMIT.false, sym c.dam_fits.ensures ∙ c.if-not-dam_fits.false) }
+unfolding flow_rules
+returns c = leaves c.in_ok-need.ensures (leaves c.in_ok-need-2.ensures (rw c.dam_fits.ensures at c.need-3.ensures))

@@ -1,34 +1,28 @@
 -- `flows::head::head_oxygen` meets its contract: the mixture of stored numbers, rounded down.
-use Prim.Native.Nat.{◌≤◌}
-use native.Mathlib.Omega.{arith}
-use Rattle.flows.specs.Head.{head_oxygen}
-use Rattle.flows.specs.held.Stored.{stored_limit}
-use Rattle.flows.proofs.head.Bounds.{oxygen_total, oxygen_small}
-use Rattle.flows.proofs.head.Stored.{mixed_stored}
+use mathlib.Core.Path.{◌≡◌, ap, ◌∙◌}
+use mathlib.Core.Bool.{true}
+use Rattle.std.proofs.lemmas.Bool.{false_from_ne_true}
+use Rattle.flows.specs.Head.{upstream_oxygen, below_dam, head_oxygen}
+use Rattle.flows.specs.held.Stored.{oxygen_of, oxygen_sum_of}
+use Rattle.flows.proofs.head.Stored.{mean_stored, mixed_stored}
+use Rattle.flows.proofs.head.head_oxygen.Goals.{in-None, in-Some}
 use Rattle.flows.proofs.head.head_oxygen.Goals as goal
 
-pub overflow_mul-result : goal.overflow_mul-result
-overflow_mul-result c =
-    let u : c.upstream_oxygen-upstream.result ≤ stored_limit = omega arith in
-    omega (arith, oxygen_total c.args.qu c.args.card.inflow u c.requires.ready.fields.inflow_oxygen, c.requires.ready.flows.bounded)
-
-pub overflow_mul-result-3 : goal.overflow_mul-result-3
-overflow_mul-result-3 c =
-    let u : c.upstream_oxygen-upstream.result ≤ stored_limit = omega arith in
-    omega (arith, oxygen_total c.args.qu c.args.card.inflow u c.requires.ready.fields.inflow_oxygen, c.requires.ready.flows.bounded)
-
-pub overflow_add-result-2 : goal.overflow_add-result-2
-overflow_add-result-2 c =
-    let u : c.upstream_oxygen-upstream.result ≤ stored_limit = omega arith in
-    omega (arith, oxygen_total c.args.qu c.args.card.inflow u c.requires.ready.fields.inflow_oxygen, c.requires.ready.flows.bounded)
-
-pub overflow_cast-result-2 : goal.overflow_cast-result-2
-overflow_cast-result-2 c =
-    let u : c.upstream_oxygen-upstream.result ≤ stored_limit = omega arith in
-    omega (arith, oxygen_small c.args.qu c.args.card.inflow u c.requires.ready.fields.inflow_oxygen)
+module _ (c : goal.After-from-2) where
+  upstream_is : oxygen_of c.match-upstream_mean.upstream ≡ below_dam c.args.card c.args.fed c.args.qu (upstream_oxygen c.args.fed c.args.qu (oxygen_sum_of c.args.qu c.args.sum))
+  unfolding upstream_oxygen below_dam oxygen_of
+  upstream_is =
+      let q = c.args.qu in
+      elim c.match-upstream_mean.branch [
+        | in-None w ↦ rw (w.upstream-is, false_from_ne_true c.args.fed (rw w.in-None.is at c.upstream_mean.ensures))
+        | in-Some w ↦
+            let k = rw w.in-Some.is at c.upstream_mean.ensures in
+            rw (w.upstream-is, k.0) (w.below_dam-upstream.ensures ∙ ap (below_dam c.args.card true q) (rw k.1 (mean_stored q c.args.sum (c.requires.ready.flows.feeders_flow k.0))))
+      ]
 
 pub returns : goal.returns
 unfolding head_oxygen
 returns c =
     let a = c.args in
-    rw (← c.upstream_oxygen-upstream.ensures) (mixed_stored a.qu a.card.inflow c.upstream_oxygen-upstream.result a.card.inflow_oxygen c.requires.ready.flows.flowing)
+    rw (c.from-2.ensures, c.from-inflow.ensures, c.from.ensures, ← upstream_is c)
+    (mixed_stored a.qu a.card.inflow c.match-upstream_mean.upstream a.card.inflow_oxygen c.requires.ready.flows.flowing)

@@ -1,35 +1,33 @@
--- `flows::rates::corrected_rate` meets its contract: below 20 degrees it is cooled, and from 20 on warmed, and the result fits four bytes.
-use mathlib.Core.Path.{sym, ap, ◌∙◌}
-use Prim.Native.Nat.{ℕ, ◌-◌, ◌*◌, ◌/◌}
+-- `flows::rates::corrected_rate` meets its contract: it is cooled and then warmed, one of them by no degree, and the result fits four bytes.
+use Prim.Native.Nat.{◌*◌, ◌≤◌}
 use native.Mathlib.Omega.{arith}
-use Rattle.flows.proofs.rates.Correction.{warmed_small, cooled_small, below_twenty, from_twenty}
+use Rattle.flows.specs.Rates.{corrected_rate}
+use Rattle.flows.proofs.rates.Correction.{warmed_small, cooled_small}
 use Rattle.flows.proofs.rates.corrected_rate.Goals as goal
+use Rattle.flows.proofs.rates.corrected_rate.Goals.{After-scaled-cold}
 
-pub overflow_mul-millionths : goal.overflow_mul-millionths
-overflow_mul-millionths c = omega (arith, c.requires.1.rate)
+-- a rate that is cooled is no larger
+cold : (c : After-scaled-cold) → c.scaled-cold.result ≤ 20_000_000_000
+cold c =
+    let least : 1_000 ≤ c.from-factor.result = omega (arith, c.from-factor.ensures, c.requires.0.least) in
+    omega (arith, c.scaled-cold.ensures, cooled_small _ c.saturating_sub-below.result (c.from.result * 1_000_000) least, c.from.ensures, c.requires.1.rate)
 
-pub cooled-requires : goal.cooled-requires
-cooled-requires c = (c.requires.0.least, omega (arith, c.requires.1.rate))
+pub scaled-requires : goal.scaled-requires
+scaled-requires c =
+    record {
+      numerator = omega (arith, c.from-factor.ensures, c.requires.0.most);
+      denominator = omega arith;
+      degrees = omega (arith, c.saturating_sub-above.ensures, c.requires.1.temperature);
+      rate = cold c;
+    }
 
 pub overflow_cast-result : goal.overflow_cast-result
 overflow_cast-result c =
-    let a = c.args in
-    omega (arith, c.cooled.ensures, cooled_small a.factor (20 - a.temperature) (a.rate * 1_000_000) c.requires.0.least, c.requires.1.rate)
-
-pub returns-then-temperature-lt-STANDARD_TEMPERATURE : goal.returns-then-temperature-lt-STANDARD_TEMPERATURE
-returns-then-temperature-lt-STANDARD_TEMPERATURE c =
-    let a = c.args in
-    ap (λ (x : ℕ). x / 1_000_000) c.cooled.ensures ∙ sym (below_twenty a.factor a.temperature a.rate c.if-temperature-lt-STANDARD_TEMPERATURE.true)
-
-pub warmed-requires : goal.warmed-requires
-warmed-requires c = (c.requires.0.most, omega (arith, c.requires.1.temperature), omega (arith, c.requires.1.rate))
-
-pub overflow_cast-result-2 : goal.overflow_cast-result-2
-overflow_cast-result-2 c =
-    let a = c.args in
-    omega (arith, c.warmed.ensures, warmed_small a.factor (a.temperature - 20) (a.rate * 1_000_000) c.requires.0.most (omega (arith, c.requires.1.temperature)) (omega (arith, c.requires.1.rate)))
+    let most : c.from-factor.result ≤ 1_100 = omega (arith, c.from-factor.ensures, c.requires.0.most) in
+    let above : c.saturating_sub-above.result ≤ 15 = omega (arith, c.saturating_sub-above.ensures, c.requires.1.temperature) in
+    omega (arith, c.scaled.ensures, warmed_small _ _ _ most above (cold (goal.at.overflow_cast-result c).After-scaled-cold))
 
 pub returns : goal.returns
+unfolding corrected_rate
 returns c =
-    let a = c.args in
-    ap (λ (x : ℕ). x / 1_000_000) c.warmed.ensures ∙ sym (from_twenty a.factor a.temperature a.rate c.if-temperature-lt-STANDARD_TEMPERATURE.false)
+    rw (c.scaled.ensures, c.scaled-cold.ensures, c.saturating_sub-above.ensures, c.saturating_sub-below.ensures, c.from-factor.ensures, c.from.ensures)
