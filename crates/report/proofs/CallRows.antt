@@ -4,13 +4,14 @@ use mathlib.Core.Path.{◌≡◌, refl}
 use Prim.Native.Nat.{ℕ, ◌+◌}
 use Rattle.river.specs.Refusal.{Answer, accepted, refused, refuse}
 use Rattle.report.specs.Call.{result_of, lent_after}
+use Rattle.river.specs.declared.refusal.Rule.TheVariants.{FieldRange}
 
 -- an accepted 3, and a refusal with number 4 at reach 2
 abbrev three : Answer ℕ
 three = accepted 3
 
 abbrev refusal : Answer ℕ
-refusal = refused (refuse 4 2)
+refusal = refused (refuse FieldRange 2)
 
 pub record CallRows : Type 0 where
   -- 0, and number + 256 × reach

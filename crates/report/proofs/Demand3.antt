@@ -1,6 +1,5 @@
 -- Demand 3: the figures of every reach of every river that reading and the flow check accept lie within the allowance of the exact recurrence,
 -- at every status, with oxygen as it is carried on.
--- The refutations and the rows of units are named here so that they are checked first: an allowance that rules out too little is refused by them.
 use mathlib.Core.Path.{sym, subst}
 use mathlib.Core.Bool.{Bool, true, false, cond}
 use mathlib.Core.List.{List, [], ◌∷◌}

@@ -1,6 +1,5 @@
 -- The entry's contract follows from its result and the buffer that it leaves: the figures read back from the bytes are those of the definitions, for
 -- which demand 3 holds. Assumes nothing.
-pub mod Signed
 use mathlib.Core.Path.{◌≡◌, refl, sym, ap, ◌∙◌, subst}
 use mathlib.Core.Logic.{◌↔◌}
 use mathlib.Core.Bool.{Bool, true, false, cond}
@@ -9,17 +8,16 @@ use Prim.Native.Nat.{ℕ, suc, ◌-◌, ◌≤◌, ◌<◌}
 use native.Mathlib.Nat.{le_refl}
 use native.Mathlib.Omega.{arith}
 use borrow.Author.Tests.{lt-ltb, le-ltb, le-leb, lt-leb, leb-true}
-use lib.Dec.{eqb, leb→le, lit<}
+use lib.Dec.{eqb, leb→le}
 use lib.IntN.{ℤ, pos, negsuc}
 use lib.Signed.{◌≤ℤ◌}
 use lib.ListN.{length, drop}
 use Rattle.river.specs.declared.card.Card.{Card}
 use Rattle.river.specs.declared.refusal.Refusal.{Refusal}
-use Rattle.river.specs.declared.refusal.Outcome.{Outcome}
 use Rattle.flows.specs.declared.accept.Acceptance.{Acceptance}
 use Rattle.river.specs.Bytes.{AreBytes}
 use Rattle.river.specs.Card.{card_list}
-use Rattle.river.specs.Refusal.{accepted, refused, refuse, outcome_of}
+use Rattle.river.specs.Refusal.{Answer, accepted, refused, refuse, after as then}
 use Rattle.flows.specs.Flow.{card_of, above}
 use Rattle.flows.specs.held.Stored.{stored_zero, stored_limit}
 use Rattle.flows.specs.Accept.{accept_file}
@@ -30,7 +28,7 @@ use Rattle.report.specs.Status.{shown_oxygen}
 use Rattle.report.specs.Program.{oxygen_at, critical_oxygen, used_above, status_of, figures_of, figures_at, reported_at, foot}
 use Rattle.report.specs.Distance.{allowance_at, WithinAllowance}
 use Rattle.report.specs.Record.{has_nitrification, complement, from_complement, record_size, record_at, read_record, Figures}
-use Rattle.report.specs.held.Answers.{result_by, ReportTold, AnswersReport}
+use Rattle.report.specs.held.Answers.{AnswersReport}
 use Rattle.report.specs.Call.{result_of, lent_after}
 use Rattle.report.specs.Report.{record_of, report_size, room_answer, report_answer, buffer_reported, figures_read, Accepted, UsedUpAbove, TellsReach, Reports}
 use Rattle.report.specs.Ties.{Tied}
@@ -38,7 +36,6 @@ use Rattle.report.specs.held.Lines.{Ready}
 use Rattle.report.specs.declared.reporting.Reported.{Reported}
 use Rattle.report.proofs.Lowest.{lowest_first}
 use Rattle.report.proofs.Bounds.{Range}
-use Rattle.report.proofs.Orders.{reporting_order}
 use Rattle.report.proofs.NoNitrification.{none_reported}
 use Rattle.report.proofs.Statuses.{reported_same, status_two, used_from_one, figures_status}
 use Rattle.report.proofs.UsedAbove.{UsedReach, used_exactly}
@@ -46,7 +43,7 @@ use Rattle.report.proofs.River.{IsRiver, river_of_file, head_in_range, instant_i
 use Rattle.report.proofs.record.Encoding.{Writable, record_length, read_back}
 use Rattle.report.proofs.record.Rows.{Begins, stands}
 use Rattle.report.proofs.Calls.{IsAccepted, called, result_is, value_told}
-use Rattle.report.proofs.Calls.Numbers.{Numbered, needs, next, accept_numbered}
+use Rattle.river.specs.declared.refusal.Rule.TheVariants.{BufferShort}
 
 -- two's complement holds the oxygen of an accepted river
 pub complement_in_range : (z : ℤ) → negsuc 1_640_000_383 ≤ℤ z → z ≤ℤ pos 20_000_128 → from_complement (complement z) ≡ z
@@ -87,7 +84,7 @@ pub answers : (file : List ℕ) {room : ℕ} (river : Accepted file room) → re
 unfolding report_answer room_answer
 answers file {room} river =
     after_accepted (accept_file file) _ river.passes
-    ∙ need_true _ 12 0 _ (le-leb (report_size river.cards) room river.holds)
+    ∙ need_true _ BufferShort 0 _ (le-leb (report_size river.cards) room river.holds)
 
 -- the record of each reach of a reported river stands at its place
 pub record_stands :
@@ -106,12 +103,8 @@ answered : (file : List ℕ) {room : ℕ} → IsAccepted (report_answer file roo
 unfolding report_answer room_answer
 answered file a =
     let w = went (accept_file file) _ a.is in
-    let p = passed _ 12 0 (accepted w.value) w.then in
+    let p = passed _ BufferShort 0 (accepted w.value) w.then in
     record { cards = w.value; passes = w.first; holds = leb-true _ _ p.test }
-
-numbered : (file : List ℕ) (room : ℕ) → Numbered (report_answer file room)
-unfolding report_answer room_answer
-numbered file room = next (accept_file file) _ (accept_numbered file) (λ _. search (needs, lit<))
 
 module _ (file before : List ℕ) where
   module _ (bytes : AreBytes file) {after : List ℕ} (buffer : after ≡ lent_after buffer_reported (report_answer file (length before)) before) (river : Accepted file (length before)) where
@@ -183,7 +176,7 @@ pub reports_of :
 reports_of file before after result bytes answer buffer =
     record {
       call =
-          called buffer_reported (report_answer file (length before)) (numbered file (length before))
+          called buffer_reported (report_answer file (length before))
           (answered file, λ river. record { value = river.cards; is = answers file river }) answer buffer;
       lawful = λ cards. accepts_exactly file cards bytes;
       each = tells_reach file before bytes buffer;
@@ -191,12 +184,12 @@ reports_of file before after result bytes answer buffer =
 
 -- the entry's contract, by what reporting answers
 pub reports :
-    {file before after : List ℕ} {result : ℕ} (r : Reported) →
+    {file before after : List ℕ} {result : ℕ} (r : Answer Reported) →
     AreBytes file →
     AnswersReport file before after r →
-    result ≡ result_by r.outcome →
+    result ≡ result_of r →
     Reports file before after result
-reports {file} {before} {after} {result} r bytes h e = reports_of file before after result bytes (e ∙ result_is r.outcome h) h.leaves
+reports {file} {before} {after} {result} r bytes h e = reports_of file before after result bytes (e ∙ result_is r h) h.leaves
 
 -- an accepted river, of which reporting tells count and nitrification, and the bytes all that the paper says
 pub record ReportGiven (file before after : List ℕ) (r : Reported) : Type 0 where
@@ -205,43 +198,36 @@ pub record ReportGiven (file before after : List ℕ) (r : Reported) : Type 0 wh
   pub nitrified : r.nitrified ≡ has_nitrification river.cards
   pub each : (i : ℕ) → i < length river.cards → TellsReach river.cards after i
 
-pub report_given : {file before after : List ℕ} (r : Reported) → AreBytes file → AnswersReport file before after r → r.outcome ≡ Outcome.Accepted → ReportGiven file before after r
-report_given {file} {before} r bytes h e =
-    let t = value_told (report_answer file (length before)) h e in
+pub report_given : {file before after : List ℕ} (r : Reported) → AreBytes file → AnswersReport file before after (accepted r) → ReportGiven file before after r
+report_given {file} {before} r bytes h =
+    let t = value_told (report_answer file (length before)) h in
     let river = answered file (record { value = t.value; is = t.is }) in
     let same : t.value ≡ river.cards = cc (t.is, answers file river) in
     record {
       river = river;
-      count = ap (λ (x : ReportTold). x.count) t.told_is ∙ ap length same;
-      nitrified = ap (λ (x : ReportTold). x.nitrified) t.told_is ∙ ap has_nitrification same;
+      count = ap (λ (x : Reported). x.count) t.told_is ∙ ap length same;
+      nitrified = ap (λ (x : Reported). x.nitrified) t.told_is ∙ ap has_nitrification same;
       each = tells_reach file before bytes h.leaves river;
     }
 
--- the answer for a file, by the outcome of reading and flow check and by the room
-module _ {file : List ℕ} {r : Acceptance} (h : Accepts file r) where
-  pub file_refused : (room : ℕ) {refusal : Refusal} → r.outcome ≡ Outcome.Refused refusal → report_answer file room ≡ refused refusal
-  unfolding report_answer
-  file_refused room e =
-      after_refused (accept_file file) _ (sym h.answer ∙ ap (λ (o : Outcome). outcome_of o (card_list r.effective)) e)
+-- the answer for a file that reading or the flow check refuses
+pub file_refused : {file : List ℕ} (room : ℕ) {refusal : Refusal} → Accepts file (refused refusal) → report_answer file room ≡ refused refusal
+unfolding report_answer then
+file_refused {file} room h = after_refused (accept_file file) _ (sym h.answer)
 
-  pub file_accepted : r.outcome ≡ Outcome.Accepted → accept_file file ≡ accepted (card_list r.effective)
-  file_accepted e = sym h.answer ∙ ap (λ (o : Outcome). outcome_of o (card_list r.effective)) e
+-- and for an accepted one, by the room
+module _ {file : List ℕ} {river : Acceptance} (h : Accepts file (accepted river)) where
+  pub file_accepted : accept_file file ≡ accepted (card_list river.effective)
+  unfolding then
+  file_accepted = sym h.answer
 
-  pub file_short :
-      (room : ℕ) →
-      r.outcome ≡ Outcome.Accepted →
-      room < report_size (card_list r.effective) →
-      report_answer file room ≡ refused (refuse 12 0)
+  pub file_short : (room : ℕ) → room < report_size (card_list river.effective) → report_answer file room ≡ refused (refuse BufferShort 0)
   unfolding report_answer room_answer
-  file_short room e l =
-      after_accepted (accept_file file) _ (file_accepted e) ∙ need_false _ 12 0 _ (lt-leb (report_size (card_list r.effective)) room l)
+  file_short room l =
+      after_accepted (accept_file file) _ file_accepted ∙ need_false _ BufferShort 0 _ (lt-leb (report_size (card_list river.effective)) room l)
 
-  pub file_held :
-      (room : ℕ) →
-      r.outcome ≡ Outcome.Accepted →
-      report_size (card_list r.effective) ≤ room →
-      report_answer file room ≡ accepted (card_list r.effective)
-  file_held room e l = answers file (record { cards = card_list r.effective; passes = file_accepted e; holds = l })
+  pub file_held : (room : ℕ) → report_size (card_list river.effective) ≤ room → report_answer file room ≡ accepted (card_list river.effective)
+  file_held room l = answers file (record { cards = card_list river.effective; passes = file_accepted; holds = l })
 
-  pub file_ready : r.outcome ≡ Outcome.Accepted → Ready (card_list r.effective) r.flows
-  file_ready e = record { lawful = h.lawful e; sound = h.sound e; tabled = h.tabled e }
+  pub file_ready : Ready (card_list river.effective) river.flows
+  file_ready = record { lawful = h.sound.lawful; sound = h.sound.sound; tabled = h.sound.tabled }

@@ -5,10 +5,9 @@ use Prim.Native.Nat.{ℕ, zero, suc, ◌*◌, ◌≤◌, ◌<◌, zero-le}
 use native.Mathlib.Omega.{arith}
 use lib.ListN.{length, get_or}
 use lib.Dec.{eqb}
+use Rattle.std.specs.Prelude.{Option, Some, None}
 use Rattle.decay.specs.held.Step.{RatesPass}
 use Rattle.river.specs.declared.card.Card.{Card}
-use Rattle.river.specs.declared.card.Amount.{Amount}
-use Rattle.river.specs.declared.card.Amount.TheVariants.{Given}
 use Rattle.river.specs.Described.{InRange}
 use Rattle.river.specs.Records.{DM, SD}
 use Rattle.river.specs.Card.{FieldsInRange, amount_or, Lawful, blank}
@@ -65,9 +64,9 @@ joined_accepted true card up rest own water others = one_more own water others
 joined_accepted false card up rest own water others = others
 
 -- a lawful bed's demand has two bytes
-demand_small : (a : Amount) → InRange SD a → amount_or 0 a ≤ 65_535
-demand_small Amount.Absent h = zero-le
-demand_small (Given n) h = h.0.most
+demand_small : (a : Option ℕ) → InRange SD a → amount_or 0 a ≤ 65_535
+demand_small None h = zero-le
+demand_small (Some n) h = h.0.most
 
 -- a river: lawful cards whose flows pass
 module _ (cards : List Card) (lawful : Lawful cards) (flows : Flows cards) where

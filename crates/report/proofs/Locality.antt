@@ -1,6 +1,6 @@
 -- A record depends only on its reach and the reaches above it: reaches with the same card and the same forest above them have the same figures,
 -- whatever their numbers. Rivers that agree on a reach and on all above it have the same forest there, and with the same rate factors also by the
--- rates in force. The rows of the status are named here so that they are checked first.
+-- rates in force.
 use mathlib.Core.Path.{◌≡◌, refl, sym, ap, ap₂, ◌∙◌, subst}
 use mathlib.Core.Bool.{Bool, true, false, ◌||◌, or_assoc}
 use mathlib.Core.List.{List, [], ◌∷◌, map}
@@ -10,6 +10,7 @@ use native.Mathlib.Omega.{arith}
 use lib.ListN.{length, get_or}
 use lib.Dec.{T, eqb, eqb→eq}
 use lib.IntN.{ℤ, pos, ◌+ℤ◌, ◌*ℤ◌, +ℤ_assoc, +ℤ_comm}
+use Rattle.std.specs.Prelude.{Option}
 use Rattle.river.specs.declared.card.Card.{Card}
 use Rattle.river.specs.declared.card.RateFactors.{RateFactors}
 use Rattle.river.specs.Card.{blank}
@@ -206,7 +207,7 @@ module _ (here there : List Card) where
 
 -- ---- rates in force
 
-module _ (φ : RateFactors) where
+module _ (φ : Option RateFactors) where
   -- the same but for the outlet, also by the rates in force
   alike_in_force : {c d : Card} → SameButOutlet c d → SameButOutlet (card_in_force φ c) (card_in_force φ d)
   unfolding with_outlet

@@ -23,12 +23,12 @@ use Rattle.report.specs.held.Bed.{bed_by, bed_of, loss_with}
 use Rattle.report.specs.Program.{demand_sum, oxygen_sum, demand_at_head, oxygen_at_head, oxygen_at}
 use Rattle.report.specs.held.Digits.{oxygen_with, unit_parts, factors_along, parts_along, loss_along, turned_along, oxygen_along}
 use Rattle.report.specs.Status.{used_by}
-use Rattle.report.specs.Record.{nitrifies, is_nitrified, has_nitrification}
+use Rattle.report.specs.Record.{is_nitrified, has_nitrification}
 use Rattle.report.specs.Recurrence.{exact_saturation, exact_mean, exact_below_dam, exact_mixed_demand, exact_mixed_oxygen, exact_head_demand, exact_head_oxygen, exact_demand_sum, exact_oxygen_sum, exact_demand_at_head, exact_oxygen_at_head}
-use Rattle.report.specs.Distance.{is_given, has_bed, step_units, allowance_at}
+use Rattle.report.specs.Distance.{has_bed, step_units, allowance_at}
 use Rattle.report.specs.ExactMean.{loss_terms, oxygen_terms, exact_mean_oxygen_along, exact_mean_oxygen}
 use Rattle.report.specs.Mean.{mean_at}
-use Rattle.report.proofs.mean.BySums.{factor_sums, demand_sums, factors_by_sums, demand_by_sums, mean_by_sums, mean_by_sums_lem}
+use Rattle.report.proofs.mean.BySums.{sums_to, factors_by_sums, demand_by_sums, mean_by_sums, mean_by_sums_lem}
 use Rattle.report.proofs.Refutations.{two}
 
 -- the sum of the values at the instants before n
@@ -99,7 +99,7 @@ pub values_sum : all_values ≡ pos 12_310_632_890
 values_sum = rw (← by_walk) walked_sum_lem
 
 by_sums : mean_by_sums (card_of two 1) (above two 1) ≡ pos 12_009_589
-unfolding factor_sums demand_sums factors_by_sums demand_by_sums mean_by_sums mean_sum_of mean_step_of feeders_among joined_if fed flow_of head_factors next_factors step_of exponent_of quotient product term_of next_terms terms_at term_at with_term sum_of count_from series_of bed_by bed_of loss_with oxygen_with demand_at_head oxygen_at_head head_demand head_oxygen upstream_demand upstream_oxygen below_dam floor demand_sum oxygen_sum saturation_of saturation saturation_thousandths
+unfolding sums_to factors_by_sums demand_by_sums mean_by_sums mean_sum_of mean_step_of feeders_among joined_if fed flow_of head_factors next_factors step_of exponent_of quotient product term_of next_terms terms_at term_at with_term sum_of count_from series_of bed_by bed_of loss_with oxygen_with demand_at_head oxygen_at_head head_demand head_oxygen upstream_demand upstream_oxygen below_dam floor demand_sum oxygen_sum saturation_of saturation saturation_thousandths
 by_sums = refl
 
 -- THEOREM: the program's mean of the reach
@@ -114,7 +114,7 @@ record Apart : Type 0 where
   own : distance (of_ℕ 12_009_589) (exact_mean_oxygen 40 (card_of two 1) (above two 1)) ≼ of_ℕ 1
 
 apart : Apart
-unfolding floor of_ℤ ◌+ᶠ◌ -ᶠ◌ ◌*ᶠ◌ ◌÷◌ over ∣◌∣ᶠ distance exponent power factorial term sum value_at integral mean_of constant times_time series_terms share_terms feeders_among joined_if fed flow_of deepest nitrifies is_nitrified has_nitrification is_given has_bed step_units saturation_thousandths exact_saturation exact_mean exact_below_dam exact_mixed_demand exact_mixed_oxygen exact_head_demand exact_head_oxygen exact_demand_sum exact_oxygen_sum exact_demand_at_head exact_oxygen_at_head loss_terms oxygen_terms exact_mean_oxygen_along exact_mean_oxygen
+unfolding floor of_ℤ ◌+ᶠ◌ -ᶠ◌ ◌*ᶠ◌ ◌÷◌ over ∣◌∣ᶠ distance exponent power factorial term sum value_at integral mean_of constant times_time series_terms share_terms feeders_among joined_if fed flow_of deepest is_nitrified has_nitrification has_bed step_units saturation_thousandths exact_saturation exact_mean exact_below_dam exact_mixed_demand exact_mixed_oxygen exact_head_demand exact_head_oxygen exact_demand_sum exact_oxygen_sum exact_demand_at_head exact_oxygen_at_head loss_terms oxygen_terms exact_mean_oxygen_along exact_mean_oxygen
 apart = record { as_fraction = λ h. h.across.le; rounded = λ h. h.across.le; own = record { across = le_z_yes tt } }
 
 -- THEOREM: the mean of the program's 1,025 values of oxygen is not within the allowance of the exact mean

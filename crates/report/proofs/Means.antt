@@ -1,21 +1,20 @@
 -- The contract of the mean's entry follows from the answer of the call and the buffer that it leaves, as that of reporting does. Assumes nothing.
 use mathlib.Core.Path.{◌≡◌, refl, sym, ap, ap₂, ◌∙◌, subst}
 use mathlib.Core.List.{List, ◌++◌}
-use Prim.Native.Nat.{ℕ, zero, suc, ◌*◌, ◌≤◌, ◌<◌}
-use native.Mathlib.Nat.{div-add-mod', le_refl, le_trans, mul-le-mul_right}
+use Prim.Native.Nat.{ℕ, zero, suc, ◌*◌, ◌/◌, ◌%◌, ◌≤◌, ◌<◌}
+use native.Mathlib.Nat.{div-add-mod', le_refl}
 use native.Mathlib.Omega.{arith}
 use borrow.Author.Tests.{lt-ltb, le-ltb, le-leb, lt-leb, leb-true, ltb-true}
-use lib.Dec.{lit<}
 use lib.IntN.{ℤ, pos, ◌+ℤ◌, ◌*ℤ◌}
-use lib.ListN.{length, drop}
+use lib.ListN.{length, take, drop, length-take}
+use lib.Seq.{get_or-take}
 use Rattle.decay.specs.Fraction.{of_ℤ, ◌≼◌, distance}
 use Rattle.river.specs.declared.card.Card.{Card}
 use Rattle.river.specs.declared.refusal.Refusal.{Refusal}
-use Rattle.river.specs.declared.refusal.Outcome.{Outcome}
 use Rattle.flows.specs.declared.accept.Acceptance.{Acceptance}
 use Rattle.river.specs.Bytes.{AreBytes, four_bytes, four_at}
 use Rattle.river.specs.Card.{card_list}
-use Rattle.river.specs.Refusal.{Answer, accepted, refused, refuse, outcome_of}
+use Rattle.river.specs.Refusal.{Answer, accepted, refused, refuse, after as then}
 use Rattle.flows.specs.Flow.{card_of, above}
 use Rattle.river.specs.Card.{Lawful}
 use Rattle.flows.specs.held.Stored.{oxygen_of}
@@ -24,25 +23,22 @@ use Rattle.flows.specs.held.Accepts.{Accepts}
 use Rattle.flows.proofs.Acceptance.{accepts_exactly}
 use Rattle.river.proofs.Answers.{passed, went, need_true, need_false, after_accepted, after_refused}
 use Rattle.report.specs.Record.{complement, from_complement}
-use Rattle.report.specs.held.Answers.{result_by, MeansTold, AnswersMeans}
+use Rattle.report.specs.held.Answers.{MeansTold, means_in, means_told, AnswersMeans}
 use Rattle.report.specs.Call.{result_of, lent_after}
 use Rattle.report.specs.Report.{first_rows}
 use Rattle.report.specs.Distance.{allowance_at}
 use Rattle.report.specs.ExactMean.{exact_mean_oxygen}
 use Rattle.report.specs.Mean.{mean_at, counted_volume_at, counted_volume, weighted_sum, river_mean, mean_bytes, mean_row, means_of, means_size, mean_room_answer, mean_answer, buffer_averaged, Weighted, Averaged, mean_read, MeansLent, lent, means_written, TellsMean, TellsRiverMean, Means}
-use Rattle.report.specs.held.Weights.{volume_limit, Divisible, quotient_of}
-use Rattle.report.specs.held.MeanLines.{Weighs, MeansTabled, AllAveraged, stored_row}
+use Rattle.report.specs.held.MeanLines.{MeansTabled, AllAveraged, stored_row}
 use Rattle.report.specs.declared.mean.RiverMean.{RiverMean}
 use Rattle.report.specs.declared.mean.MeanTable.{MeanTable}
-use Rattle.report.specs.declared.weights.Weights.{Weights}
-use Rattle.report.specs.declared.weights.Quotient.{Quotient}
 use Rattle.report.proofs.River.{IsRiver, river_of_file}
 use Rattle.report.proofs.MeanOxygen.{is_mean, mean_within_allowance, mean_tied, mean_blank, volume_counts, mean_in_range}
 use Rattle.report.proofs.Entry.{complement_in_range, file_accepted}
-use Rattle.report.proofs.Calls.{IsAccepted, called, result_is, refusal_told, value_told}
-use Rattle.report.proofs.Calls.Numbers.{Numbered, needs, next, accept_numbered}
+use Rattle.report.proofs.Calls.{IsAccepted, called, answers_refusal, answers_value, refusal_told, value_told}
 use Rattle.report.proofs.record.Rows.{Begins, stands, same_rows}
 use Rattle.report.proofs.weights.Weighing.{stored_quotient, divided_back, rest_below}
+use Rattle.river.specs.declared.refusal.Rule.TheVariants.{BufferShort, NoVolume}
 
 -- ---- the answer for a file
 
@@ -51,74 +47,74 @@ pub averaged : (file : List ℕ) {room : ℕ} (river : Averaged file room) → m
 unfolding mean_answer mean_room_answer
 averaged file {room} river =
     after_accepted (accept_file file) _ river.passes
-    ∙ need_true _ 12 0 _ (le-leb (means_size river.cards) room river.holds)
-    ∙ need_true _ 16 0 _ (lt-ltb 0 (counted_volume river.cards) river.volume)
+    ∙ need_true _ BufferShort 0 _ (le-leb (means_size river.cards) room river.holds)
+    ∙ need_true _ NoVolume 0 _ (lt-ltb 0 (counted_volume river.cards) river.volume)
 
 -- and what it answers is such a river
 answered : (file : List ℕ) {room : ℕ} → IsAccepted (mean_answer file room) → Averaged file room
 unfolding mean_answer mean_room_answer
 answered file a =
     let w = went (accept_file file) _ a.is in
-    let p = passed _ 12 0 _ w.then in
-    let q = passed _ 16 0 (accepted w.value) p.rest in
+    let p = passed _ BufferShort 0 _ w.then in
+    let q = passed _ NoVolume 0 (accepted w.value) p.rest in
     record { cards = w.value; passes = w.first; holds = leb-true _ _ p.test; volume = ltb-true _ _ q.test }
 
-numbered : (file : List ℕ) (room : ℕ) → Numbered (mean_answer file room)
-unfolding mean_answer mean_room_answer
-numbered file room = next (accept_file file) _ (accept_numbered file) (λ _. search (needs, lit<))
+-- that reading or the flow check refuses
+pub means_refused : {file : List ℕ} (room : ℕ) {refusal : Refusal} → Accepts file (refused refusal) → mean_answer file room ≡ refused refusal
+unfolding mean_answer then
+means_refused {file} room h = after_refused (accept_file file) _ (sym h.answer)
 
--- by the outcome of reading and flow check, the room and the volume
-module _ {file : List ℕ} {r : Acceptance} (h : Accepts file r) where
-  pub means_refused : (room : ℕ) {refusal : Refusal} → r.outcome ≡ Outcome.Refused refusal → mean_answer file room ≡ refused refusal
-  unfolding mean_answer
-  means_refused room e = after_refused (accept_file file) _ (sym h.answer ∙ ap (λ (o : Outcome). outcome_of o (card_list r.effective)) e)
+-- and for an accepted one, by the room and the volume
+module _ {file : List ℕ} {river : Acceptance} (h : Accepts file (accepted river)) (room : ℕ) where
+  pub means_short : room < means_size (card_list river.effective) → mean_answer file room ≡ refused (refuse BufferShort 0)
+  unfolding mean_answer mean_room_answer
+  means_short l = after_accepted (accept_file file) _ (file_accepted h) ∙ need_false _ BufferShort 0 _ (lt-leb (means_size (card_list river.effective)) room l)
 
-  module _ (room : ℕ) (ok : r.outcome ≡ Outcome.Accepted) where
-    pub means_short : room < means_size (card_list r.effective) → mean_answer file room ≡ refused (refuse 12 0)
-    unfolding mean_answer mean_room_answer
-    means_short l = after_accepted (accept_file file) _ (file_accepted h ok) ∙ need_false _ 12 0 _ (lt-leb (means_size (card_list r.effective)) room l)
+  pub means_empty : means_size (card_list river.effective) ≤ room → counted_volume (card_list river.effective) ≡ 0 → mean_answer file room ≡ refused (refuse NoVolume 0)
+  unfolding mean_answer mean_room_answer
+  means_empty l z =
+      after_accepted (accept_file file) _ (file_accepted h)
+      ∙ need_true _ BufferShort 0 _ (le-leb (means_size (card_list river.effective)) room l)
+      ∙ need_false _ NoVolume 0 _ (le-ltb 0 (counted_volume (card_list river.effective)) (omega arith))
 
-    pub means_empty : means_size (card_list r.effective) ≤ room → counted_volume (card_list r.effective) ≡ 0 → mean_answer file room ≡ refused (refuse 16 0)
-    unfolding mean_answer mean_room_answer
-    means_empty l z =
-        after_accepted (accept_file file) _ (file_accepted h ok)
-        ∙ need_true _ 12 0 _ (le-leb (means_size (card_list r.effective)) room l)
-        ∙ need_false _ 16 0 _ (le-ltb 0 (counted_volume (card_list r.effective)) (omega arith))
-
-    pub means_held : means_size (card_list r.effective) ≤ room → 0 < counted_volume (card_list r.effective) → mean_answer file room ≡ accepted (card_list r.effective)
-    means_held l v = averaged file (record { cards = card_list r.effective; passes = file_accepted h ok; holds = l; volume = v })
+  pub means_held : means_size (card_list river.effective) ≤ room → 0 < counted_volume (card_list river.effective) → mean_answer file room ≡ accepted (card_list river.effective)
+  means_held l v = averaged file (record { cards = card_list river.effective; passes = file_accepted h; holds = l; volume = v })
 
 -- ---- the call
 
--- the sums of a river with volume that counts can be divided
-pub divisible : {cards : List Card} {w : Weights} → Lawful cards → Weighs cards (length cards) w → 0 < w.volume → Divisible w
-divisible lawful h v =
-    record {
-      some = v;
-      volume_range = le_trans h.few (mul-le-mul_right volume_limit lawful.few);
-      low = le_trans h.low (mul-le-mul_right (65_535 * volume_limit) lawful.few);
-      fits = rw h.volume h.fits;
-    }
+-- a refusal, and means, as the call tells them
+module _ (file before : List ℕ) (told : Answer RiverMean) where
+  pub means_refuse : {r : Refusal} → mean_answer file (length before) ≡ refused r → told ≡ refused r → AnswersMeans file before before told
+  unfolding then
+  means_refuse e t = answers_refusal e (ap (λ (x : Answer RiverMean). then x (λ m. accepted (means_in m))) t)
+
+  pub means_tell : {after : List ℕ} {cards : List Card} {m : RiverMean} → mean_answer file (length before) ≡ accepted cards → told ≡ accepted m → means_in m ≡ means_told cards → after ≡ buffer_averaged cards before → AnswersMeans file before after told
+  unfolding then
+  means_tell e t told_is w = answers_value e (ap (λ (x : Answer RiverMean). then x (λ m. accepted (means_in m))) t) told_is w
 
 -- the bytes of the table of means are those of the means
-tabled_bytes : {cards : List Card} {means : List ℕ} → MeansTabled cards (length cards) means → first_rows (stored_row means) (length cards) ≡ means_of cards
-tabled_bytes {cards} t = same_rows (length cards) (λ i l. ap (λ (z : ℤ). four_bytes (complement z)) (t.mean i l))
+tabled_bytes : {cards : List Card} {means : List ℕ} → MeansTabled cards (length cards) means → first_rows (stored_row (take (length cards) means)) (length cards) ≡ means_of cards
+tabled_bytes {cards} {means} t =
+    same_rows (length cards) (λ i l. ap (λ (z : ℤ). four_bytes (complement z)) (ap oxygen_of (get_or-take (length cards) means i 0 l) ∙ t.mean i l))
 
--- the bytes of the table are those of the river's means
+-- the bytes of the first means of the table are those of the river's means
 pub table_written :
     (before : List ℕ) {after : List ℕ} {cards : List Card} {count : ℕ} {t : MeanTable} →
+    Lawful cards →
     count ≡ length cards →
-    after ≡ first_rows (stored_row t.stored) count ++ drop (mean_bytes * count) before →
+    after ≡ first_rows (stored_row (take count t.stored)) (length (take count t.stored)) ++ drop (mean_bytes * length (take count t.stored)) before →
     AllAveraged cards t →
     after ≡ buffer_averaged cards before
-table_written before n b h = rw (n, tabled_bytes h.tabled) at b
+table_written before {cards = cards} {t = t} lawful n b h =
+    let whole : length (take (length cards) t.stored) ≡ length cards = omega (arith, length-take (length cards) t.stored, h.tabled.full, lawful.few) in
+    rw (n, whole, tabled_bytes h.tabled) at b
 
 -- and its sums, divided, are the river's mean
-pub mean_told : {cards : List Card} {t : MeanTable} {q : Quotient} → AllAveraged cards t → 0 < t.weights.volume → q ≡ quotient_of t.weights → record { units = oxygen_of q.units; remainder = q.remainder } ≡ river_mean cards
+pub mean_told : {cards : List Card} {t : MeanTable} {q : ℕ × ℕ} → AllAveraged cards t → 0 < t.weights.volume → q ≡ (t.weights.sum / t.weights.volume, t.weights.sum % t.weights.volume) → record { units = oxygen_of q.0; remainder = q.1 } ≡ river_mean cards
 unfolding river_mean
 mean_told {t = t} h v is =
-    ap (λ (x : Quotient). record { units = oxygen_of x.units; remainder = x.remainder }) is
-    ∙ stored_quotient _ t.weights.volume v
+    ap (λ (x : ℕ × ℕ). record { units = oxygen_of x.0; remainder = x.1 }) is
+    ∙ stored_quotient t.weights.sum t.weights.volume v
     ∙ rw (h.weighed.volume, h.weighed.sum)
 
 -- ---- the entry
@@ -193,7 +189,7 @@ means_of_lem file before after units₀ units remainder₀ remainder result byte
     let x = mean_answer file (length before) in
     let buffer : after ≡ lent_after buffer_averaged x before = ap (λ (l : MeansLent). l.buffer) leaves ∙ buffer_after x _ in
     record {
-      call = called means_written x (numbered file (length before)) (answered file, λ river. record { value = river.cards; is = averaged file river }) answer leaves;
+      call = called means_written x (answered file, λ river. record { value = river.cards; is = averaged file river }) answer leaves;
       lawful = λ cards. accepts_exactly file cards bytes;
       each = tells_mean file before bytes buffer;
       all =
@@ -203,20 +199,20 @@ means_of_lem file before after units₀ units remainder₀ remainder result byte
     }
 
 -- the entry's contract for a refusal, and for means, by what the call below it answers
-module _ {file before after : List ℕ} (r : RiverMean) (bytes : AreBytes file) (h : AnswersMeans file before after r) where
-  pub means_refusal : {result : ℕ} {refusal : Refusal} (units : ℤ) (remainder : ℕ) → r.outcome ≡ Outcome.Refused refusal → result ≡ result_by r.outcome → Means file before after units units remainder remainder result
-  unfolding lent_after
-  means_refusal {result} units remainder e c =
-      let x = refusal_told (mean_answer file (length before)) h e in
-      means_of_lem file before after units units remainder remainder result bytes (c ∙ result_is r.outcome h)
+module _ (file before after : List ℕ) (bytes : AreBytes file) where
+  pub means_refusal : {result : ℕ} (refusal : Refusal) (units : ℤ) (remainder : ℕ) → AnswersMeans file before after (refused refusal) → result ≡ result_of {A = RiverMean} (refused refusal) → Means file before after units units remainder remainder result
+  unfolding result_of lent_after then
+  means_refusal {result} refusal units remainder h c =
+      let x = refusal_told (mean_answer file (length before)) h in
+      means_of_lem file before after units units remainder remainder result bytes (c ∙ sym (ap result_of x))
       (rw x (ap (λ (b : List ℕ). lent b units remainder) (rw x at h.leaves)))
 
-  pub means_river : (units units₀ : ℤ) (remainder₀ : ℕ) → r.outcome ≡ Outcome.Accepted → units ≡ oxygen_of r.units → Means file before after units₀ units remainder₀ r.remainder 0
-  unfolding result_of lent_after
-  means_river units units₀ remainder₀ e u =
-      let t = value_told (mean_answer file (length before)) h e in
+  pub means_river : (r : RiverMean) (units units₀ : ℤ) (remainder₀ : ℕ) {result : ℕ} → AnswersMeans file before after (accepted r) → units ≡ oxygen_of r.units → result ≡ 0 → Means file before after units₀ units remainder₀ r.remainder result
+  unfolding result_of lent_after then
+  means_river r units units₀ remainder₀ {result} h u none =
+      let t = value_told (mean_answer file (length before)) h in
       let mean : record { units = units; remainder = r.remainder } ≡ river_mean t.value = ap (λ (z : ℤ). record { units = z; remainder = r.remainder }) u ∙ ap (λ (m : MeansTold). m.mean) t.told_is in
-      means_of_lem file before after units₀ units remainder₀ r.remainder 0 bytes (sym (ap result_of t.is))
+      means_of_lem file before after units₀ units remainder₀ r.remainder result bytes (none ∙ sym (ap result_of t.is))
       (rw t.is (ap₂ (λ (b : List ℕ) (w : Weighted). record { buffer = b; mean = w }) (rw t.is at h.leaves) mean))
 
 -- an accepted river, of which the call tells count and mean, and the bytes all that the paper says
@@ -226,9 +222,10 @@ pub record MeansGiven (file before after : List ℕ) (r : RiverMean) : Type 0 wh
   pub mean : record { units = oxygen_of r.units; remainder = r.remainder } ≡ river_mean river.cards
   pub each : (i : ℕ) → i < length river.cards → TellsMean river.cards after i
 
-pub means_given : {file before after : List ℕ} (r : RiverMean) → AreBytes file → AnswersMeans file before after r → r.outcome ≡ Outcome.Accepted → MeansGiven file before after r
-means_given {file} {before} r bytes h e =
-    let t = value_told (mean_answer file (length before)) h e in
+pub means_given : {file before after : List ℕ} (r : RiverMean) → AreBytes file → AnswersMeans file before after (accepted r) → MeansGiven file before after r
+unfolding then
+means_given {file} {before} r bytes h =
+    let t = value_told (mean_answer file (length before)) h in
     let river = answered file (record { value = t.value; is = t.is }) in
     let same : t.value ≡ river.cards = cc (t.is, averaged file river) in
     record {

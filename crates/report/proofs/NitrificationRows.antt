@@ -1,9 +1,10 @@
 -- Nitrogenous BOD in two reaches, computed from the definitions: it comes into the upper one with 10,000 L/s, at 10 mg/L, and stays there for a
 -- day at a rate of 1 a day; the lower one has no nitrification, takes in as much water, and carries what comes down. No BOD comes in, and nothing
--- is aerated. The laws of ties name these rows, so that they are checked first.
+-- is aerated.
 use mathlib.Core.Path.{◌≡◌, refl}
 use lib.IntN.{pos}
 use lib.Signed.{le_z_yes}
+use Rattle.std.specs.Prelude.{Option, Some, None}
 use Rattle.decay.specs.Fraction.{◌≼◌, of_ℕ, of_ℤ, ◌+ᶠ◌, -ᶠ◌, ◌*ᶠ◌, ◌÷◌, over}
 use Rattle.decay.specs.Exact.{foot, exponent, power, factorial, term, sum, S, F}
 use Rattle.decay.specs.Fixed.{product, quotient}
@@ -11,9 +12,7 @@ use Rattle.decay.specs.held.Step.{exponent_of, step_of}
 use Rattle.decay.specs.Series.{term_of, next_terms, terms_at, term_at, with_term, sum_of, count_from, series_of}
 use Rattle.decay.specs.held.Factors.{demand_from, head_factors, next_factors, factors_at}
 use Rattle.river.specs.declared.card.Card.{Card}
-use Rattle.river.specs.declared.card.Dam.{Dam}
 use Rattle.river.specs.declared.card.Nitrification.{Nitrification}
-use Rattle.river.specs.declared.card.Nitrification.TheVariants.{Nitrifying}
 use Rattle.river.specs.declared.source.Demand.TheVariants.{Bod, Nitrogenous}
 use Rattle.river.specs.Card.{no_optionals, with_nitrification}
 use Rattle.flows.specs.Flow.{Feeders, none, more, fed, flow_of}
@@ -25,7 +24,7 @@ use Rattle.report.specs.held.Digits.{oxygen_with, factors_along, parts_along, lo
 use Rattle.report.specs.Recurrence.{exact_saturation, exact_mean, exact_below_dam, exact_mixed_demand, exact_mixed_oxygen, exact_head_demand, exact_head_oxygen, exact_demand_along, exact_turned_along, exact_loss, exact_oxygen_along, exact_demand_sum, exact_oxygen_sum, exact_demand_at_head, exact_oxygen_at_head, exact_demand_at, exact_oxygen_at}
 
 -- a reach, by its nitrification; its oxygen is 14 mg/L
-abbrev reach : Nitrification → Card
+abbrev reach : Option Nitrification → Card
 reach nitrification =
     record {
       outlet = 0;
@@ -37,15 +36,15 @@ reach nitrification =
       inflow_bod = 0;
       inflow_oxygen = 14_000;
       load = 0;
-      dam = Dam.Absent;
+      dam = None;
       optionals = with_nitrification nitrification no_optionals;
     }
 
 abbrev upper : Card
-upper = reach (Nitrifying 1_000 10_000 0)
+upper = reach (Some (record { rate = 1_000; concentration = 10_000; load = 0 }))
 
 abbrev lower : Card
-lower = reach Nitrification.Absent
+lower = reach None
 
 -- what flows into the lower reach
 abbrev above : Feeders

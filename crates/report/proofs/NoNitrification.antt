@@ -7,12 +7,12 @@ use native.Mathlib.Nat.{le_refl, mul-zero, zero-div}
 use native.Mathlib.Omega.{arith}
 use lib.ListN.{length, get_or}
 use lib.Dec.{eqb}
+use Rattle.std.specs.Prelude.{Option, Some, None, is_some}
 use Rattle.decay.specs.held.Step.{step_of}
 use Rattle.decay.specs.held.Factors.{demand_from}
 use Rattle.decay.specs.declared.step.Step.{Step}
 use Rattle.river.specs.declared.card.Card.{Card}
 use Rattle.river.specs.declared.card.Nitrification.{Nitrification}
-use Rattle.river.specs.declared.card.Nitrification.TheVariants.{Nitrifying}
 use Rattle.river.specs.declared.source.Demand.TheVariants.{Nitrogenous}
 use Rattle.river.specs.Card.{blank}
 use Rattle.river.specs.Source.{nitrogenous_source, source_of, rate_of}
@@ -21,15 +21,15 @@ use Rattle.flows.specs.Head.{upstream_demand, head_demand}
 use Rattle.river.proofs.Answers.{clash}
 use Rattle.report.specs.Program.{demand_sum, demand_at_head, figures_of, figures_at}
 use Rattle.report.specs.held.Digits.{parts_along, demand_along}
-use Rattle.report.specs.Record.{nitrifies, is_nitrified, has_nitrification}
+use Rattle.report.specs.Record.{is_nitrified, has_nitrification}
 use Rattle.report.proofs.record.Nitrified.{at_no_reach}
 
 -- where nothing comes down and nothing comes in, nothing is mixed
-nothing_mixed : (nitrification : Nitrification) (inflow : ℕ) (t : Bool) (Qu : ℕ) → nitrifies nitrification ≡ false → head_demand (nitrogenous_source inflow nitrification) t Qu 0 ≡ 0
-unfolding nitrifies head_demand upstream_demand
-nothing_mixed Nitrification.Absent inflow true Qu e = rw (zero-div Qu, mul-zero, mul-zero) (zero-div (Qu + inflow))
-nothing_mixed Nitrification.Absent inflow false Qu e = rw (mul-zero, mul-zero) (zero-div (Qu + inflow))
-nothing_mixed (Nitrifying r c l) inflow t Qu e = clash cc
+nothing_mixed : (nitrification : Option Nitrification) (inflow : ℕ) (t : Bool) (Qu : ℕ) → is_some nitrification ≡ false → head_demand (nitrogenous_source inflow nitrification) t Qu 0 ≡ 0
+unfolding head_demand upstream_demand
+nothing_mixed None inflow true Qu e = rw (zero-div Qu, mul-zero, mul-zero) (zero-div (Qu + inflow))
+nothing_mixed None inflow false Qu e = rw (mul-zero, mul-zero) (zero-div (Qu + inflow))
+nothing_mixed (Some n) inflow t Qu e = clash cc
 
 nothing_at_head : (card : Card) (t : Bool) (Qu : ℕ) → is_nitrified card ≡ false → head_demand (source_of Nitrogenous card) t Qu 0 ≡ 0
 unfolding is_nitrified

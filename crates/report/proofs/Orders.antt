@@ -1,9 +1,9 @@
 -- The order of refusals in reporting and of means: a rule of reading or of the flow check, then the length of the buffer, then the volume.
--- Computed from the definitions, and named by the laws of the entry, so that these rows are checked first.
+-- Computed from the definitions.
 use mathlib.Core.Path.{◌≡◌, refl}
 use mathlib.Core.List.{[], ◌∷◌}
+use Rattle.std.specs.Prelude.{None}
 use Rattle.river.specs.Refusal.{refused, refuse, need, choose, after}
-use Rattle.river.specs.declared.card.RateFactors.{RateFactors}
 use Rattle.river.specs.Card.{blank, count_ok, in_range, outlet_ok}
 use Rattle.river.specs.River.{river_of}
 use Rattle.river.specs.Optional.{read_optional, read_optionals}
@@ -13,15 +13,16 @@ use Rattle.flows.specs.Flow.{flow_of, mass_of, feeders_among, joined_if, flow_ch
 use Rattle.flows.specs.Accept.{accept_file}
 use Rattle.report.specs.Mean.{mean_answer, mean_room_answer}
 use Rattle.report.specs.Report.{report_answer}
+use Rattle.river.specs.declared.refusal.Rule.TheVariants.{CutShort, NoFlow}
 
 pub record Reporting : Type 0 where
   -- an empty file
-  pub file_and_room : report_answer [] 0 ≡ refused (refuse 1 0)
+  pub file_and_room : report_answer [] 0 ≡ refused (refuse CutShort 0)
   -- a reach without water
-  pub flow_and_room : report_answer (encode (river_of RateFactors.Absent (blank ∷ []))) 0 ≡ refused (refuse 7 1)
+  pub flow_and_room : report_answer (encode (river_of None (blank ∷ []))) 0 ≡ refused (refuse NoFlow 1)
   -- the same for means
-  pub file_and_means : mean_answer [] 0 ≡ refused (refuse 1 0)
-  pub flow_and_means : mean_answer (encode (river_of RateFactors.Absent (blank ∷ []))) 0 ≡ refused (refuse 7 1)
+  pub file_and_means : mean_answer [] 0 ≡ refused (refuse CutShort 0)
+  pub flow_and_means : mean_answer (encode (river_of None (blank ∷ []))) 0 ≡ refused (refuse NoFlow 1)
 
 -- THEOREM: who breaks a rule of reading or of the flow check gets its number, not 12 or 16
 pub reporting_order : Reporting

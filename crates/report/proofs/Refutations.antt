@@ -3,12 +3,11 @@
 use mathlib.Core.Path.{◌≡◌, refl}
 use mathlib.Core.List.{List, [], ◌∷◌}
 use Prim.Native.Nat.{ℕ, ◌≤◌}
+use Rattle.std.specs.Prelude.{None}
 use Rattle.decay.specs.Fraction.{Fraction, ◌≼◌, of_ℤ, ◌+ᶠ◌, -ᶠ◌, ◌-ᶠ◌, ◌*ᶠ◌, ◌÷◌, over}
 use Rattle.decay.specs.Exact.{foot, exponent, power, factorial, term, sum, S, F}
 use Rattle.decay.proofs.Algebra.{Within, within_sym, within_trans}
 use Rattle.river.specs.declared.card.Card.{Card}
-use Rattle.river.specs.declared.card.Dam.{Dam}
-use Rattle.river.specs.declared.card.RateFactors.{RateFactors}
 use Rattle.river.specs.Refusal.{accepted, need, after, choose}
 use Rattle.river.specs.Card.{no_optionals, count_ok, in_range, outlet_ok, rates_in_range}
 use Rattle.river.specs.River.{river_of}
@@ -20,9 +19,9 @@ use Rattle.flows.specs.Flow.{card_of, above, feeders_among, joined_if, fed, flow
 use Rattle.flows.specs.Accept.{accept_file}
 use Rattle.flows.specs.Saturation.{saturation_thousandths}
 use Rattle.river.specs.declared.source.Demand.TheVariants.{Bod}
-use Rattle.report.specs.Record.{nitrifies, is_nitrified, has_nitrification, Figures}
+use Rattle.report.specs.Record.{is_nitrified, has_nitrification, Figures}
 use Rattle.report.specs.Recurrence.{exact_saturation, exact_mean, exact_below_dam, exact_mixed_demand, exact_mixed_oxygen, exact_head_demand, exact_head_oxygen, exact_demand_along, exact_turned_along, exact_loss, exact_oxygen_along, exact_demand_sum, exact_demand_at_head, exact_oxygen_at_head, exact_demand_at, exact_oxygen_at}
-use Rattle.report.specs.Distance.{is_given, has_bed, step_units, allowance_at, WithinAllowance}
+use Rattle.report.specs.Distance.{has_bed, step_units, allowance_at, WithinAllowance}
 use Rattle.report.proofs.Distances.{first_of_two, last_of_three}
 
 -- the reach of the river file paper's bench values, by outlet and inflow
@@ -38,7 +37,7 @@ reach outlet inflow =
       inflow_bod = 10000;
       inflow_oxygen = 14652;
       load = 0;
-      dam = Dam.Absent;
+      dam = None;
       optionals = no_optionals;
     }
 
@@ -46,7 +45,7 @@ reach outlet inflow =
 abbrev pub two : List Card
 two = reach 2 10000 ∷ reach 0 0 ∷ []
 
-accepted_two : accept_file (encode (river_of RateFactors.Absent two)) ≡ accepted two
+accepted_two : accept_file (encode (river_of None two)) ≡ accepted two
 unfolding decay_in_force aeration_in_force rates_in_range accept_file encode read_file read_rest read_header read_reaches read_reach read_optionals read_optional card_at count_ok in_range outlet_ok need after choose flow_check checks_from reach_checks dam_fits feeders_among joined_if fed flow_of mass_of
 accepted_two = refl
 
@@ -68,7 +67,7 @@ record Apart : Type 0 where
   heads : head_bod 1 -ᶠ head_bod 2 ≼ allowed 1 +ᶠ allowed 2 → ⊥
 
 apart : Apart
-unfolding of_ℤ ◌+ᶠ◌ -ᶠ◌ ◌*ᶠ◌ ◌÷◌ over exponent power factorial term sum S F feeders_among joined_if fed flow_of deepest nitrifies is_nitrified has_nitrification is_given has_bed step_units saturation_thousandths exact_saturation exact_mean exact_below_dam exact_mixed_demand exact_mixed_oxygen exact_head_demand exact_head_oxygen exact_demand_along exact_turned_along exact_loss exact_oxygen_along exact_demand_sum exact_demand_at_head exact_oxygen_at_head exact_demand_at exact_oxygen_at
+unfolding of_ℤ ◌+ᶠ◌ -ᶠ◌ ◌*ᶠ◌ ◌÷◌ over exponent power factorial term sum S F feeders_among joined_if fed flow_of deepest is_nitrified has_nitrification has_bed step_units saturation_thousandths exact_saturation exact_mean exact_below_dam exact_mixed_demand exact_mixed_oxygen exact_head_demand exact_head_oxygen exact_demand_along exact_turned_along exact_loss exact_oxygen_along exact_demand_sum exact_demand_at_head exact_oxygen_at_head exact_demand_at exact_oxygen_at
 apart = record { head_foot_bod = λ h. h.across.le; head_foot_oxygen = λ h. h.across.le; heads = λ h. h.across.le }
 
 -- values that are near one figure are no further apart than the allowances together

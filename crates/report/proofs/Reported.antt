@@ -4,6 +4,7 @@ use mathlib.Core.List.{List, map}
 use Prim.Native.Nat.{ℕ, suc, ◌<◌}
 use lib.ListN.{length, take, length-map}
 use lib.Seq.{take_at}
+use Rattle.std.specs.Prelude.{Option}
 use Rattle.river.specs.declared.card.RateFactors.{RateFactors}
 use Rattle.river.specs.Refusal.{accepted}
 use Rattle.river.specs.River.{River}
@@ -75,7 +76,7 @@ module _
     (l : i < length river.cards) (k : j < length river'.cards)
     (same : SameReach river.cards i river'.cards j) where
   in_force_lem : here.cards ≡ map (card_in_force river'.factors) river.cards
-  in_force_lem = cards_of_file file here.passes read ∙ ap (λ (f : RateFactors). map (card_in_force f) river.cards) factors
+  in_force_lem = cards_of_file file here.passes read ∙ ap (λ (f : Option RateFactors). map (card_in_force f) river.cards) factors
 
   in_force' : there.cards ≡ map (card_in_force river'.factors) river'.cards
   in_force' = cards_of_file file' there.passes read'

@@ -5,29 +5,27 @@ use mathlib.Core.Bool.{Bool, ◌||◌}
 use mathlib.Core.List.{List, [], ◌∷◌, map}
 use Prim.Native.Nat.{ℕ}
 use native.Mathlib.Omega.{arith}
+use Rattle.std.specs.Prelude.{Option, Some, None, is_some}
 use Rattle.river.specs.declared.card.Card.{Card}
 use Rattle.river.specs.declared.card.Nitrification.{Nitrification}
-use Rattle.river.specs.declared.card.Nitrification.TheVariants.{Nitrifying}
 use Rattle.river.specs.declared.card.RateFactors.{RateFactors}
 use Rattle.river.specs.declared.file.Reading.{Reading}
-use Rattle.river.specs.declared.refusal.Outcome.{Outcome}
-use Rattle.river.specs.File.{river_read, Reads}
+use Rattle.river.specs.File.{answer_of, Reads}
 use Rattle.river.specs.River.{River}
 use Rattle.flows.specs.Rates.{decay_in_force, with_rate, card_in_force}
 use Rattle.river.specs.Read.{read_file}
-use Rattle.river.specs.Refusal.{Answer, accepted, refused, outcome_of}
+use Rattle.river.specs.Refusal.{Answer, accepted, refused}
 use Rattle.river.proofs.Answers.{never}
-use Rattle.report.specs.Record.{nitrifies, is_nitrified, has_nitrification, record_size}
+use Rattle.report.specs.Record.{is_nitrified, has_nitrification, record_size}
 use Rattle.report.specs.Report.{size_answer, TellsSize}
 use Rattle.report.proofs.record.Encoding.{record_bounds}
 
 -- rates in force leave it whether there is nitrification
-nitrifies_in_force : (change : ℕ → ℕ) (n : Nitrification) → nitrifies (with_rate change n) ≡ nitrifies n
-unfolding nitrifies
-nitrifies_in_force change Nitrification.Absent = refl
-nitrifies_in_force change (Nitrifying rate concentration load) = refl
+nitrifies_in_force : (change : ℕ → ℕ) (n : Option Nitrification) → is_some (with_rate change n) ≡ is_some n
+nitrifies_in_force change None = refl
+nitrifies_in_force change (Some n) = refl
 
-pub nitrification_in_force : (f : RateFactors) (cs : List Card) → has_nitrification (map (card_in_force f) cs) ≡ has_nitrification cs
+pub nitrification_in_force : (f : Option RateFactors) (cs : List Card) → has_nitrification (map (card_in_force f) cs) ≡ has_nitrification cs
 unfolding has_nitrification is_nitrified
 nitrification_in_force f [] = refl
 nitrification_in_force f (c ∷ cs) = ap₂ (λ (a b : Bool). a || b) (nitrifies_in_force (decay_in_force f c.temperature) c.optionals.nitrification) (nitrification_in_force f cs)
@@ -47,6 +45,6 @@ tells_of (refused x) e r =
       zero = ((λ z. record { refusal = x; is = e }), λ h. r);
     }
 
--- the contract, by the outcome of reading
-pub tells : {file : List ℕ} {r : Reading} {result : ℕ} (o : Outcome) → Reads file r → r.outcome ≡ o → result ≡ size_answer (outcome_of o (river_read r)) → TellsSize file result
-tells {r = r} o h told e = tells_of (outcome_of o (river_read r)) (sym h.answer ∙ ap (λ (x : Outcome). outcome_of x (river_read r)) told) e
+-- the contract, by what reading answers
+pub tells : {file : List ℕ} {r : Answer Reading} {result : ℕ} → Reads file r → result ≡ size_answer (answer_of r) → TellsSize file result
+tells {r = r} h e = tells_of (answer_of r) (sym h.answer) e

@@ -1,5 +1,5 @@
--- Laws of the status: what it says of critical oxygen and of the reaches above, and what is reported by it. The rows of the status are named here so
--- that they are checked first. Assumes nothing.
+-- Laws of the status: what it says of critical oxygen and of the reaches above, and what is reported by it.
+-- Assumes nothing.
 use mathlib.Core.Path.{◌≡◌, refl}
 use mathlib.Core.Logic.{◌↔◌}
 use mathlib.Core.Bool.{Bool, true, false, not, cond}

@@ -1,7 +1,8 @@
 -- What every call on a river file promises, said once: its result, by the order of refusals, and all that it was lent, a buffer or numbers, before and after it.
 use Rattle.std.specs.Prelude.{◌≡◌, ◌↔◌, List, ℕ, ◌/◌, ◌%◌}
 use Rattle.river.specs.declared.card.Card.{Card}
-use Rattle.river.specs.Refusal.{Answer, accepted, refused, refuse, code_of}
+use Rattle.river.specs.declared.refusal.Rule.{Rule}
+use Rattle.river.specs.Refusal.{Answer, accepted, refused, refuse, number_of, code_of}
 use Rattle.flows.specs.Accept.{accept_file, AcceptedFile}
 
 -- the result: 0 where an answer is accepted, and number + 256 × reach for a refusal
@@ -20,12 +21,18 @@ pub record IsWritten {A Lent : Type 0} (answer : Answer A) (write : A → Lent �
   pub is : answer ≡ accepted value
   pub written : after ≡ write value before
 
+-- the answer is the refusal of the rule that has this number, at a reach
+pub record IsRefused {A : Type 0} (answer : Answer A) (number reach : ℕ) : Type 0 where
+  pub rule : Rule
+  pub numbered : number_of rule ≡ number
+  pub is : answer ≡ refused (refuse rule reach)
+
 -- a call with this answer that returns the result and leaves what it was lent so, where `Exactly` says when the result is 0
 pub record Called {A Lent : Type 0} (answer : Answer A) (write : A → Lent → Lent) (Exactly : Type 0) (before after : Lent) (result : ℕ) : Type 0 where
   -- the result, by the order of refusals
   pub returns : result ≡ result_of answer
   -- any other than 0 has the number and the reach of the refusal
-  pub refuses : (result ≡ 0 → ⊥) → answer ≡ refused (refuse (result % 256) (result / 256))
+  pub refuses : (result ≡ 0 → ⊥) → IsRefused answer (result % 256) (result / 256)
   -- it is 0 exactly where this holds
   pub exactly : (result ≡ 0) ↔ Exactly
   -- all that was lent, by the answer

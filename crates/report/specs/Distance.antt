@@ -1,24 +1,17 @@
 -- Demand 3 for a reach: how far its reported figures may stray from the exact recurrence at the series length N.
-use Rattle.std.specs.Prelude.{Bool, true, false, ◌||◌, cond, List, [], ◌∷◌, ℕ, ◌*◌, ◌≤◌}
+use Rattle.std.specs.Prelude.{is_some, Bool, false, ◌||◌, cond, List, [], ◌∷◌, ℕ, ◌*◌, ◌≤◌}
 use Rattle.decay.specs.Fraction.{Fraction, of_ℕ, of_ℤ, ◌≼◌, ◌+ᶠ◌, ◌-ᶠ◌, distance}
 use Rattle.decay.specs.Exact.{foot}
 use Rattle.river.specs.declared.card.Card.{Card}
 use Rattle.river.specs.declared.source.Demand.TheVariants.{Bod, Nitrogenous}
-use Rattle.river.specs.declared.card.Amount.{Amount}
-use Rattle.river.specs.declared.card.Amount.TheVariants.{Given}
 use Rattle.flows.specs.Flow.{Feeders, reach_depth, above}
 use Rattle.report.specs.Recurrence.{exact_demand_at_head, exact_oxygen_at_head, exact_demand_at, exact_oxygen_at}
 use Rattle.report.specs.Record.{Figures, has_nitrification}
 
--- whether an amount stands on a card, 0 too
-unfoldable pub is_given : Amount → Bool
-is_given Amount.Absent = false
-is_given (Given n) = true
-
--- whether a river has a sludge bed: an `SD` record at any of its reaches
+-- whether a river has a sludge bed: an `SD` record at any of its reaches, of 0 too
 unfoldable pub has_bed : List Card → Bool
 has_bed [] = false
-has_bed (card ∷ cards) = is_given card.optionals.sludge || has_bed cards
+has_bed (card ∷ cards) = is_some card.optionals.sludge || has_bed cards
 
 -- the units that a river allows for each step of depth: 200 with nitrification, else 150 with a sludge bed, else 100, which is 0.0001 mg/L
 unfoldable pub step_units : List Card → ℕ

@@ -4,6 +4,7 @@ use Rattle.std.specs.Prelude.{◌≡◌, cond, List, ◌++◌, ℕ, zero, suc, �
 use Rattle.decay.specs.Fraction.{of_ℤ, ◌≼◌, distance}
 use Rattle.river.specs.declared.card.Card.{Card}
 use Rattle.river.specs.declared.source.Demand.TheVariants.{Bod, Nitrogenous}
+use Rattle.river.specs.declared.refusal.Rule.TheVariants.{BufferShort, NoVolume}
 use Rattle.river.specs.Bytes.{four_bytes, four_at}
 use Rattle.flows.specs.Flow.{Feeders, reach_flow, card_of, above}
 use Rattle.flows.specs.Head.{floor}
@@ -81,7 +82,7 @@ means_size cards = mean_bytes * length cards
 
 -- 12 with reach 0 for a buffer that is shorter than the means, then 16 with reach 0 where no volume has status 0 or 1
 unfoldable pub mean_room_answer : (room : ℕ) → List Card → Answer (List Card)
-mean_room_answer room cards = need (leb (means_size cards) room) 12 0 (need (ltb 0 (counted_volume cards)) 16 0 (accepted cards))
+mean_room_answer room cards = need (leb (means_size cards) room) BufferShort 0 (need (ltb 0 (counted_volume cards)) NoVolume 0 (accepted cards))
 
 -- the call refuses as reading, then as the flow check, then for want of room, then for want of volume
 unfoldable pub mean_answer : (file : List ℕ) (room : ℕ) → Answer (List Card)

@@ -1,19 +1,14 @@
 -- The record of a reach, which is an `RP` record and, in a river with nitrification, an `RN` record behind it: its figures as bytes, its size, and
 -- the figures read back from bytes.
-use Rattle.std.specs.Prelude.{Bool, true, false, ◌||◌, cond, List, [], ◌∷◌, ◌++◌, ℕ, ◌+◌, ◌*◌, ◌-◌, ltb, ℤ, pos, negsuc, drop}
+use Rattle.std.specs.Prelude.{is_some, Bool, false, ◌||◌, cond, List, [], ◌∷◌, ◌++◌, ℕ, ◌+◌, ◌*◌, ◌-◌, ltb, ℤ, pos, negsuc, drop}
 use Prim.Native.Char.{code}
 use Rattle.river.specs.declared.card.Card.{Card}
-use Rattle.river.specs.declared.card.Nitrification.{Nitrification}
-use Rattle.river.specs.declared.card.Nitrification.TheVariants.{Nitrifying}
-use Rattle.river.specs.Bytes.{Mark, mark, mark_bytes, two_bytes, four_bytes, byte_at, two_at, four_at}
+use Rattle.river.specs.declared.bytes.Mark.{Mark}
+use Rattle.river.specs.Bytes.{mark, mark_bytes, two_bytes, four_bytes, byte_at, two_at, four_at}
 
 -- whether a reach has an `NT` record, of zeros too
-unfoldable pub nitrifies : Nitrification → Bool
-nitrifies Nitrification.Absent = false
-nitrifies (Nitrifying rate concentration load) = true
-
 unfoldable pub is_nitrified : Card → Bool
-is_nitrified card = nitrifies card.optionals.nitrification
+is_nitrified card = is_some card.optionals.nitrification
 
 -- whether a river has: at any of its reaches
 unfoldable pub has_nitrification : List Card → Bool

@@ -1,11 +1,10 @@
 -- The exact recurrence of the river file paper at the series length N: the steps of a head and the formulas along a reach, with
 -- nothing rounded, saturation included. The rates of a card are those in force, rounded as specs/Rates of river has them. A feeder's foot is the
 -- feeder's exact foot. Concentrations are in units.
-use Rattle.std.specs.Prelude.{Bool, true, false, cond, ℕ, ◌+◌, ◌*◌, ◌-◌, eqb}
+use Rattle.std.specs.Prelude.{Option, Some, None, Bool, true, false, cond, ℕ, ◌+◌, ◌*◌, ◌-◌, eqb}
 use Rattle.decay.specs.Fraction.{Fraction, of_ℕ, ◌+ᶠ◌, ◌-ᶠ◌, ◌*ᶠ◌, ◌÷◌}
 use Rattle.decay.specs.Exact.{foot, exponent, S, F}
 use Rattle.river.specs.declared.card.Dam.{Dam}
-use Rattle.river.specs.declared.card.Dam.TheVariants.{Aerating}
 use Rattle.river.specs.declared.card.Card.{Card}
 use Rattle.river.specs.declared.source.Source.{Source}
 use Rattle.flows.specs.Flow.{Feeders, none, more, fed, flow_of, reach_flow, sludge_of}
@@ -24,10 +23,10 @@ exact_mean false Qu sum = of_ℕ 0
 exact_mean true Qu sum = sum ÷ of_ℕ Qu
 
 -- 2. oxygen C below a dam
-unfoldable pub exact_aerated : Dam → (Cs : Fraction) (Qu : ℕ) (C : Fraction) → Fraction
-exact_aerated Dam.Absent Cs Qu C = C
-exact_aerated (Aerating share generating) Cs Qu C =
-    C +ᶠ (Cs -ᶠ C) *ᶠ of_ℕ (share * (Qu - generating)) ÷ of_ℕ (1_000 * Qu)
+unfoldable pub exact_aerated : Option Dam → (Cs : Fraction) (Qu : ℕ) (C : Fraction) → Fraction
+exact_aerated None Cs Qu C = C
+exact_aerated (Some dam) Cs Qu C =
+    C +ᶠ (Cs -ᶠ C) *ᶠ of_ℕ (dam.share * (Qu - dam.generating)) ÷ of_ℕ (1_000 * Qu)
 
 -- 2. the dam of a reach, skipped without feeders
 unfoldable pub exact_below_dam : Card → (fed : Bool) (Qu : ℕ) (C : Fraction) → Fraction

@@ -4,6 +4,7 @@ use Rattle.std.specs.Prelude.{◌≡◌, ◌↔◌, List, [], ◌++◌, ℕ, zer
 use Rattle.river.specs.declared.card.Card.{Card}
 use Rattle.river.specs.Refusal.{Answer, accepted, refused, need, after}
 use Rattle.river.specs.declared.refusal.Refusal.{Refusal}
+use Rattle.river.specs.declared.refusal.Rule.TheVariants.{BufferShort}
 use Rattle.river.specs.River.{River}
 use Rattle.river.specs.Read.{read_file}
 use Rattle.flows.specs.Flow.{card_of, above, depth_at, flow_at}
@@ -33,7 +34,7 @@ report_size cards = record_size cards * length cards
 
 -- 12 with reach 0 for a buffer that is shorter than the report
 unfoldable pub room_answer : (room : ℕ) → List Card → Answer (List Card)
-room_answer room cards = need (leb (report_size cards) room) 12 0 (accepted cards)
+room_answer room cards = need (leb (report_size cards) room) BufferShort 0 (accepted cards)
 
 -- reporting refuses as reading, then as the flow check, then for want of room
 unfoldable pub report_answer : (file : List ℕ) (room : ℕ) → Answer (List Card)

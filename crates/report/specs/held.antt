@@ -9,5 +9,7 @@ pub mod Loss
 pub mod MeanAlong
 pub mod MeanLines
 pub mod Profile
+pub mod Reaches
+pub mod Start
 pub mod Water
-pub mod Weights
+pub mod StatusNumber

@@ -1,8 +1,8 @@
 // The sludge bed of a reach: the oxygen that it takes, by two numbers.
-ghost use Rattle.std.specs.Prelude.{◌≡◌, ◌≤◌};
+ghost use Rattle.std.specs.Prelude.{◌≡◌, ◌≤◌, false};
 ghost use Rattle.decay.specs.held.Factors.{AreShares};
 ghost use Rattle.flows.specs.Flow.{flow_limit};
-ghost use Rattle.report.specs.held.Bed.{BedPasses, bed_of, loss_with, LossInRange};
+ghost use Rattle.report.specs.held.Bed.{BedPasses, bed_of, no_bed, loss_with, LossInRange};
 
 use decay::factors::Factors;
 use decay::{factors, fixed};
@@ -30,26 +30,33 @@ pub fn bed_of(card: Card, flow: u32) -> Bed
     requires { BedPasses card flow × (1 ≤ flow) × (flow ≤ flow_limit) }
     ensures { result ≡ bed_of card flow }
 {
-    let demand = flow::sludge_of(card) as u64;
-    let k2 = card.k2;
-    if k2 == 0 {
-        let volume = card.volume as u64;
+    let demand = u64::from(flow::sludge_of(card));
+    if card.k2 == 0 {
         Bed {
             eventual: 0,
-            linear: demand * volume * DAY_UNITS / (DAY_SECONDS * flow as u64),
+            linear: demand * u64::from(card.volume) * DAY_UNITS / (DAY_SECONDS * u64::from(flow)),
         }
     } else {
         Bed {
-            eventual: UNITS * demand / k2 as u64,
+            eventual: UNITS * demand / u64::from(card.k2),
             linear: 0,
         }
     }
 }
 
-// The oxygen lost to a bed at instant m, where these factors hold.
-pub fn loss_with(f: Factors, bed: Bed, m: u64) -> u64
-    requires { AreShares f × LossInRange f bed m }
-    ensures { result ≡ loss_with f bed m }
-{
-    fixed::product(fixed::ONE - f.kept, bed.eventual) + bed.linear * m / factors::STEPS
+impl Bed {
+    // Whether a bed takes any oxygen.
+    pub fn takes(self) -> bool
+        ensures { result ≡ false → self ≡ no_bed }
+    {
+        0 < self.eventual || 0 < self.linear
+    }
+
+    // The oxygen lost to a bed at instant m, where these factors hold.
+    pub fn loss_with(self, f: Factors, m: u64) -> u64
+        requires { AreShares f × LossInRange f self m }
+        ensures { result ≡ loss_with f self m }
+    {
+        fixed::product(fixed::ONE - f.kept, self.eventual) + self.linear * m / factors::STEPS
+    }
 }

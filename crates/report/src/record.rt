@@ -1,22 +1,35 @@
 // The record of a reach: an `RP` record and, in a river with nitrification, an `RN` record behind it.
-ghost use Rattle.std.specs.Prelude.{◌≡◌, [], ◌∷◌, ◌++◌, ◌+◌, ◌*◌, ◌≤◌, ◌<◌, length};
-ghost use Rattle.river.specs.Bytes.{Put, mark_bytes, two_bytes, four_bytes, four_at};
+ghost use Rattle.std.specs.Prelude.{◌≡◌, ◌*◌, ◌≤◌, ◌<◌, length};
+ghost use Rattle.river.specs.Bytes.{four_bytes, four_at};
+ghost use Rattle.river.specs.held.Cursors.{Room, Puts};
 ghost use Rattle.river.specs.Card.{card_list};
 ghost use Rattle.flows.specs.held.Stored.{oxygen_of};
-ghost use Rattle.report.specs.Record.{is_nitrified, has_nitrification, complement, from_complement, RP, nitrogenous_bytes, encode_nitrogenous, encode_record, record_bytes, record_size, record_at, nitrogenous_at, read_record};
+ghost use Rattle.report.specs.Record.{has_nitrification, complement, from_complement, plain_bytes, nitrogenous_bytes, encode_plain, encode_nitrogenous, encode_record, record_bytes, record_size, record_at, nitrogenous_at, read_record};
 ghost use Rattle.report.specs.held.LineFigures.{figures_in};
 
 use flows::flow;
 use flows::head::STORED_ZERO;
 use river::bytes;
-use river::card::{Card, Cards, Nitrification};
+use river::bytes::{Cursor, Mark};
+use river::card::Cards;
 
 // How many bytes an `RP` record has, and an `RN` record.
 pub const RP_SIZE: usize = 30;
 
 pub const RN_SIZE: usize = 10;
 
-// The figures of a reach. Oxygen is stored as its units plus 2^31.
+// Their marks.
+const PLAIN_MARK: Mark = Mark {
+    first: b'R',
+    second: b'P',
+};
+
+const NITROGENOUS_MARK: Mark = Mark {
+    first: b'R',
+    second: b'N',
+};
+
+// The figures of a reach. Oxygen is stored as its units plus 2^31, and the status as its number, since a record that is read may have any byte there.
 #[derive(Clone, Copy)]
 pub struct Line {
     pub depth: u8,
@@ -32,37 +45,13 @@ pub struct Line {
     pub foot_nitrogenous: u32,
 }
 
-// Whether a reach has nitrification.
-fn is_nitrified(card: Card) -> bool
-    ensures { result ≡ is_nitrified card }
-{
-    let optionals = card.optionals;
-    let nitrification = optionals.nitrification;
-    match nitrification {
-        Nitrification::Absent => false,
-        Nitrification::Nitrifying {
-            rate: _,
-            concentration: _,
-            load: _,
-        } => true,
-    }
-}
-
 // Whether a river has nitrification at any reach.
 pub fn has_nitrification(cards: Cards) -> bool
-    requires { length (card_list cards) ≤ 128 }
     ensures { result ≡ has_nitrification (card_list cards) }
 {
-    let count = flow::reach_count(cards.count);
-    let mut i: usize = 0;
-    while i < count {
-        let card = cards.at[i];
-        if is_nitrified(card) {
-            return true;
-        }
-        i = i + 1;
-    }
-    false
+    cards.at[..flow::reach_count(cards.count)]
+        .iter()
+        .any(|card| card.optionals.nitrification.is_some())
 }
 
 // How many bytes a record has, by whether its river has nitrification.
@@ -78,7 +67,6 @@ pub fn record_bytes(nitrified: bool) -> usize
 
 // How many bytes a river's records have each.
 pub fn record_size(cards: Cards) -> usize
-    requires { length (card_list cards) ≤ 128 }
     ensures { result ≡ record_size (card_list cards) }
 {
     record_bytes(has_nitrification(cards))
@@ -89,66 +77,52 @@ pub fn complement(oxygen: u32) -> u32
     ensures value { result ≡ complement (oxygen_of oxygen) }
     ensures result_value { oxygen_of result ≡ from_complement oxygen }
 {
-    if oxygen < STORED_ZERO {
-        oxygen + STORED_ZERO
-    } else {
-        oxygen - STORED_ZERO
-    }
+    oxygen.wrapping_add(STORED_ZERO)
 }
 
 // Puts stored oxygen in two's complement.
-pub fn put_complement(report: &mut [u8], at: usize, oxygen: u32) -> usize
-    requires { at + 4 ≤ length report.old }
-    ensures { Put report.old at (four_bytes (complement (oxygen_of oxygen))) report.new result }
+pub fn put_complement(cursor: &mut Cursor<'_>, oxygen: u32)
+    requires { Room cursor.old 4 }
+    ensures { Puts cursor.old (four_bytes (complement (oxygen_of oxygen))) cursor.new }
 {
-    bytes::put_four(report, at, complement(oxygen))
+    cursor.four(complement(oxygen));
 }
 
-// The start of an `RP` record: mark, depth, Q, head and foot BOD.
-fn put_flows(report: &mut [u8], at: usize, line: Line) -> usize
-    requires { at + 15 ≤ length report.old }
-    ensures { Put report.old at (mark_bytes RP ++ line.depth ∷ four_bytes line.flow ++ four_bytes line.head_bod ++ four_bytes line.foot_bod) report.new result }
+// The `RP` record of a line.
+fn put_plain(cursor: &mut Cursor<'_>, line: Line)
+    requires { Room cursor.old plain_bytes }
+    ensures { Puts cursor.old (encode_plain (figures_in line)) cursor.new }
 {
-    let next = bytes::put_pair(report, at, b'R', b'P');
-    let next = bytes::put_byte(report, next, line.depth);
-    let next = bytes::put_four(report, next, line.flow);
-    let next = bytes::put_four(report, next, line.head_bod);
-    bytes::put_four(report, next, line.foot_bod)
+    cursor.mark(PLAIN_MARK);
+    cursor.byte(line.depth);
+    cursor.four(line.flow);
+    cursor.four(line.head_bod);
+    cursor.four(line.foot_bod);
+    put_complement(cursor, line.head_oxygen);
+    cursor.two(line.critical_instant);
+    put_complement(cursor, line.critical_oxygen);
+    put_complement(cursor, line.foot_oxygen);
+    cursor.byte(line.status);
 }
 
-// The end of an `RP` record: head oxygen, the critical instant, critical and foot oxygen, the status.
-fn put_oxygen(report: &mut [u8], at: usize, line: Line) -> usize
-    requires { at + 15 ≤ length report.old }
-    ensures { Put report.old at (four_bytes (complement (oxygen_of line.head_oxygen)) ++ two_bytes line.critical_instant ++ four_bytes (complement (oxygen_of line.critical_oxygen)) ++ four_bytes (complement (oxygen_of line.foot_oxygen)) ++ line.status ∷ []) report.new result }
+// The `RN` record of a line.
+fn put_nitrogenous(cursor: &mut Cursor<'_>, line: Line)
+    requires { Room cursor.old nitrogenous_bytes }
+    ensures { Puts cursor.old (encode_nitrogenous (figures_in line)) cursor.new }
 {
-    let next = put_complement(report, at, line.head_oxygen);
-    let next = bytes::put_two(report, next, line.critical_instant);
-    let next = put_complement(report, next, line.critical_oxygen);
-    let next = put_complement(report, next, line.foot_oxygen);
-    bytes::put_byte(report, next, line.status)
+    cursor.mark(NITROGENOUS_MARK);
+    cursor.four(line.head_nitrogenous);
+    cursor.four(line.foot_nitrogenous);
 }
 
-// An `RN` record: mark, head and foot nitrogenous BOD.
-fn put_nitrogenous(report: &mut [u8], at: usize, line: Line) -> usize
-    requires { at + nitrogenous_bytes ≤ length report.old }
-    ensures { Put report.old at (encode_nitrogenous (figures_in line)) report.new result }
+// Puts the record of a line, by whether its river has nitrification.
+pub fn put_record(cursor: &mut Cursor<'_>, line: Line, nitrified: bool)
+    requires { Room cursor.old (record_bytes nitrified) }
+    ensures { Puts cursor.old (encode_record nitrified (figures_in line)) cursor.new }
 {
-    let next = bytes::put_pair(report, at, b'R', b'N');
-    let next = bytes::put_four(report, next, line.head_nitrogenous);
-    bytes::put_four(report, next, line.foot_nitrogenous)
-}
-
-// Puts the record of a line at a place, by whether its river has nitrification.
-pub fn put_record(report: &mut [u8], at: usize, line: Line, nitrified: bool) -> usize
-    requires { at + record_bytes nitrified ≤ length report.old }
-    ensures { Put report.old at (encode_record nitrified (figures_in line)) report.new result }
-{
-    let next = put_flows(report, at, line);
-    let next = put_oxygen(report, next, line);
+    put_plain(cursor, line);
     if nitrified {
-        put_nitrogenous(report, next, line)
-    } else {
-        next
+        put_nitrogenous(cursor, line);
     }
 }
 

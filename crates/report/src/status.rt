@@ -3,38 +3,47 @@ ghost use Rattle.std.specs.Prelude.{◌≡◌, cond, pos};
 ghost use Rattle.flows.specs.held.Stored.{oxygen_of};
 ghost use Rattle.report.specs.held.LineFigures.{figures_in};
 ghost use Rattle.report.specs.Status.{status_by, is_used, reported};
+ghost use Rattle.report.specs.held.StatusNumber.{number_of};
 
 use crate::record::Line;
 use flows::head::STORED_ZERO;
 
-// The status where critical oxygen is not below zero.
-pub const ORDINARY: u8 = 0;
+// The status of a reach: whether critical oxygen is below zero, unless a reach above has status 1 or 2. A record stores its number.
+#[derive(Clone, Copy, Debug, PartialEq, Eq)]
+pub enum Status {
+    Ordinary = 0,
+    UsedUp = 1,
+    UsedUpAbove = 2,
+}
 
-// The status where it is.
-pub const USED_UP: u8 = 1;
-
-// The status where a reach above has status 1 or 2, whatever critical oxygen is.
-pub const USED_UP_ABOVE: u8 = 2;
-
-// The status of a reach, by whether oxygen is used up above and by its stored critical oxygen.
-pub fn status_of(used: bool, critical: u32) -> u8
-    ensures { result ≡ status_by used (oxygen_of critical) }
-{
-    if used {
-        return USED_UP_ABOVE;
-    }
-    if critical < STORED_ZERO {
-        USED_UP
-    } else {
-        ORDINARY
+impl Status {
+    // The number of a status.
+    pub fn number(self) -> u8
+        ensures { result ≡ number_of self }
+    {
+        self as u8
     }
 }
 
-// Whether oxygen is used up at a reach of this status, or above it.
+// The status of a reach, by whether oxygen is used up above and by its stored critical oxygen.
+pub fn status_of(used: bool, critical: u32) -> Status
+    ensures { number_of result ≡ status_by used (oxygen_of critical) }
+{
+    if used {
+        Status::UsedUpAbove
+    } else if critical < STORED_ZERO {
+        Status::UsedUp
+    } else {
+        Status::Ordinary
+    }
+}
+
+// Whether oxygen is used up at a reach whose status has this number, or above it.
+#[tactic(auto, unfolding(crate::specs::Status::is_used))]
 pub fn is_used(status: u8) -> bool
     ensures { result ≡ is_used status }
 {
-    ORDINARY < status
+    status != Status::Ordinary.number()
 }
 
 // The volume of a reach that counts for the mean of its river: none where oxygen is used up above.
@@ -55,21 +64,14 @@ pub fn reported_mean(used: bool, mean: u32) -> u32
 pub fn reported(line: Line) -> Line
     ensures { figures_in result ≡ reported (figures_in line) }
 {
-    if line.status == USED_UP_ABOVE {
-        Line {
-            depth: line.depth,
-            flow: line.flow,
-            head_bod: line.head_bod,
-            foot_bod: line.foot_bod,
-            head_oxygen: STORED_ZERO,
-            critical_instant: 0,
-            critical_oxygen: STORED_ZERO,
-            foot_oxygen: STORED_ZERO,
-            status: line.status,
-            head_nitrogenous: line.head_nitrogenous,
-            foot_nitrogenous: line.foot_nitrogenous,
-        }
-    } else {
-        line
+    if line.status != Status::UsedUpAbove.number() {
+        return line;
+    }
+    Line {
+        head_oxygen: STORED_ZERO,
+        critical_instant: 0,
+        critical_oxygen: STORED_ZERO,
+        foot_oxygen: STORED_ZERO,
+        ..line
     }
 }

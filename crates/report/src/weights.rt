@@ -1,61 +1,55 @@
-// Stored means weighed by volume, in sums of two parts, since a sum of volume times mean may need more than eight bytes, and their quotient.
-ghost use Rattle.std.specs.Prelude.{◌≡◌};
-ghost use Rattle.report.specs.held.Weights.{no_weights, weighed_with, RoomToWeigh, Divisible, quotient_of};
+// Stored means weighed by volume, and their quotient.
+ghost use Rattle.std.specs.Prelude.{◌≡◌, ◌+◌, ◌*◌, ◌/◌, ◌%◌, ◌<◌, ◌≤◌, ◌^◌};
+ghost use Rattle.flows.specs.held.Stored.{stored_limit};
 
-// Sums of volume times the upper, and times the lower, 16 bits of stored means, and of volume.
+// A long division goes on by 16 bits.
+const CHUNK: u64 = 65_536;
+
+const WIDE_CHUNK: u128 = 65_536;
+
+// The sum of volume times stored mean, which may need more than eight bytes, and of volume.
 #[derive(Clone, Copy)]
 pub struct Weights {
-    pub high: u64,
-    pub low: u64,
+    pub sum: u128,
     pub volume: u64,
+    pub ghost fits: { sum ≤ stored_limit * volume },
+    pub ghost few: { volume < 2 ^ 37 },
 }
 
-// Whole units, stored, and a remainder.
-#[derive(Clone, Copy)]
-pub struct Quotient {
-    pub units: u32,
-    pub remainder: u64,
-}
-
-// The mean is weighed in chunks of 16 bits.
-const CHUNK: u32 = 65_536;
-
-const CHUNK_WIDE: u64 = CHUNK as u64;
-
-// The sums of no mean.
-pub fn no_weights() -> Weights
-    ensures { result ≡ no_weights }
-{
-    Weights {
-        high: 0,
-        low: 0,
-        volume: 0,
+impl Weights {
+    // The sums of no mean.
+    pub fn none() -> Self
+        ensures sum { result.sum ≡ 0 }
+        ensures volume { result.volume ≡ 0 }
+    {
+        Weights { sum: 0, volume: 0 }
     }
-}
 
-// The sums with the stored mean of one more reach.
-pub fn weigh(w: Weights, volume: u32, mean: u32) -> Weights
-    requires { RoomToWeigh w volume }
-    ensures { result ≡ weighed_with w volume mean }
-{
-    let wide = volume as u64;
-    Weights {
-        high: w.high + wide * (mean / CHUNK) as u64,
-        low: w.low + wide * (mean % CHUNK) as u64,
-        volume: w.volume + wide,
+    // The sums with the stored mean of one more reach.
+    pub fn weigh(self, volume: u32, mean: u32) -> Self
+        requires { self.volume + volume < 2 ^ 37 }
+        ensures sum { result.sum ≡ self.sum + volume * mean }
+        ensures volume { result.volume ≡ self.volume + volume }
+    {
+        Weights {
+            sum: self.sum + u128::from(u64::from(volume) * u64::from(mean)),
+            volume: self.volume + u64::from(volume),
+        }
     }
-}
 
-// The sums divided by the volume, by long division.
-pub fn divide(w: Weights) -> Quotient
-    requires { Divisible w }
-    ensures { result ≡ quotient_of w }
-{
-    let high = w.high;
-    let volume = w.volume;
-    let rest = high % volume * CHUNK_WIDE + w.low;
-    Quotient {
-        units: (high / volume * CHUNK_WIDE + rest / volume) as u32,
-        remainder: rest % volume,
+    // Their quotient in whole units, stored, and the remainder, by long division in two chunks: a quotient of 128 bits would call `__udivti3` of the C
+    // compiler's library, which no proof covers.
+    pub fn divide(self) -> (u32, u64)
+        requires { 0 < self.volume }
+        ensures { result ≡ (self.sum / self.volume, self.sum % self.volume) }
+    {
+        let volume = self.volume;
+        let high = (self.sum / WIDE_CHUNK) as u64;
+        let low = (self.sum % WIDE_CHUNK) as u64;
+        let rest = high % volume * CHUNK + low;
+        (
+            (high / volume * CHUNK + rest / volume) as u32,
+            rest % volume,
+        )
     }
 }

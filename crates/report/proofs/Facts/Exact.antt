@@ -4,10 +4,10 @@ use mathlib.Core.Bool.{Bool, true, false}
 use mathlib.Core.List.{[], ◌∷◌}
 use Prim.Native.Nat.{ℕ, ◌+◌, ◌*◌, ◌-◌, ◌<◌}
 use lib.Dec.{lit<}
+use Rattle.std.specs.Prelude.{Option, Some, None}
 use Rattle.decay.specs.Fraction.{Fraction, ◌≈◌, ◌≼◌, of_ℕ, ◌+ᶠ◌, -ᶠ◌, ◌-ᶠ◌, ◌*ᶠ◌, ◌÷◌}
 use Rattle.decay.proofs.Algebra.{ring, ring_by, quote, ◌⋅◌, ◌&◌, none as no_equations, ≈_refl, ≈_trans, +ᶠ_cong, *ᶠ_comm, positive_whole, ÷_cancel_pos, ÷_reciprocal, floor_low, floor_high}
 use Rattle.river.specs.declared.card.Dam.{Dam}
-use Rattle.river.specs.declared.card.Dam.TheVariants.{Aerating}
 use Rattle.river.specs.declared.card.Card.{Card}
 use Rattle.river.specs.declared.source.Demand.{Demand}
 use Rattle.river.specs.declared.source.Source.{Source}
@@ -54,11 +54,11 @@ over_product a b d =
     ring_by (a ∷ b ∷ (b ÷ d) ∷ (a *ᶠ b ÷ d) ∷ (of_ℕ 1 ÷ d) ∷ []) (of_ℕ 1 ⋅ ÷_reciprocal (a *ᶠ b) d & a ⋅ ÷_reciprocal b d & no_equations) (search quote depth 40 fits 9999) tt
 
 -- a dam takes its part of the way to saturation
-exact_aerated_lem : (dam : Dam) (Cs : Fraction) (Qu : ℕ) (C : Fraction) → exact_aerated dam Cs Qu C ≈ C +ᶠ (Cs -ᶠ C) *ᶠ dam_part true dam Qu
+exact_aerated_lem : (dam : Option Dam) (Cs : Fraction) (Qu : ℕ) (C : Fraction) → exact_aerated dam Cs Qu C ≈ C +ᶠ (Cs -ᶠ C) *ᶠ dam_part true dam Qu
 unfolding exact_aerated dam_part
-exact_aerated_lem Dam.Absent Cs Qu C = ring (Cs ∷ C ∷ []) (search quote depth 40 fits 9999) tt
-exact_aerated_lem (Aerating share generating) Cs Qu C =
-    +ᶠ_cong (≈_refl C) (over_product (Cs -ᶠ C) (of_ℕ (share * (Qu - generating))) (of_ℕ (1000 * Qu)))
+exact_aerated_lem None Cs Qu C = ring (Cs ∷ C ∷ []) (search quote depth 40 fits 9999) tt
+exact_aerated_lem (Some dam) Cs Qu C =
+    +ᶠ_cong (≈_refl C) (over_product (Cs -ᶠ C) (of_ℕ (dam.share * (Qu - dam.generating))) (of_ℕ (1000 * Qu)))
 
 pub exact_below_dam_lem : (card : Card) (t : Bool) (Qu : ℕ) (C : Fraction) → exact_below_dam card t Qu C ≈ C +ᶠ (exact_saturation card -ᶠ C) *ᶠ dam_part t card.dam Qu
 unfolding exact_below_dam dam_part

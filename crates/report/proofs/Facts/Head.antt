@@ -6,10 +6,10 @@ use Prim.Native.Nat.{ℕ, ◌+◌, ◌*◌, ◌-◌, ◌≤◌, ◌<◌}
 use native.Mathlib.Nat.{mul-le-mul}
 use native.Mathlib.Omega.{arith}
 use lib.IntN.{ℤ, pos, ◌+ℤ◌, ◌-ℤ◌, ◌*ℤ◌}
+use Rattle.std.specs.Prelude.{Option, Some, None}
 use Rattle.decay.specs.Fraction.{Fraction, ◌≈◌, ◌≼◌, of_ℕ, of_ℤ, ◌+ᶠ◌, -ᶠ◌, ◌-ᶠ◌, ◌*ᶠ◌, ◌÷◌}
 use Rattle.decay.proofs.Algebra.{Nonneg, quote, slack, number, ◌⊞◌, multiple, certify, ≈_refl, ≈_sym, ≈_trans, ≼_trans, ≼_of-≈, of_ℤ-+, of_ℤ-*, +ᶠ_cong, *ᶠ_cong, Positive, positive_whole, certify_over, ÷_cancel_pos, none as no_equations, of_ℕ_mono, of_ℕ-*, of_ℕ-+}
 use Rattle.river.specs.declared.card.Dam.{Dam}
-use Rattle.river.specs.declared.card.Dam.TheVariants.{Aerating}
 use Rattle.river.specs.declared.card.Card.{Card}
 use Rattle.river.specs.declared.source.Demand.{Demand}
 use Rattle.river.specs.declared.source.Source.{Source}
@@ -66,10 +66,10 @@ oxygen_mean (one_more {card} {up} {rest} own above others) =
     oxygen_mean_fed (flow_of (more card up rest)) (oxygen_sum (more card up rest)) (feeders_flow (one_more own above others))
 
 -- the part of the way to saturation that a dam takes: share × (Qu − generating flow) of 1,000 × Qu, and none without feeders
-unfoldable pub dam_part : (fed : Bool) → Dam → (Qu : ℕ) → Fraction
+unfoldable pub dam_part : (fed : Bool) → Option Dam → (Qu : ℕ) → Fraction
 dam_part false dam Qu = of_ℕ 0
-dam_part true Dam.Absent Qu = of_ℕ 0
-dam_part true (Aerating share generating) Qu = of_ℕ (share * (Qu - generating)) ÷ of_ℕ (1000 * Qu)
+dam_part true None Qu = of_ℕ 0
+dam_part true (Some dam) Qu = of_ℕ (dam.share * (Qu - dam.generating)) ÷ of_ℕ (1000 * Qu)
 
 -- no dam changes nothing
 unchanged : (u saturated : Fraction) → Dammed u saturated (of_ℕ 0) u
@@ -115,11 +115,11 @@ part_dammed saturated n d C p h =
       high = certify_over (of_ℕ d) (positive_whole p) vs no_equations (slack rounded.high ⊞ multiple (of_ℕ 1) (≈_sym ez) ⊞ multiple way es ⊞ multiple (of_ℕ d) (≈_sym ec)) (search quote depth 40 fits 9999) tt;
     }
 
-aerated_dammed : (dam : Dam) (saturated Qu : ℕ) (C : ℤ) → 0 < Qu → InRange DM dam → Dammed (of_ℤ C) (of_ℕ saturated) (dam_part true dam Qu) (of_ℤ (aerated dam saturated Qu C))
+aerated_dammed : (dam : Option Dam) (saturated Qu : ℕ) (C : ℤ) → 0 < Qu → InRange DM dam → Dammed (of_ℤ C) (of_ℕ saturated) (dam_part true dam Qu) (of_ℤ (aerated dam saturated Qu C))
 unfolding aerated dam_part
-aerated_dammed Dam.Absent saturated Qu C p h = unchanged (of_ℤ C) (of_ℕ saturated)
-aerated_dammed (Aerating share generating) saturated Qu C p h =
-    part_dammed saturated (share * (Qu - generating)) (1000 * Qu) C (omega arith) (mul-le-mul h.0.most (omega arith))
+aerated_dammed None saturated Qu C p h = unchanged (of_ℤ C) (of_ℕ saturated)
+aerated_dammed (Some dam) saturated Qu C p h =
+    part_dammed saturated (dam.share * (Qu - dam.generating)) (1000 * Qu) C (omega arith) (mul-le-mul h.0.most (omega arith))
 
 -- oxygen below the dam of an accepted reach
 pub below_dam_lem : (card : Card) {up : Feeders} → AllAccepted up → InRange DM card.dam → (C : ℤ) → Dammed (of_ℤ C) (of_ℕ (saturation_of card)) (dam_part (fed up) card.dam (flow_of up)) (of_ℤ (below_dam card (fed up) (flow_of up) C))

@@ -31,10 +31,9 @@ use Rattle.flows.proofs.head.Offset.{sub_pos, minus}
 use Rattle.report.specs.held.Bed.{bed_of, loss_with, loss_limit}
 use Rattle.report.specs.Program.{lowest}
 use Rattle.report.specs.held.Digits.{unit_parts, oxygen_with, factors_along, parts_along, demand_along, turned_along, loss_along, oxygen_along}
-use Rattle.report.specs.held.Profile.{StartInRange}
 use Rattle.report.specs.held.Lines.{LineReady, HeadFits}
 use Rattle.report.specs.held.Along.{AlongBelow}
-use Rattle.report.specs.declared.profile.Start.{Start}
+use Rattle.report.specs.declared.course.Start.{Start}
 use Rattle.report.specs.declared.along.ReachAlong.{ReachAlong}
 use Rattle.report.proofs.Lowest.{lowest_first}
 use Rattle.report.proofs.bed.Loss.{bed_in_range, loss_in_range}
@@ -95,17 +94,16 @@ less_above n k {z = negsuc a} h = absurd h.le
 oxygen_above :
     (f : Factors) (h : Start) {n : ℕ} →
     AreShares f →
-    StartInRange h →
     n + product f.turned h.bod ≤ h.saturation →
     stored_zero + (n + product f.turned h.bod) ≤ h.oxygen →
     pos n ≤ℤ oxygen_with f h.saturation h.bod (oxygen_of h.oxygen)
-oxygen_above f h {n} s r a b = by_order (dec_le h.oxygen (h.saturation + stored_zero))
+oxygen_above f h {n} s a b = by_order (dec_le h.oxygen (h.saturation + stored_zero))
   where
     by_order : Dec (h.oxygen ≤ h.saturation + stored_zero) → pos n ≤ℤ oxygen_with f h.saturation h.bod (oxygen_of h.oxygen)
     by_order (yes l) =
-        stored_above (holds_under f h s r _ _ refl l refl).0 (omega (arith, share_below f.kept (h.saturation + stored_zero - h.oxygen) s.deficit))
+        stored_above (holds_under f h s _ _ refl l refl).0 (omega (arith, share_below f.kept (h.saturation + stored_zero - h.oxygen) s.deficit))
     by_order (no l) =
-        stored_above (holds_over f h s r _ _ refl (omega arith) refl).0 (omega (arith, share_below (one - f.kept) (h.oxygen - (h.saturation + stored_zero)) (omega arith)))
+        stored_above (holds_over f h s _ _ refl (omega arith) refl).0 (omega (arith, share_below (one - f.kept) (h.oxygen - (h.saturation + stored_zero)) (omega arith)))
 
 module _ {card : Card} {Q : ℕ} {head : Head} {p : ReachAlong} (ready : LineReady card Q) (fits : HeadFits head) (below : AlongBelow card Q head.bod head.nitrogenous (oxygen_of head.oxygen) p) where
   -- a demand at the foot is at most its head value
@@ -136,15 +134,22 @@ module _ {card : Card} {Q : ℕ} {head : Head} {p : ReachAlong} (ready : LineRea
   unfolding oxygen_along turned_along
   stays t few s o m l =
       let f = factors_along card Q m in
-      let start : Start = record { bod = head.bod; nitrogenous = head.nitrogenous; oxygen = head.oxygen; saturation = saturation_of card } in
-      let range = start_range card fits.demands fits.low few ready.saturation refl in
+      let start : Start =
+      record {
+        bod = head.bod;
+        nitrogenous = head.nitrogenous;
+        oxygen = head.oxygen;
+        saturation = saturation_of card;
+        range = start_range card fits few ready.saturation refl;
+      }
+      in
       let loss = loss_along card Q m in
       let turned = turned_within ready Bod head.bod m l in
       let nitrified = turned_within ready Nitrogenous head.nitrogenous m l in
       let lost : loss ≤ p.loss = rw below.loss (loss_never_falls card Q m l) in
       less_above 0 loss
       (less_above (0 + loss) (turned_along Nitrogenous card Q head.nitrogenous m)
-      (oxygen_above f start (factors_range ready m) range (omega (arith, below.foot_bod, below.foot_nitrogenous)) (omega (arith, below.foot_bod, below.foot_nitrogenous))))
+      (oxygen_above f start (factors_range ready m) (omega (arith, below.foot_bod, below.foot_nitrogenous)) (omega (arith, below.foot_bod, below.foot_nitrogenous))))
 
 -- what is at least zero is not below it
 not_below : {z : ℤ} → pos 0 ≤ℤ z → lt_z z (pos 0) ≡ false

@@ -1,6 +1,6 @@
 -- What a sludge bed takes: nothing at the head, nothing without demand or volume, and never more than check 14 lets it take.
 -- Assumes nothing.
-use mathlib.Core.Path.{◌≡◌, ap₂}
+use mathlib.Core.Path.{◌≡◌}
 use mathlib.Core.Bool.{Bool, true, false}
 use Prim.Native.Nat.{ℕ, ◌+◌, ◌*◌, ◌-◌, ◌/◌, ◌≤◌, ◌<◌, zero-le}
 use native.Mathlib.Nat.{div-le_of_le-mul, div-le_self, div-mul-le_self, le_of_mul-le-mul_right, mul-le-mul_left, mul-le-mul_right, mul-zero, zero-mul, zero-div}
@@ -27,14 +27,13 @@ use Rattle.report.specs.declared.bed.Bed.{Bed}
 pub less_nothing : {z : ℤ} {loss : ℕ} → loss ≡ 0 → z -ℤ pos loss ≡ z
 less_nothing {z} e = rw e (+ℤ_idr z)
 
--- a bed that takes nothing is no bed
-pub no_bed_lem : (bed : Bed) → bed.eventual ≤ 0 → bed.linear ≤ 0 → bed ≡ no_bed
-no_bed_lem bed e l = ap₂ (λ (x y : ℕ). record { eventual = x; linear = y }) (omega arith) (omega arith)
-
 -- no bed takes nothing
 pub no_bed_loss : (f : Factors) (m : ℕ) → loss_with f no_bed m ≡ 0
 unfolding loss_with product
 no_bed_loss f m = rw (mul-zero, zero-mul, zero-div one, zero-div foot)
+
+pub nothing_lost : {bed : Bed} (f : Factors) (m : ℕ) → bed ≡ no_bed → loss_with f bed m ≡ 0
+nothing_lost f m e = rw e (no_bed_loss f m)
 
 -- THEOREM: without a bed, and with one of demand 0, nothing is lost at any instant
 pub nothing_demanded : (card : Card) (Q : ℕ) (f : Factors) (m : ℕ) → sludge_of card ≡ 0 → loss_with f (bed_of card Q) m ≡ 0

@@ -1,8 +1,9 @@
 -- Sludge beds at a small reach, computed from the definitions: 864,000 m³ and 20,000 L/s, of which 10,000 are taken, so that the water stays
--- for a day; the bed's demand is 2 mg/L a day. They are named by the laws of beds, so that these rows are checked first.
+-- for a day; the bed's demand is 2 mg/L a day.
 use mathlib.Core.Path.{◌≡◌, refl}
 use Prim.Native.Nat.{ℕ, ◌-◌, ◌/◌}
 use lib.IntN.{pos}
+use Rattle.std.specs.Prelude.{Some, None}
 use lib.Signed.{le_z_yes}
 use Rattle.decay.specs.Fraction.{◌≈◌, ◌≼◌, of_ℕ, of_ℤ, ◌+ᶠ◌, -ᶠ◌, ◌*ᶠ◌, ◌÷◌, over}
 use Rattle.decay.specs.Exact.{foot, exponent, power, factorial, term, sum, S, F}
@@ -12,8 +13,6 @@ use Rattle.decay.specs.Series.{term_of, next_terms, terms_at, term_at, with_term
 use Rattle.decay.specs.held.Factors.{demand_from, head_factors, next_factors, factors_at}
 use Rattle.decay.specs.declared.factors.Factors.{Factors}
 use Rattle.river.specs.declared.card.Card.{Card}
-use Rattle.river.specs.declared.card.Dam.{Dam}
-use Rattle.river.specs.declared.card.Amount.TheVariants.{Given}
 use Rattle.river.specs.Card.{no_optionals, with_take, with_sludge}
 use Rattle.flows.specs.Flow.{none, fed, flow_of, reach_flow}
 use Rattle.flows.specs.Saturation.{saturation, saturation_thousandths, saturation_of}
@@ -36,8 +35,8 @@ reach k2 =
       inflow_bod = 0;
       inflow_oxygen = 14_000;
       load = 0;
-      dam = Dam.Absent;
-      optionals = with_take (Given 10_000) (with_sludge (Given 2_000) no_optionals);
+      dam = None;
+      optionals = with_take (Some 10_000) (with_sludge (Some 2_000) no_optionals);
     }
 
 abbrev flow : (k2 : ℕ) → ℕ

@@ -1,5 +1,5 @@
 -- Means computed from their definitions: the mean of a river weighted by volume, also below zero, the order of refusals, oxygen that does not change
--- along a reach, and a reach below one where it is used up. The laws of weighing name them, so that these rows are checked first.
+-- along a reach, and a reach below one where it is used up.
 use mathlib.Core.Path.{◌≡◌, refl, ap, ◌∙◌}
 use mathlib.Core.Bool.{true, false, ◌||◌}
 use mathlib.Core.List.{List, [], ◌∷◌}
@@ -8,12 +8,12 @@ use native.Mathlib.Nat.{le_refl}
 use native.Mathlib.Omega.{arith}
 use lib.IntN.{ℤ, pos, negsuc}
 use lib.Signed.{◌≤ℤ◌}
+use Rattle.std.specs.Prelude.{None}
 use Rattle.decay.specs.Fixed.{product, quotient}
 use Rattle.decay.specs.held.Step.{exponent_of, step_of, mean_sum_of, mean_step_of}
 use Rattle.decay.specs.Series.{term_of, next_terms, terms_at, term_at, with_term, sum_of, count_from, series_of}
 use Rattle.decay.specs.held.Factors.{demand_from, head_factors, next_factors, factors_at}
 use Rattle.river.specs.declared.card.Card.{Card}
-use Rattle.river.specs.declared.card.Dam.{Dam}
 use Rattle.river.specs.declared.source.Demand.{Demand}
 use Rattle.river.specs.declared.source.Demand.TheVariants.{Bod, Nitrogenous}
 use Rattle.river.specs.Card.{no_optionals}
@@ -33,7 +33,8 @@ use Rattle.report.specs.Mean.{mean_at, counted_volume, weighted_sum, rest_of, di
 use Rattle.report.proofs.Lowest.{lowest_first}
 use Rattle.report.proofs.Forest.{AcceptedReach}
 use Rattle.report.proofs.Ties.{reach_critical_stays}
-use Rattle.report.proofs.mean.BySums.{factor_sums, demand_sums, factors_by_sums, demand_by_sums, mean_by_sums, mean_by_sums_lem}
+use Rattle.report.proofs.mean.BySums.{sums_to, factors_by_sums, demand_by_sums, mean_by_sums, mean_by_sums_lem}
+use Rattle.river.specs.declared.refusal.Rule.TheVariants.{BufferShort, NoVolume}
 
 -- ---- weights and answers
 
@@ -55,7 +56,7 @@ pool volume =
       inflow_bod = 0;
       inflow_oxygen = 0;
       load = 0;
-      dam = Dam.Absent;
+      dam = None;
       optionals = no_optionals;
     }
 
@@ -69,10 +70,10 @@ pub record MeanRows : Type 0 where
   -- a reach of volume 0 does not count
   pub without_volume : weighted_mean (both 3 0) (both (negsuc 0) (pos 9)) 2 ≡ record { units = negsuc 0; remainder = 0 }
   -- 12 before 16: three reaches without volume, and a buffer that is a byte short or long enough
-  pub short_and_empty : mean_room_answer 11 (pool 0 ∷ pool 0 ∷ pool 0 ∷ []) ≡ refused (refuse 12 0)
-  pub empty : mean_room_answer 12 (pool 0 ∷ pool 0 ∷ pool 0 ∷ []) ≡ refused (refuse 16 0)
+  pub short_and_empty : mean_room_answer 11 (pool 0 ∷ pool 0 ∷ pool 0 ∷ []) ≡ refused (refuse BufferShort 0)
+  pub empty : mean_room_answer 12 (pool 0 ∷ pool 0 ∷ pool 0 ∷ []) ≡ refused (refuse NoVolume 0)
   -- volume at one of them, the last
-  pub short : mean_room_answer 11 (pool 0 ∷ pool 0 ∷ pool 1 ∷ []) ≡ refused (refuse 12 0)
+  pub short : mean_room_answer 11 (pool 0 ∷ pool 0 ∷ pool 1 ∷ []) ≡ refused (refuse BufferShort 0)
   pub held : mean_room_answer 12 (pool 0 ∷ pool 0 ∷ pool 1 ∷ []) ≡ accepted (pool 0 ∷ pool 0 ∷ pool 1 ∷ [])
 
 -- THEOREM: these means and answers, a row each
@@ -93,12 +94,12 @@ mean_rows =
 
 -- ---- oxygen that does not change: the two reaches of the printing program's example, whose rates are 0
 
-first_is : mean_by_sums (card_of (two Dam.Absent) 1) (above (two Dam.Absent) 1) ≡ pos 8_000_000
-unfolding feeders_among joined_if fed flow_of factor_sums demand_sums factors_by_sums demand_by_sums mean_by_sums head_factors next_factors step_of mean_sum_of mean_step_of exponent_of quotient product term_of next_terms terms_at term_at with_term sum_of count_from series_of bed_by bed_of loss_with oxygen_with demand_at_head oxygen_at_head head_demand head_oxygen upstream_demand upstream_oxygen below_dam aerated floor demand_sum oxygen_sum saturation_of saturation saturation_thousandths
+first_is : mean_by_sums (card_of (two None) 1) (above (two None) 1) ≡ pos 8_000_000
+unfolding feeders_among joined_if fed flow_of sums_to factors_by_sums demand_by_sums mean_by_sums head_factors next_factors step_of mean_sum_of mean_step_of exponent_of quotient product term_of next_terms terms_at term_at with_term sum_of count_from series_of bed_by bed_of loss_with oxygen_with demand_at_head oxygen_at_head head_demand head_oxygen upstream_demand upstream_oxygen below_dam aerated floor demand_sum oxygen_sum saturation_of saturation saturation_thousandths
 first_is = refl
 
-second_is : mean_by_sums (card_of (two Dam.Absent) 2) (above (two Dam.Absent) 2) ≡ pos 6_500_000
-unfolding feeders_among joined_if fed flow_of factor_sums demand_sums factors_by_sums demand_by_sums mean_by_sums head_factors next_factors factors_at demand_from factors_along parts_along demand_along turned_along loss_along oxygen_along step_of mean_sum_of mean_step_of exponent_of quotient product term_of next_terms terms_at term_at with_term sum_of count_from series_of bed_by bed_of loss_with oxygen_with demand_at_head oxygen_at_head head_demand head_oxygen upstream_demand upstream_oxygen below_dam aerated floor demand_sum oxygen_sum saturation_of saturation saturation_thousandths
+second_is : mean_by_sums (card_of (two None) 2) (above (two None) 2) ≡ pos 6_500_000
+unfolding feeders_among joined_if fed flow_of sums_to factors_by_sums demand_by_sums mean_by_sums head_factors next_factors factors_at demand_from factors_along parts_along demand_along turned_along loss_along oxygen_along step_of mean_sum_of mean_step_of exponent_of quotient product term_of next_terms terms_at term_at with_term sum_of count_from series_of bed_by bed_of loss_with oxygen_with demand_at_head oxygen_at_head head_demand head_oxygen upstream_demand upstream_oxygen below_dam aerated floor demand_sum oxygen_sum saturation_of saturation saturation_thousandths
 second_is = refl
 
 -- nothing is above reach 1
@@ -107,7 +108,7 @@ unfolding feeders_among used_by
 none_above cards = refl
 
 -- critical oxygen of reach 1 of the example is its head oxygen, so that oxygen is not used up above reach 2
-first_accepted : AcceptedReach (card_of (two Dam.Absent) 1) (above (two Dam.Absent) 1)
+first_accepted : AcceptedReach (card_of (two None) 1) (above (two None) 1)
 first_accepted =
     record {
       fields = omega arith;
@@ -117,42 +118,42 @@ first_accepted =
       flows = (flows_of_accepted flow_bench.accepted_two).each 0 (omega arith);
     }
 
-first_keeps : (d : Demand) → rate_of d (card_of (two Dam.Absent) 1) * 1_000 ≡ 0
+first_keeps : (d : Demand) → rate_of d (card_of (two None) 1) * 1_000 ≡ 0
 first_keeps Bod = refl
 first_keeps Nitrogenous = refl
 
-first_critical : critical_oxygen (card_of (two Dam.Absent) 1) (above (two Dam.Absent) 1) ≡ pos 8_000_000
+first_critical : critical_oxygen (card_of (two None) 1) (above (two None) 1) ≡ pos 8_000_000
 unfolding oxygen_at_head oxygen_sum feeders_among fed flow_of head_oxygen upstream_oxygen below_dam aerated floor
 first_critical = reach_critical_stays first_accepted first_keeps refl refl
 
-second_ordinary : used_above (above (two Dam.Absent) 2) ≡ false
+second_ordinary : used_above (above (two None) 2) ≡ false
 unfolding feeders_among joined_if used_by status_by is_used
 second_ordinary = ap (λ (c : ℤ). is_used (status_by false c) || (false || false)) first_critical
 
 pub record Constant : Type 0 where
   -- each has its head oxygen for its mean, to the unit, and the volumes are equal
-  pub first : mean_at (two Dam.Absent) 1 ≡ pos 8_000_000
-  pub second : mean_at (two Dam.Absent) 2 ≡ pos 6_500_000
-  pub river : river_mean (two Dam.Absent) ≡ record { units = pos 7_250_000; remainder = 0 }
+  pub first : mean_at (two None) 1 ≡ pos 8_000_000
+  pub second : mean_at (two None) 2 ≡ pos 6_500_000
+  pub river : river_mean (two None) ≡ record { units = pos 7_250_000; remainder = 0 }
 
 -- THEOREM: these means, a row each
 pub constant : Constant
 unfolding river_mean weighted_sum rest_of divided_by floor volume_sum
 constant =
-    let first = mean_by_sums_lem (card_of (two Dam.Absent) 1) (above (two Dam.Absent) 1) ∙ first_is in
-    let second = mean_by_sums_lem (card_of (two Dam.Absent) 2) (above (two Dam.Absent) 2) ∙ second_is in
+    let first = mean_by_sums_lem (card_of (two None) 1) (above (two None) 1) ∙ first_is in
+    let second = mean_by_sums_lem (card_of (two None) 2) (above (two None) 2) ∙ second_is in
     record {
-      first = rw (none_above (two Dam.Absent), first);
+      first = rw (none_above (two None), first);
       second = rw (second_ordinary, second);
-      river = rw (none_above (two Dam.Absent), second_ordinary, first, second);
+      river = rw (none_above (two None), second_ordinary, first, second);
     }
 
 -- ---- oxygen used up: waste uses it up in reach 1, and nothing changes it in reach 2
 
 abbrev polluted : List Card
 polluted =
-    reach 2 400 1_500_000 5_000 3_000 8_000 250_000 Dam.Absent no_optionals
-    ∷ reach 0 0 1_000_000 1_000 1_000 9_000 0 Dam.Absent no_optionals
+    reach 2 400 1_500_000 5_000 3_000 8_000 250_000 None no_optionals
+    ∷ reach 0 0 1_000_000 1_000 1_000 9_000 0 None no_optionals
     ∷ []
 
 -- oxygen of reach 1 is below zero at the foot, and on average
@@ -161,7 +162,7 @@ unfolding oxygen_at feeders_among joined_if fed flow_of head_factors next_factor
 spent_foot = refl
 
 spent_mean : mean_by_sums (card_of polluted 1) (above polluted 1) ≡ negsuc 16_355_279
-unfolding feeders_among joined_if fed flow_of factor_sums demand_sums factors_by_sums demand_by_sums mean_by_sums head_factors next_factors step_of mean_sum_of mean_step_of exponent_of quotient product term_of next_terms terms_at term_at with_term sum_of count_from series_of bed_by bed_of loss_with oxygen_with demand_at_head oxygen_at_head head_demand head_oxygen upstream_demand upstream_oxygen below_dam aerated floor demand_sum oxygen_sum saturation_of saturation saturation_thousandths
+unfolding feeders_among joined_if fed flow_of sums_to factors_by_sums demand_by_sums mean_by_sums head_factors next_factors step_of mean_sum_of mean_step_of exponent_of quotient product term_of next_terms terms_at term_at with_term sum_of count_from series_of bed_by bed_of loss_with oxygen_with demand_at_head oxygen_at_head head_demand head_oxygen upstream_demand upstream_oxygen below_dam aerated floor demand_sum oxygen_sum saturation_of saturation saturation_thousandths
 spent_mean = refl
 
 -- critical oxygen is no higher than that of the foot, and so the status is 1

@@ -1,9 +1,11 @@
 -- Oxygen along a reach, stored with the offset 2^31: what the program computes in natural numbers is the signed definition.
 -- Assumes nothing.
 use mathlib.Core.Path.{◌≡◌, refl, sym, ap, ◌∙◌}
+use mathlib.Core.Bool.{false, not}
 use Prim.Native.Nat.{ℕ, suc, ◌+◌, ◌-◌, ◌*◌, ◌/◌, ◌≤◌, ◌<◌}
 use native.Mathlib.Nat.{add-mul, div-le_of_le-mul}
 use native.Mathlib.Omega.{arith}
+use lib.Dec.{eqb}
 use lib.IntN.{ℤ, pos, neg_ℤ, neg_ℤ-neg_ℤ, ◌-ℤ◌, ◌*ℤ◌}
 use Rattle.flows.specs.Head.{floor}
 use Rattle.flows.proofs.head.Offset.{sub_pos, sub_neg, sub_eq, minus, sub_plus}
@@ -14,8 +16,7 @@ use Rattle.decay.specs.declared.factors.Factors.{Factors}
 use Rattle.decay.proofs.fixed.Digits.{share_below}
 use Rattle.report.specs.held.Bed.{loss_limit}
 use Rattle.report.specs.held.Digits.{unit_parts, oxygen_with}
-use Rattle.report.specs.held.Profile.{StartInRange}
-use Rattle.report.specs.declared.profile.Start.{Start}
+use Rattle.report.specs.declared.course.Start.{Start}
 use Rattle.report.proofs.bed.Loss.{less_nothing}
 use Rattle.report.proofs.profile.Offset.{sub_less, less_sub, floor_surplus}
 use Rattle.flows.specs.held.Stored.{stored_zero, oxygen_of, Stores}
@@ -88,7 +89,7 @@ oxygen_over_lem f Cs L c h k l =
     lost = product (one - f.kept) (c - (Cs + stored_zero))
 
 -- what the program returns, from the products that it was given; the nitrogenous demand and a bed may take their most of it
-module _ (f : Factors) (h : Start) (s : AreShares f) (r : StartInRange h) where
+module _ (f : Factors) (h : Start) (s : AreShares f) where
   pub turned_below : product f.turned h.bod ≤ h.bod
   turned_below = share_below f.turned h.bod (omega arith)
 
@@ -99,12 +100,13 @@ module _ (f : Factors) (h : Start) (s : AreShares f) (r : StartInRange h) where
       left ≡ product f.kept (h.saturation + stored_zero - h.oxygen) →
       Stores (h.saturation + stored_zero - g - left) (oxygen_with f h.saturation h.bod (oxygen_of h.oxygen)) × (h.nitrogenous + loss_limit ≤ h.saturation + stored_zero - g - left)
   holds_under g left eg k el =
+      let r = h.range in
       let kept = share_below f.kept (h.saturation + stored_zero - h.oxygen) s.deficit in (
         record {
-          is = rw (eg, el) (oxygen_under f h.saturation h.bod h.oxygen k (omega (arith, turned_below, kept)));
-          fits = omega arith;
+          is = rw (eg, el) (oxygen_under f h.saturation h.bod h.oxygen k (omega (arith, turned_below, kept, r.low)));
+          fits = omega (arith, r.saturated);
         },
-        omega (arith, turned_below, kept),
+        omega (arith, turned_below, kept, r.low),
       )
 
   pub holds_over :
@@ -113,15 +115,14 @@ module _ (f : Factors) (h : Start) (s : AreShares f) (r : StartInRange h) where
       h.saturation + stored_zero < h.oxygen →
       lost ≡ product (one - f.kept) (h.oxygen - (h.saturation + stored_zero)) →
       Stores (h.saturation + stored_zero - g + (h.oxygen - (h.saturation + stored_zero)) - lost) (oxygen_with f h.saturation h.bod (oxygen_of h.oxygen)) × (h.nitrogenous + loss_limit ≤ h.saturation + stored_zero - g + (h.oxygen - (h.saturation + stored_zero)) - lost)
-  holds_over g lost eg k el = (
-    record {
-      is =
-          rw (eg, el)
-          (oxygen_over_lem f h.saturation h.bod h.oxygen s.deficit k (omega (arith, turned_below)));
-      fits = omega arith;
-    },
-    omega (arith, turned_below, share_below (one - f.kept) (h.oxygen - (h.saturation + stored_zero)) (omega arith)),
-  )
+  holds_over g lost eg k el =
+      let r = h.range in (
+        record {
+          is = rw (eg, el) (oxygen_over_lem f h.saturation h.bod h.oxygen s.deficit k (omega (arith, turned_below, r.demands)));
+          fits = omega (arith, r.high);
+        },
+        omega (arith, turned_below, r.low, r.demands, share_below (one - f.kept) (h.oxygen - (h.saturation + stored_zero)) (omega arith)),
+      )
 
 -- stored oxygen less what something else takes
 pub less_stored : {o : ℕ} {z : ℤ} (loss : ℕ) → Stores o z → loss ≤ o → Stores (o - loss) (z -ℤ pos loss)
@@ -135,6 +136,10 @@ less_stored {o} loss s h =
 -- and less nothing
 pub nothing_less : {o loss : ℕ} {z : ℤ} → loss ≡ 0 → Stores o z → Stores o (z -ℤ pos loss)
 nothing_less {z = z} e s = rw (less_nothing {z = z} e) s
+
+-- a const parameter that is false
+pub off : {n : ℕ} → n ≡ 0 → not (eqb n 0) ≡ false
+off e = rw e refl
 
 -- no part makes no unit
 pub no_parts : 0 / unit_parts ≡ 0

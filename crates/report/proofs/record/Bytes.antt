@@ -1,5 +1,4 @@
 -- The bytes of a small record, computed from the definitions: an `RP` record of 30 bytes and, with nitrification, an `RN` record of 10 behind it.
--- The laws of records name them, so that these rows are checked first.
 use mathlib.Core.Path.{◌≡◌, refl}
 use mathlib.Core.Bool.{true, false}
 use mathlib.Core.List.{List, [], ◌∷◌, ◌++◌}

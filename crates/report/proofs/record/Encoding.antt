@@ -3,9 +3,10 @@
 use mathlib.Core.Path.{◌≡◌, refl, sym, ap, ◌∙◌}
 use mathlib.Core.Bool.{Bool, true, false}
 use mathlib.Core.List.{List, ◌++◌}
-use Prim.Native.Nat.{ℕ, ◌+◌, ◌-◌, ◌≤◌, ◌<◌}
+use Prim.Native.Nat.{ℕ, ◌+◌, ◌%◌, ◌-◌, ◌≤◌, ◌<◌}
 use native.Mathlib.Nat.{div-add-mod'}
 use native.Mathlib.Omega.{arith}
+use native.Mathlib.Decide.{dec_le}
 use borrow.Author.Tests.{lt-ltb, le-ltb}
 use lib.IntN.{pos, negsuc}
 use lib.ListN.{length, take}
@@ -23,6 +24,21 @@ pub complement_above : (n : ℕ) → stored_zero ≤ n → n < 4_294_967_296 →
 unfolding complement from_complement oxygen_of
 complement_above n h k =
     (sym (ap complement (sub_pos n stored_zero h)), sub_neg (n - stored_zero) stored_zero (omega arith) ∙ rw (le-ltb n stored_zero h) (ap negsuc (omega arith)))
+
+-- which is 2^31 added around
+pub complement_is : (n : ℕ) → n < 4_294_967_296 → (n + stored_zero) % 4_294_967_296 ≡ complement (oxygen_of n)
+complement_is n h = by_order (dec_le stored_zero n)
+  where
+    by_order : Dec (stored_zero ≤ n) → (n + stored_zero) % 4_294_967_296 ≡ complement (oxygen_of n)
+    by_order (yes k) = (let e : (n + stored_zero) % 4_294_967_296 ≡ n - stored_zero = omega arith in e) ∙ (complement_above n k h).0
+    by_order (no k) = (let e : (n + stored_zero) % 4_294_967_296 ≡ n + stored_zero = omega arith in e) ∙ (complement_below n (omega arith)).0
+
+pub complement_back : (n : ℕ) → n < 4_294_967_296 → oxygen_of ((n + stored_zero) % 4_294_967_296) ≡ from_complement n
+complement_back n h = by_order (dec_le stored_zero n)
+  where
+    by_order : Dec (stored_zero ≤ n) → oxygen_of ((n + stored_zero) % 4_294_967_296) ≡ from_complement n
+    by_order (yes k) = ap oxygen_of (let e : (n + stored_zero) % 4_294_967_296 ≡ n - stored_zero = omega arith in e) ∙ (complement_above n k h).1
+    by_order (no k) = ap oxygen_of (let e : (n + stored_zero) % 4_294_967_296 ≡ n + stored_zero = omega arith in e) ∙ (complement_below n (omega arith)).1
 
 -- two's complement in four bytes can hold the oxygen figures, and without nitrification there is no nitrogenous BOD
 pub record Writable (nitrified : Bool) (f : Figures) : Type 0 where

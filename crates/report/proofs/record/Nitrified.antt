@@ -1,13 +1,13 @@
 -- Whether a river has nitrification, reach by reach.
 -- Assumes nothing.
-use mathlib.Core.Path.{◌≡◌, refl}
+use mathlib.Core.Path.{◌≡◌, refl, ap}
 use mathlib.Core.Bool.{Bool, true, false, ◌||◌}
 use mathlib.Core.List.{List, [], ◌∷◌}
-use Prim.Native.Nat.{ℕ, zero, suc, ◌+◌, ◌≤◌, ◌<◌}
+use Prim.Native.Nat.{ℕ, zero, suc, ◌<◌}
 use native.Mathlib.Nat.{not-suc-le-zero, le_of_suc-le-suc}
-use native.Mathlib.Numerals.{add-one}
-use lib.ListN.{length, get_or, drop, drop_of_length-le}
-use lib.Seq.{drop-cons}
+use lib.ListN.{length, get_or}
+use Rattle.std.specs.Prelude.{is_some}
+use Rattle.std.specs.List.{list_any}
 use Rattle.river.specs.declared.card.Card.{Card}
 use Rattle.river.specs.Card.{blank}
 use Rattle.river.proofs.Answers.{clash}
@@ -24,17 +24,8 @@ at_no_reach [] e i l = absurd (not-suc-le-zero l)
 at_no_reach (card ∷ cards) e zero l = (neither (is_nitrified card) (has_nitrification cards) e).0
 at_no_reach (card ∷ cards) e (suc i) l = at_no_reach cards (neither (is_nitrified card) (has_nitrification cards) e).1 i (le_of_suc-le-suc l)
 
-module _ (cards : List Card) (i : ℕ) where
-  -- from a reach on, where it has nitrification and where it has none
-  pub found : i < length cards → is_nitrified (get_or cards i blank) ≡ true → has_nitrification (drop i cards) ≡ true
-  unfolding has_nitrification
-  found l e = rw (drop-cons cards i blank l, e)
-
-  pub goes_on : i < length cards → is_nitrified (get_or cards i blank) ≡ false → has_nitrification (drop i cards) ≡ has_nitrification (drop (i + 1) cards)
-  unfolding has_nitrification
-  goes_on l e = rw (add-one, drop-cons cards i blank l, e)
-
-  -- past the last reach there is none
-  pub nowhere : length cards ≤ i → has_nitrification (drop i cards) ≡ false
-  unfolding has_nitrification
-  nowhere l = rw (drop_of_length-le cards {i = i} l)
+-- it has nitrification if any of its cards has
+pub any_nitrified : (cards : List Card) → list_any (λ card. is_some card.optionals.nitrification) cards ≡ has_nitrification cards
+unfolding has_nitrification is_nitrified
+any_nitrified [] = refl
+any_nitrified (card ∷ cards) = ap (λ (b : Bool). is_some card.optionals.nitrification || b) (any_nitrified cards)

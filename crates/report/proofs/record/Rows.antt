@@ -30,7 +30,8 @@ pub row_fits : (size : ℕ) {i n room : ℕ} → i < n → size * n ≤ room →
 row_fits size {i} l h = omega (arith, mul-le-mul_left size l, mul-suc size i)
 
 module _ (row : ℕ → List ℕ) (size : ℕ) (long : (i : ℕ) → length (row i) ≡ size) where
-  rows_length : (n : ℕ) → length (first_rows row n) ≡ size * n
+  -- how many bytes the first rows have
+  pub rows_length : (n : ℕ) → length (first_rows row n) ≡ size * n
   unfolding first_rows
   rows_length zero = sym (mul-zero size)
   rows_length (suc n) =

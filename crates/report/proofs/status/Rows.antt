@@ -1,12 +1,12 @@
 -- The status of a reach, and what is reported at each status, computed from the definitions: by critical oxygen and by whether oxygen is used up above,
--- over forests of pools, and on figures that are all different. The laws of the status name them, so that these rows are checked first.
+-- over forests of pools, and on figures that are all different.
 use mathlib.Core.Path.{◌≡◌, refl}
 use mathlib.Core.Bool.{true, false}
 use mathlib.Core.List.{List, [], ◌∷◌}
 use Prim.Native.Nat.{ℕ}
 use lib.IntN.{ℤ, pos, negsuc, ◌-ℤ◌}
+use Rattle.std.specs.Prelude.{None}
 use Rattle.river.specs.declared.card.Card.{Card}
-use Rattle.river.specs.declared.card.Dam.{Dam}
 use Rattle.river.specs.Card.{no_optionals}
 use Rattle.flows.specs.Flow.{Feeders, none, more, joined_if, feeders_among, card_of, above}
 use Rattle.report.specs.Record.{Figures}
@@ -25,7 +25,7 @@ pool_to outlet oxygen =
       inflow_bod = 0;
       inflow_oxygen = oxygen;
       load = 0;
-      dam = Dam.Absent;
+      dam = None;
       optionals = no_optionals;
     }
 

@@ -1,9 +1,8 @@
--- The means weighed in two sums: each has room, and their quotient by long division is that of the sum that they make together, also below zero.
--- The rows of means are named here so that they are checked before the laws: a wrong weight or remainder is refused by them.
+-- The quotient and the remainder of the sum of volume × stored mean are those of the sum of volume × mean, also below zero.
 -- Assumes nothing.
 use mathlib.Core.Path.{◌≡◌, sym, ap, ◌∙◌}
 use Prim.Native.Nat.{ℕ, suc, ◌+◌, ◌*◌, ◌-◌, ◌/◌, ◌%◌, ◌≤◌, ◌<◌}
-use native.Mathlib.Nat.{add-mul, suc-mul, add-sub_of_le, div-add-mod', div-le_of_le-mul, mul_comm, mod-eq_of_lt, mod-lt, lt_of_mul-lt-mul_right, mul-add-div_right, mul-add-mod_self_right, mul-le-mul}
+use native.Mathlib.Nat.{add-mul, suc-mul, add-sub_of_le, div-add-mod', div-le_of_le-mul, mul_comm, mod-eq_of_lt, mod-lt, lt_of_mul-lt-mul_right, mul-add-div_right, mul-add-mod_self_right}
 use native.Mathlib.Omega.{arith}
 use native.Mathlib.Decide.{dec_le}
 use lib.IntN.{ℤ, pos, negsuc, neg_ℤ, sub_ℕ, ◌+ℤ◌, ◌*ℤ◌, +ℤ_comm}
@@ -11,22 +10,17 @@ use Rattle.flows.specs.Head.{floor}
 use Rattle.flows.specs.held.Stored.{stored_zero, stored_limit, oxygen_of, oxygen_sum_of}
 use Rattle.flows.proofs.head.Offset.{sub_pos, sub_neg, minus, floor_offset}
 use Rattle.report.specs.Mean.{rest_of, divided_by}
-use Rattle.report.specs.held.Weights.{chunk, volume_limit, weighed_with, whole_sum}
-use Rattle.report.specs.declared.weights.Weights.{Weights}
 
 -- ---- long division by chunks of 16 bits
 
-chunks : (h l d : ℕ) → chunk * h + l ≡ h / d * chunk * d + (h % d * chunk + l)
-chunks h l d = parts (h / d) (h % d) (div-add-mod' h d)
-  where
-    parts : (q r : ℕ) → q * d + r ≡ h → chunk * h + l ≡ q * chunk * d + (r * chunk + l)
-    parts q r e = rw (← e) (omega arith)
+chunks : (n d : ℕ) → n / 65_536 / d * 65_536 * d + (n / 65_536 % d * 65_536 + n % 65_536) ≡ n
+chunks n d = omega (arith, div-add-mod' n 65_536, div-add-mod' (n / 65_536) d)
 
-pub long_quotient : (h l d : ℕ) → 0 < d → h / d * chunk + (h % d * chunk + l) / d ≡ (chunk * h + l) / d
-long_quotient h l d p = sym (ap (λ (n : ℕ). n / d) (chunks h l d) ∙ mul-add-div_right p (h / d * chunk) (h % d * chunk + l))
+pub long_quotient : (n d : ℕ) → 0 < d → n / 65_536 / d * 65_536 + (n / 65_536 % d * 65_536 + n % 65_536) / d ≡ n / d
+long_quotient n d p = sym (mul-add-div_right p (n / 65_536 / d * 65_536) (n / 65_536 % d * 65_536 + n % 65_536)) ∙ ap (λ (m : ℕ). m / d) (chunks n d)
 
-pub long_remainder : (h l d : ℕ) → (h % d * chunk + l) % d ≡ (chunk * h + l) % d
-long_remainder h l d = sym (ap (λ (n : ℕ). n % d) (chunks h l d) ∙ mul-add-mod_self_right (h / d * chunk) d (h % d * chunk + l))
+pub long_remainder : (n d : ℕ) → (n / 65_536 % d * 65_536 + n % 65_536) % d ≡ n % d
+long_remainder n d = sym (mul-add-mod_self_right (n / 65_536 / d * 65_536) d (n / 65_536 % d * 65_536 + n % 65_536)) ∙ ap (λ (m : ℕ). m % d) (chunks n d)
 
 -- a quotient that fits four bytes
 pub quotient_fits : (n volume : ℕ) → n ≤ stored_limit * volume → n / volume ≤ stored_limit
@@ -71,23 +65,3 @@ pub rest_below : (sum : ℤ) (volume : ℕ) → 0 < volume → (divided_by sum v
 unfolding divided_by rest_of
 rest_below (pos n) volume p = mod-lt n p
 rest_below (negsuc n) volume p = omega arith
-
--- ---- the sums
-
--- a volume times 16 bits
-pub upper_part : (volume mean : ℕ) → volume ≤ volume_limit → mean ≤ stored_limit → volume * (mean / chunk) ≤ 65_535 * volume_limit
-upper_part volume mean h k =
-    let few : mean / chunk ≤ 65_535 = omega arith in
-    omega (arith, mul-le-mul h few)
-
-pub lower_part : (volume mean : ℕ) → volume ≤ volume_limit → volume * (mean % chunk) ≤ 65_535 * volume_limit
-lower_part volume mean h =
-    let few : mean % chunk ≤ 65_535 = omega arith in
-    omega (arith, mul-le-mul h few)
-
--- one more mean
-pub one_weighed : (w : Weights) (volume mean : ℕ) → whole_sum (weighed_with w volume mean) ≡ whole_sum w + volume * mean
-one_weighed w volume mean = parts (mean / chunk) (mean % chunk) (div-add-mod' mean chunk)
-  where
-    parts : (h l : ℕ) → h * chunk + l ≡ mean → chunk * (w.high + volume * h) + (w.low + volume * l) ≡ chunk * w.high + w.low + volume * mean
-    parts h l e = rw (← e) (omega arith)

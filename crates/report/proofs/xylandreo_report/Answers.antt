@@ -4,4 +4,4 @@ use Rattle.report.proofs.Entry.{reports}
 use Rattle.report.proofs.xylandreo_report.Goals as goal
 
 pub returns : goal.returns
-returns c = reports _ (record { below = λ k. omega (arith, c.type_inv.file k) }) c.report-answer.ensures c.result_of.ensures
+returns c = reports _ (record { below = λ k. omega (arith, c.type_inv.file k) }) c.report.ensures c.result_of.ensures

@@ -1,13 +1,11 @@
--- What the program holds between the reaches of an accepted river: what the reaches reported so far bring. A function that reports a
--- reach is handed its card, its flows and what its feeders bring, and no table, which would be copied for each reach; what it promises holds for every river and tables that these may be of.
-use Rattle.std.specs.Prelude.{◌≡◌, Bool, false, List, ℕ, suc, ◌+◌, ◌*◌, ◌≤◌, ◌<◌, length, get_or}
+-- What the program holds between the reaches of an accepted river: what the reaches reported so far bring, and what a reach is handed of it.
+-- What a function promises of a reach holds for every river and tables that what it is handed may be of.
+use Rattle.std.specs.Prelude.{◌≡◌, List, ℕ, suc, ◌+◌, ◌*◌, ◌≤◌, ◌<◌, length}
 use Rattle.std.proofs.lemmas.List.Edits.{sets}
 use Rattle.decay.specs.held.Step.{RatesPass}
 use Rattle.river.specs.declared.card.Card.{Card}
-use Rattle.flows.specs.declared.flow.FlowTable.{FlowTable}
 use Rattle.flows.specs.declared.flow.ReachFlows.{ReachFlows}
 use Rattle.flows.specs.declared.head.Brought.{Brought}
-use Rattle.flows.specs.declared.head.BroughtTable.{BroughtTable}
 use Rattle.flows.specs.declared.head.Head.{Head}
 use Rattle.river.specs.declared.source.Demand.{Demand}
 use Rattle.river.specs.Card.{Lawful}
@@ -16,12 +14,12 @@ use Rattle.flows.specs.Saturation.{SaturationInRange}
 use Rattle.river.specs.declared.source.Demand.TheVariants.{Bod, Nitrogenous}
 use Rattle.flows.specs.Flow.{Flows, card_of, above, flow_at, mass_at}
 use Rattle.flows.specs.held.FlowTable.{flows_by, Tabled}
-use Rattle.flows.specs.held.HeadTable.{demand_limit, brought_by, brought_to, BroughtWithin, Carried}
+use Rattle.flows.specs.held.HeadTable.{demand_limit, brought_by, brings_by, brought_by_feeders, BroughtWithin, Carried}
 use Rattle.flows.specs.held.Stored.{oxygen_of, stored_of}
 use Rattle.report.specs.held.Bed.{BedPasses, loss_limit}
 use Rattle.report.specs.Program.{demand_at_head, oxygen_at_head, figures_at}
 use Rattle.report.specs.Status.{is_used}
-use Rattle.report.specs.Record.{has_nitrification, Figures, record_size}
+use Rattle.report.specs.Record.{Figures}
 use Rattle.report.specs.held.LineFigures.{figures_in}
 use Rattle.report.specs.Report.{record_of}
 use Rattle.report.specs.declared.record.Line.{Line}
@@ -41,17 +39,13 @@ pub record HeadFits (head : Head) : Type 0 where
 abbrev pub brought_by_figures : (flow : ℕ) → Figures → Brought
 brought_by_figures flow f = brought_by flow f.foot_bod f.foot_nitrogenous (stored_of f.foot_oxygen) (is_used f.status)
 
--- tables of what the first n reaches bring
-pub record BroughtTabled (cards : List Card) (by_reach : BroughtTable) (n : ℕ) : Type 0 where
-  pub bod : (j : ℕ) → j < n → get_or by_reach.bod j 0 ≡ (brought_by_figures (flow_at cards (suc j)) (figures_at cards (suc j))).bod
-  pub nitrogenous :
-      (j : ℕ) → j < n → get_or by_reach.nitrogenous j 0 ≡ (brought_by_figures (flow_at cards (suc j)) (figures_at cards (suc j))).nitrogenous
-  pub oxygen : (j : ℕ) → j < n → get_or by_reach.oxygen j 0 ≡ (brought_by_figures (flow_at cards (suc j)) (figures_at cards (suc j))).oxygen
-  pub used : (j : ℕ) → j < n → get_or by_reach.used j false ≡ (brought_by_figures (flow_at cards (suc j)) (figures_at cards (suc j))).used
+-- a table of what the first n reaches bring
+pub record BroughtTabled (cards : List Card) (by_reach : List Brought) (n : ℕ) : Type 0 where
+  pub each : (j : ℕ) → j < n → brings_by by_reach j ≡ brought_by_figures (flow_at cards (suc j)) (figures_at cards (suc j))
   pub carried : Carried cards by_reach n
 
 -- the flows of an accepted river
-pub record Ready (cards : List Card) (flows : FlowTable) : Type 0 where
+pub record Ready (cards : List Card) (flows : List ReachFlows) : Type 0 where
   pub lawful : Lawful cards
   pub sound : Flows cards
   pub tabled : Tabled cards (length cards) flows
@@ -65,15 +59,21 @@ pub record LineOf (cards : List Card) (i : ℕ) (line : Line) : Type 0 where
 -- this
 pub record LineAt (card : Card) (reach : ReachFlows) (brought : Brought) : Type 0 where
   pub cards : List Card
-  pub flows : FlowTable
-  pub by_reach : BroughtTable
+  pub flows : List ReachFlows
+  pub by_reach : List Brought
   pub i : ℕ
   pub ready : Ready cards flows
   pub brought_tabled : BroughtTabled cards by_reach i
   pub within : i < length cards
   pub own : card ≡ card_of cards (suc i)
   pub flows_are : reach ≡ flows_by flows i
-  pub brought_is : brought ≡ brought_to flows.outlet by_reach.bod by_reach.nitrogenous by_reach.oxygen by_reach.used i
+  pub brought_is : brought ≡ brought_by_feeders flows by_reach i
+
+-- what the place of reach i + 1 in a river is known by: the river with its flows, and what the reaches before it bring
+pub record ReachTables (cards : List Card) (flows : List ReachFlows) (by_reach : List Brought) (i : ℕ) : Type 0 where
+  pub ready : Ready cards flows
+  pub brought_tabled : BroughtTabled cards by_reach i
+  pub within : i < length cards
 
 -- the head of reach i + 1: each demand and oxygen, in the ranges that a line asks, and its demands are at most the undecayed BOD
 pub record HeadOfReach (cards : List Card) (i : ℕ) (head : Head) : Type 0 where
@@ -82,20 +82,6 @@ pub record HeadOfReach (cards : List Card) (i : ℕ) (head : Head) : Type 0 wher
   pub oxygen : oxygen_of head.oxygen ≡ oxygen_at_head (card_of cards (suc i)) (above cards (suc i))
   pub fits : HeadFits head
   pub mass : flow_at cards (suc i) * (head.bod + head.nitrogenous) ≤ 1000 * mass_at cards (suc i)
-
--- for every such river the head is that of this reach
-abbrev pub HeadBy : Card → ReachFlows → Brought → Head → Type 0
-HeadBy card reach brought head = (here : LineAt card reach brought) → HeadOfReach here.cards here.i head
-
--- for every such river the line is that of this reach
-abbrev pub LineBy : Card → ReachFlows → Brought → Line → Type 0
-LineBy card reach brought line = (here : LineAt card reach brought) → LineOf here.cards here.i line
-
--- what its record needs too: whether the river has nitrification, and room at a place of a report of some length
-pub record PlacedAt (card : Card) (reach : ReachFlows) (brought : Brought) (nitrified : Bool) (at long : ℕ) : Type 0 where
-  pub line : LineAt card reach brought
-  pub nitrification : nitrified ≡ has_nitrification line.cards
-  pub room : at + record_size line.cards ≤ long
 
 -- what reach i + 1 hands on: what its foot brings, in bounds
 pub record HandsOn (cards : List Card) (i : ℕ) (brought : Brought) : Type 0 where
@@ -106,8 +92,3 @@ pub record HandsOn (cards : List Card) (i : ℕ) (brought : Brought) : Type 0 wh
 pub record ReachReported (cards : List Card) (i at : ℕ) (before after : List ℕ) (r : Brought) : Type 0 where
   pub hands_on : HandsOn cards i r
   pub report : after ≡ sets before at (record_of cards i)
-
--- for every such river the call tells this and leaves the report so
-abbrev pub ReportedBy : Card → ReachFlows → Brought → (nitrified : Bool) (at : ℕ) (before after : List ℕ) → Brought → Type 0
-ReportedBy card reach brought nitrified at before after r =
-    (here : PlacedAt card reach brought nitrified at (length before)) → ReachReported here.line.cards here.line.i at before after r

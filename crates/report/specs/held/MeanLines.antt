@@ -1,15 +1,14 @@
 -- What the program holds on the way to the means: what a reach hands on with its mean, a table of the means, and the sums of volume × mean.
 use Rattle.std.specs.Prelude.{◌≡◌, List, ℕ, suc, ◌*◌, ◌≤◌, ◌<◌, length, get_or}
 use Rattle.river.specs.declared.card.Card.{Card}
-use Rattle.flows.specs.declared.flow.ReachFlows.{ReachFlows}
-use Rattle.flows.specs.declared.head.Brought.{Brought}
 use Rattle.river.specs.Bytes.{four_bytes}
-use Rattle.flows.specs.held.Stored.{stored_limit, oxygen_of, oxygen_sum_of}
+use Rattle.flows.specs.held.Stored.{oxygen_of, oxygen_sum_of}
 use Rattle.report.specs.Record.{complement}
-use Rattle.report.specs.held.Lines.{LineAt, HandsOn}
+use Rattle.report.specs.held.Lines.{HandsOn}
+use Rattle.report.specs.held.Reaches.{Here}
 use Rattle.report.specs.Mean.{mean_at, counted_volume_at, volume_sum, weighted_sum}
-use Rattle.report.specs.held.Weights.{whole_sum, volume_limit, sum_limit}
 use Rattle.report.specs.declared.mean.ReachMean.{ReachMean}
+use Rattle.report.specs.declared.reach.Site.{Site}
 use Rattle.report.specs.declared.mean.MeanTable.{MeanTable}
 use Rattle.report.specs.declared.weights.Weights.{Weights}
 
@@ -18,16 +17,17 @@ pub record ReachAveraged (cards : List Card) (i : ℕ) (r : ReachMean) : Type 0 
   pub hands_on : HandsOn cards i r.brings
   pub mean : oxygen_of r.mean ≡ mean_at cards (suc i)
 
--- for every river that the card, the flows and what is brought may be of
-abbrev pub AveragedBy : Card → ReachFlows → Brought → ReachMean → Type 0
-AveragedBy card reach brought r = (here : LineAt card reach brought) → ReachAveraged here.cards here.i r
+-- for every river that it may be of
+abbrev pub AveragedBy : Site → ReachMean → Type 0
+AveragedBy site r = (here : Here site) → ReachAveraged here.cards here.i r
 
--- the sums of the first n reaches stand for the sum of volume × mean, with the volume that counts, and a mean of these fits four bytes
+-- the largest volume of a reach
+abbrev pub volume_limit : ℕ
+volume_limit = 1_000_000_000
+
+-- the sums of the first n reaches stand for the sum of volume × mean, with the volume that counts
 pub record Weighs (cards : List Card) (n : ℕ) (w : Weights) : Type 0 where
-  pub sum : oxygen_sum_of (volume_sum (λ i. counted_volume_at cards (suc i)) n) (whole_sum w) ≡ weighted_sum (λ i. counted_volume_at cards (suc i)) (λ i. mean_at cards (suc i)) n
-  pub fits : whole_sum w ≤ stored_limit * volume_sum (λ i. counted_volume_at cards (suc i)) n
-  pub high : w.high ≤ sum_limit n
-  pub low : w.low ≤ sum_limit n
+  pub sum : oxygen_sum_of (volume_sum (λ i. counted_volume_at cards (suc i)) n) w.sum ≡ weighted_sum (λ i. counted_volume_at cards (suc i)) (λ i. mean_at cards (suc i)) n
   pub volume : w.volume ≡ volume_sum (λ i. counted_volume_at cards (suc i)) n
   pub few : w.volume ≤ n * volume_limit
 

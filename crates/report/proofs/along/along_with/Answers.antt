@@ -2,36 +2,33 @@
 -- nothing.
 use mathlib.Core.Path.{refl}
 use native.Mathlib.Omega.{arith}
-use Rattle.report.proofs.along.Along.{sums_fit, foot_loss, foot_bod_few, mean_shares, mean_loss, along_made}
+use Rattle.decay.proofs.factors.Instants.{start_range}
+use Rattle.report.proofs.along.Along.{foot_shares, foot_loss, foot_bod_few, mean_shares, mean_loss, along_made}
 use Rattle.report.proofs.along.along_with.Goals as goal
 
-pub mean_factors-mean-requires : goal.mean_factors-mean-requires
-mean_factors-mean-requires c = (c.requires.mean_sound, sums_fit c.requires c.factor_sums-sums.ensures)
+pub sums_of-sums-requires : goal.sums_of-sums-requires
+sums_of-sums-requires c = rw c.start.ensures start_range
 
-pub oxygen_over_both-foot_oxygen-requires : goal.oxygen_over_both-foot_oxygen-requires
-oxygen_over_both-foot_oxygen-requires c =
-    let p = c.requires in
-    ((sums_fit p c.factor_sums-sums.ensures).reached, p.start_range, p.foot_parts, foot_loss p c.factor_sums-sums.ensures)
+pub oxygen_at-foot_oxygen-requires-clause-in_range : goal.oxygen_at-foot_oxygen-requires-clause-in_range
+oxygen_at-foot_oxygen-requires-clause-in_range c =
+    let course = c.args.course in
+    let s = c.sums_of-sums.ensures.summed in
+    (foot_shares course c.start.ensures s, c.requires.foot_parts, foot_loss course c.start.ensures s)
 
-pub oxygen_over_both-mean_oxygen-requires : goal.oxygen_over_both-mean_oxygen-requires
-oxygen_over_both-mean_oxygen-requires c =
-    let p = c.requires in
-    let e = c.mean_factors-mean.ensures in
-    (mean_shares p c.factor_sums-sums.ensures e, p.start_range, p.mean_parts, mean_loss p c.factor_sums-sums.ensures e)
-
-pub loss_with-loss-requires : goal.loss_with-loss-requires
-loss_with-loss-requires c =
-    let p = c.requires in
-    ((sums_fit p c.factor_sums-sums.ensures).reached, foot_loss p c.factor_sums-sums.ensures)
-
-pub product-requires : goal.product-requires
-product-requires c =
-    let p = c.requires in
-    (omega (arith, (sums_fit p c.factor_sums-sums.ensures).reached.bod), omega (arith, p.start_range.demands))
+pub oxygen_at-mean_oxygen-requires-clause-in_range : goal.oxygen_at-mean_oxygen-requires-clause-in_range
+oxygen_at-mean_oxygen-requires-clause-in_range c =
+    let course = c.args.course in
+    let s = c.sums_of-sums.ensures.summed in
+    let e = c.mean-mean.ensures.stepped in
+    (mean_shares course c.start.ensures s c.args.mean_pace c.requires e, c.requires.mean_parts, mean_loss course c.start.ensures s c.args.mean_pace c.requires e)
 
 pub overflow_cast-result : goal.overflow_cast-result
-overflow_cast-result c = omega (arith, c.product.ensures, foot_bod_few c.requires c.factor_sums-sums.ensures)
+overflow_cast-result c = omega (arith, c.product.ensures, foot_bod_few c.args.course c.start.ensures c.sums_of-sums.ensures.summed)
+
+pub loss_with-requires : goal.loss_with-requires
+loss_with-requires c =
+    (foot_shares c.args.course c.start.ensures c.sums_of-sums.ensures.summed, foot_loss c.args.course c.start.ensures c.sums_of-sums.ensures.summed)
 
 pub returns : goal.returns
 returns c =
-    along_made c.requires c.factor_sums-sums.ensures c.mean_factors-mean.ensures c.product.ensures refl c.oxygen_over_both-foot_oxygen.ensures.is c.oxygen_over_both-mean_oxygen.ensures.is c.loss_with-loss.ensures
+    along_made c.args.course c.start.ensures c.sums_of-sums.ensures.summed c.args.mean_pace c.requires c.mean-mean.ensures.stepped c.product.ensures refl c.oxygen_at-foot_oxygen.ensures.is c.oxygen_at-mean_oxygen.ensures.is c.loss_with.ensures

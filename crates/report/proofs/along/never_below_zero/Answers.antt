@@ -1,6 +1,6 @@
 -- `report::along::never_below_zero` meets its contract: a demand at the foot is at most its head value, the sums fit, and where the test passes nothing takes oxygen
 -- below zero. Assumes nothing.
-use mathlib.Core.Bool.{false≢true}
+use mathlib.Core.Path.{◌∙◌}
 use native.Mathlib.Omega.{arith}
 use borrow.Author.Tests.{leb-true}
 use Rattle.report.proofs.along.NeverBelow.{bod_falls, nitrogenous_falls, loss_few, stays}
@@ -21,13 +21,6 @@ overflow_add-taken c =
     let p = c.requires in
     omega (arith, p.fits.demands, loss_few p.ready p.fits p.below)
 
-pub saturation_of-saturation-requires : goal.saturation_of-saturation-requires
-saturation_of-saturation-requires c = c.requires.ready.saturation
-
--- false tells nothing
-pub returns-then-saturation-taken : goal.returns-then-saturation-taken
-returns-then-saturation-taken c = λ e. absurd (false≢true e)
-
-pub returns : goal.returns
-returns c =
-    λ e here. stays here.ready here.fits here.below c.saturation_of-saturation.ensures (omega arith) c.if-saturation-taken.false (leb-true _ _ e)
+pub returns-then-taken-from : goal.returns-then-taken-from
+returns-then-taken-from c =
+    λ e here. stays here.ready here.fits here.below (c.from-2.ensures ∙ c.saturation_of.ensures) (omega arith) (omega (arith, c.if-taken-from.true, c.from.ensures)) (omega (arith, leb-true _ _ e, c.from.ensures, c.from-then-taken-from.ensures))

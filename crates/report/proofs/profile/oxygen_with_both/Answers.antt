@@ -3,11 +3,8 @@ use native.Mathlib.Omega.{arith}
 use Rattle.report.proofs.profile.Oxygen.{less_stored, turned_at_most}
 use Rattle.report.proofs.profile.oxygen_with_both.Goals as goal
 
-pub overflow_sub-result : goal.overflow_sub-result
-overflow_sub-result c = omega (arith, turned_at_most c.args.d c.args.start.nitrogenous c.requires.2, c.oxygen_with.ensures.1)
-
-pub returns : goal.returns
-returns c =
-    let most = turned_at_most c.args.d c.args.start.nitrogenous c.requires.2 in
-    let with = c.oxygen_with.ensures in
-    (less_stored _ with.0 (omega (arith, most, with.1)), omega (arith, most, with.1))
+pub returns-then-this-ne0 : goal.returns-then-this-ne0
+returns-then-this-ne0 g c =
+    let most = turned_at_most c.args.d c.args.start.nitrogenous c.requires.in_range.1 in
+    let with = c.oxygen_with-oxygen.ensures in
+    record { stored = less_stored _ with.stored (omega (arith, most, with.leaves)); leaves = omega (arith, most, with.leaves) }

@@ -1,46 +1,24 @@
--- `report::record::has_nitrification` meets its contract. The loop's invariant: the reaches from i on decide. The measure is how many
--- reaches are left. Assumes nothing.
-use mathlib.Core.Path.{◌≡◌, refl, sym, ap, ◌∙◌}
-use Prim.Native.Nat.{ℕ, ◌<◌}
+-- `report::record::has_nitrification` meets its contract: the reaches counted are those of the river, and `any` goes over their cards. Assumes nothing.
+use mathlib.Core.Path.{◌≡◌, ◌∙◌, ap, sym}
+use Prim.Native.Nat.{ℕ, min}
 use native.Mathlib.Omega.{arith}
-use lib.ListN.{get_or}
+use Rattle.std.proofs.Common.{is_some, take, length, rules, tests}
+use Rattle.std.proofs.lemmas.List.{take_min}
+use Rattle.std.proofs.lemmas.Iterator.{YieldsList-from_slice}
+use Rattle.std.proofs.lemmas.Iterator.Search.{any_from_yields_List}
 use Rattle.river.specs.declared.card.Cards.{Cards}
-use Rattle.river.specs.Card.{card_list, blank}
-use Rattle.flows.proofs.flow.Count.{reaches_counted, card_of_river}
-use Rattle.report.specs.Record.{is_nitrified}
-use Rattle.report.proofs.record.Nitrified.{found, goes_on, nowhere}
-use Rattle.report.proofs.record.has_nitrification.Invariants.{Searched}
+use Rattle.river.specs.Card.{card_list}
+use Rattle.report.specs.Record.{has_nitrification}
+use Rattle.report.proofs.record.Nitrified.{any_nitrified}
 use Rattle.report.proofs.record.has_nitrification.Goals as goal
 
--- the card of a reach in the array is that of the river
-own : (cs : Cards) {i count : ℕ} → Searched cs count i → i < count → is_nitrified (get_or (card_list cs) i blank) ≡ is_nitrified (get_or cs.at i blank)
-own cs {i} s l = ap is_nitrified (sym (card_of_river cs i (omega (arith, s.counted))))
-
-pub loop-i-init : goal.loop-i-init
-loop-i-init c =
-    let counted = reaches_counted c.args.cards (omega arith) c.reach_count-count.ensures in
-    record { counted = (counted, omega (arith, counted)); rest = refl }
-
-pub returns-then-is_nitrified : goal.returns-then-is_nitrified
-returns-then-is_nitrified c =
-    let l = c.loop-i in
-    let cs = c.args.cards in
-    sym
-    (l.invariant.rest
-    ∙ found (card_list cs) l.i (omega (arith, l.invariant.counted)) (own cs l.invariant (omega arith) ∙ sym c.is_nitrified.ensures ∙ c.if-is_nitrified.true))
-
-pub loop-i-preserved : goal.loop-i-preserved
-loop-i-preserved c =
-    let l = c.loop-i in
-    let cs = c.args.cards in
-    record {
-      counted = l.invariant.counted;
-      rest =
-          l.invariant.rest
-          ∙ goes_on (card_list cs) l.i (omega (arith, l.invariant.counted)) (own cs l.invariant (omega arith) ∙ sym c.is_nitrified.ensures ∙ c.if-is_nitrified.false);
-    }
+-- the cards of the reaches counted
+counted_cards : (cs : Cards) {count : ℕ} → length cs.at ≡ 128 → count ≡ min cs.count 128 → take count cs.at ≡ card_list cs
+counted_cards cs full e = ap (λ (n : ℕ). take n cs.at) (e ∙ ap (min cs.count) (sym full)) ∙ take_min cs.count cs.at
 
 pub returns : goal.returns
 returns c =
-    let s = c.loop-i.invariant in
-    sym (s.rest ∙ nowhere _ c.loop-i.i (omega (arith, s.counted)))
+    let counted = counted_cards c.args.cards (omega arith) c.reach_count.ensures in
+    any_from_yields_List (λ card. is_some card.optionals.nitrification) _ _ _ c.any.ensures.ran (YieldsList-from_slice (take c.reach_count.result c.args.cards.at) cc) (λ x b q k. search (rules, tests))
+    ∙ any_nitrified (take c.reach_count.result c.args.cards.at)
+    ∙ ap has_nitrification counted

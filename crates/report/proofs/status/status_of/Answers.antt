@@ -14,10 +14,6 @@ below_zero : (stored : ℕ) → lt_z (oxygen_of stored) (pos 0) ≡ ltb stored s
 unfolding oxygen_of
 below_zero stored = sub_order stored stored_zero stored_zero
 
-pub returns-then-used : goal.returns-then-used
-unfolding status_by
-returns-then-used c = rw c.if-used.true
-
 pub returns-then-critical-lt-STORED_ZERO : goal.returns-then-critical-lt-STORED_ZERO
 unfolding status_by
 returns-then-critical-lt-STORED_ZERO c = rw (c.if-used.false, below_zero, lt-ltb c.args.critical stored_zero c.if-critical-lt-STORED_ZERO.true)
@@ -25,3 +21,7 @@ returns-then-critical-lt-STORED_ZERO c = rw (c.if-used.false, below_zero, lt-ltb
 pub returns-else-critical-lt-STORED_ZERO : goal.returns-else-critical-lt-STORED_ZERO
 unfolding status_by
 returns-else-critical-lt-STORED_ZERO c = rw (c.if-used.false, below_zero, le-ltb c.args.critical stored_zero c.if-critical-lt-STORED_ZERO.false)
+
+pub returns-then-used : goal.returns-then-used
+unfolding status_by
+returns-then-used c = rw c.if-used.true
