@@ -12,7 +12,7 @@ use Rattle.flows.specs.Accept.{accept_file}
 use Rattle.river.specs.Bytes.{AreBytes}
 use Rattle.river.specs.declared.refusal.Refusal.{Refusal}
 use Rattle.flows.specs.Rates.{card_in_force}
-use Rattle.river.specs.Refusal.{Answer, accepted, refused}
+use Rattle.river.specs.Refusal.{Answer, accepted, refused, number_of}
 use Rattle.flows.proofs.Acceptance.{accepts_exactly}
 use Rattle.river.proofs.Answers.{never, after_refused}
 use Rattle.river.proofs.bytes.Puts.{put_at_start}
@@ -23,7 +23,8 @@ use Rattle.report.specs.declared.reporting.Reported.{Reported}
 use Rattle.report.proofs.Entry.{answers, ReportGiven}
 use Rattle.report.proofs.record.Encoding.{record_bounds}
 use Rattle.text.specs.Text.{reach_line, lines_of, refusal_line, text_of, Rendered}
-use Rattle.text.specs.held.Words.{recorded, PutWithin}
+use Rattle.river.specs.declared.bytes.Cursor.{Cursor}
+use Rattle.text.specs.held.Words.{recorded, PutsWithin}
 use Rattle.text.proofs.put.Lines.{same_lines}
 
 module _ {file : List ℕ} (bytes : AreBytes file) where
@@ -63,31 +64,31 @@ module _ {file : List ℕ} (bytes : AreBytes file) where
       40 * 128 ≤ room →
       accept_file file ≡ x →
       report_answer file room ≡ refused r →
-      refusal_line r.number r.reach ≡ text_of x
+      refusal_line (number_of r.rule) r.reach ≡ text_of x
   unfolding text_of report_answer
   refusal_of {room} (accepted cards) long e h =
       never (sym h ∙ answers file (record { cards = cards; passes = e; holds = le_trans (mul-le-mul (record_bounds (has_nitrification cards)).1 (few e)) long }))
   refusal_of (refused s) {r} long e h =
       let same : r ≡ s = cc (h, after_refused (accept_file file) _ e) in
-      ap (λ (x : Refusal). refusal_line x.number x.reach) same
+      ap (λ (x : Refusal). refusal_line (number_of x.rule) x.reach) same
 
-  pub refusal_is : {room : ℕ} {r : Refusal} → 40 * 128 ≤ room → report_answer file room ≡ refused r → refusal_line r.number r.reach ≡ text_of (accept_file file)
+  pub refusal_is : {room : ℕ} {r : Refusal} → 40 * 128 ≤ room → report_answer file room ≡ refused r → refusal_line (number_of r.rule) r.reach ≡ text_of (accept_file file)
   refusal_is long h = refusal_of (accept_file file) long refl h
 
 -- a text that is put at the start of a buffer
 pub renders :
-    {before after text due : List ℕ} {most r : ℕ} →
-    PutWithin most before 0 text after r →
+    {before after : Cursor} {text due : List ℕ} {most : ℕ} →
+    before.at ≡ 0 →
+    PutsWithin most text before after →
     text ≡ due →
-    most ≤ length before →
-    length after ≡ length before →
-    Rendered due before after r × IsPrefixLen r after
-renders {before} {after} {text} {due} {most} {r} p e fits same =
-    let size : r ≡ length text = omega (arith, p.put.place) in
-    let short : r ≤ length before = omega (arith, p.within) in (
+    most ≤ length before.out.now →
+    Rendered due before.out.now after.out.now after.at × IsPrefixLen after.at after.out.now
+renders {before} {after} {text} {due} {most} start p e fits =
+    let put = rw start at p.put.put in
+    let size : after.at ≡ length text = omega (arith, p.put.put.place, start) in (
       record {
         size = size ∙ ap length e;
-        buffer = put_at_start p.put (omega arith) ∙ ap₂ (λ (t : List ℕ) (n : ℕ). t ++ drop n before) e (sym size);
+        buffer = put_at_start put (omega (arith, p.within, start)) ∙ ap₂ (λ (t : List ℕ) (n : ℕ). t ++ drop n before.out.now) e (sym size);
       },
-      (omega arith, sym (length-take-le r after (omega arith))),
+      (omega (arith, p.within, p.long, start), sym (length-take-le after.at after.out.now (omega (arith, p.within, p.long, start)))),
     )

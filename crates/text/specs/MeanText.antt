@@ -1,7 +1,7 @@
 -- "The printing program" of the river file paper, asked for means: the text of a river's mean oxygen, or of its refusal, as ASCII codes.
 use Rattle.std.specs.Prelude.{List, [], ◌∷◌, ◌++◌, map, ℕ, ◌*◌, ℤ, pos, length}
 use Rattle.river.specs.declared.card.Card.{Card}
-use Rattle.river.specs.Refusal.{Answer, accepted, refused}
+use Rattle.river.specs.Refusal.{Answer, accepted, refused, number_of}
 use Rattle.report.specs.Mean.{Weighted, mean_bytes, mean_at, river_mean, mean_answer}
 use Rattle.text.specs.Text.{ascii, number, signed, line, first_lines, refusal_line, Rendered}
 
@@ -24,7 +24,7 @@ means_room = mean_bytes * 128
 -- the text by the answer of a call: one line a reach and that of the river, or the refusal
 unfoldable pub mean_text_of : Answer (List Card) → List ℕ
 mean_text_of (accepted cards) = mean_lines (mean_at cards) (length cards) ++ river_line (river_mean cards)
-mean_text_of (refused r) = refusal_line r.number r.reach
+mean_text_of (refused r) = refusal_line (number_of r.rule) r.reach
 
 -- the text for a river file, by a call with so much room
 abbrev pub mean_text : (file : List ℕ) → List ℕ

@@ -3,7 +3,7 @@ use Rattle.std.specs.Prelude.{Bool, true, false, cond, List, [], ◌∷◌, ◌+
 use Prim.Native.Char.{code}
 use Prim.Native.String.{String, [] as none, ◌∷◌ as ◌then◌}
 use Rattle.river.specs.declared.card.Card.{Card}
-use Rattle.river.specs.Refusal.{Answer, accepted, refused}
+use Rattle.river.specs.Refusal.{Answer, accepted, refused, number_of}
 use Rattle.flows.specs.Accept.{accept_file}
 use Rattle.report.specs.Program.{reported_at}
 use Rattle.report.specs.Record.{has_nitrification, Figures}
@@ -80,7 +80,7 @@ refusal_line n reach = line (ascii "refused" ∷ number n ∷ ascii "reach" ∷ 
 -- the text for a river file, by the answer of reading and flow check: one line a reach, or the refusal
 unfoldable pub text_of : Answer (List Card) → List ℕ
 text_of (accepted cards) = lines_of (has_nitrification cards) (reported_at cards) (length cards)
-text_of (refused r) = refusal_line r.number r.reach
+text_of (refused r) = refusal_line (number_of r.rule) r.reach
 
 -- a call that puts a text, with the buffer before and after: it returns the length of the text, which stands at the buffer's start,
 -- and the bytes past it keep their contents

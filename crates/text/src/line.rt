@@ -1,4 +1,5 @@
-// The numbers in the line of a reach. They are stored as oxygen is, with 2^31 added, so that none is below zero.
+// The numbers in the line of a reach. They are stored as oxygen is, with 2^31 added, so that none is below zero: of the elements of a slice a
+// proof knows that each fits only where they are unsigned. Signed ones were tried, by an index, a `let` and a `for`.
 ghost use Rattle.std.specs.Prelude.{◌≡◌, true, map, ◌≤◌, pos};
 ghost use Rattle.flows.specs.held.Stored.{oxygen_of};
 ghost use Rattle.report.specs.held.LineFigures.{figures_in};
@@ -17,7 +18,7 @@ const PLAIN_NUMBERS: usize = 10;
 pub fn plain(n: u32) -> u64
     ensures { oxygen_of result ≡ pos n }
 {
-    STORED_ZERO_WIDE + n as u64
+    STORED_ZERO_WIDE + u64::from(n)
 }
 
 // How many numbers the line of a reach has, by whether its river has nitrification.
@@ -34,15 +35,15 @@ pub fn numbers_of(reach: u32, line: Line) -> [u64; NUMBERS]
 {
     [
         plain(reach),
-        plain(line.depth as u32),
+        plain(u32::from(line.depth)),
         plain(line.flow),
         plain(line.head_bod),
         plain(line.foot_bod),
-        line.head_oxygen as u64,
-        plain(line.critical_instant as u32),
-        line.critical_oxygen as u64,
-        line.foot_oxygen as u64,
-        plain(line.status as u32),
+        u64::from(line.head_oxygen),
+        plain(u32::from(line.critical_instant)),
+        u64::from(line.critical_oxygen),
+        u64::from(line.foot_oxygen),
+        plain(u32::from(line.status)),
         plain(line.head_nitrogenous),
         plain(line.foot_nitrogenous),
     ]

@@ -1,15 +1,16 @@
 // The lines of a river's means: one for each reach, with its number and its mean, and one for the river.
 ghost use Rattle.std.specs.Prelude.{◌≡◌, ◌++◌, ◌+◌, ◌*◌, ◌≤◌, length};
 ghost use Rattle.flows.specs.held.Stored.{oxygen_of};
+ghost use Rattle.river.specs.held.Cursors.{Room};
 ghost use Rattle.report.specs.Mean.{mean_bytes, mean_read};
 ghost use Rattle.text.specs.MeanText.{mean_line, mean_lines, river_line};
-ghost use Rattle.text.specs.held.Words.{longest_mean_line, longest_river_line, mean_held, PutWithin};
+ghost use Rattle.text.specs.held.Words.{longest_mean_line, longest_river_line, mean_held, mean_told, PutsWithin};
 
 use crate::line::plain;
 use crate::put::{put_line, put_number, put_signed, put_word};
-use report::mean::MEAN_SIZE;
+use report::mean::{MEAN_SIZE, RiverMean};
 use report::record::complement;
-use river::bytes::four_at;
+use river::bytes::{Cursor, four_at};
 
 // The numbers in the line of a reach.
 pub const MEAN_NUMBERS: usize = 2;
@@ -27,46 +28,46 @@ pub fn read_mean(means: &[u8], i: usize) -> u32
 }
 
 // Puts the line of a reach with this stored mean.
-fn put_mean(out: &mut [u8], at: usize, reach: u32, mean: u32) -> usize
-    requires { at + longest_mean_line ≤ length out.old }
-    ensures { PutWithin longest_mean_line out.old at (mean_line reach (oxygen_of mean)) out.new result }
+fn put_mean(text: &mut Cursor, reach: u32, mean: u32)
+    requires { Room text.old longest_mean_line }
+    ensures { PutsWithin longest_mean_line (mean_line reach (oxygen_of mean)) text.old text.new }
 {
-    let numbers = [plain(reach), mean as u64];
-    put_line(out, at, &numbers)
+    let numbers = [plain(reach), u64::from(mean)];
+    put_line(text, &numbers);
 }
 
-// Puts the lines of the first reaches, whose means stand in these bytes.
-fn put_mean_lines(out: &mut [u8], means: &[u8], count: usize) -> usize
-    requires { (count ≤ 128) × (mean_bytes * count ≤ length means.now) × (longest_mean_line * count ≤ length out.old) }
-    ensures { PutWithin (longest_mean_line * count) out.old 0 (mean_lines (mean_held means.now) count) out.new result }
+// Puts the lines of the first reaches, whose means stand in these bytes. `put_lines` has the same loop: one function for both would be handed the putting
+// of a line as a closure, with a clause of its own, and be longer than the two.
+fn put_mean_lines(text: &mut Cursor, means: &[u8], count: usize)
+    requires few { count ≤ 128 }
+    requires held { mean_bytes * count ≤ length means.now }
+    requires room { Room text.old (longest_mean_line * count) }
+    ensures { PutsWithin (longest_mean_line * count) (mean_lines (mean_held means.now) count) text.old text.new }
 {
-    let mut next: usize = 0;
-    let mut i: usize = 0;
-    while i < count {
-        let mean = read_mean(means, i);
-        i = i + 1;
-        next = put_mean(out, next, i as u32, mean);
+    for i in 0..count {
+        put_mean(text, i as u32 + 1, read_mean(means, i));
     }
-    next
 }
 
-// Puts the line of the river, by its stored units and the remainder.
-fn put_river(out: &mut [u8], at: usize, units: u64, remainder: u64) -> usize
-    requires { at + longest_river_line ≤ length out.old }
-    ensures { PutWithin longest_river_line out.old at (river_line (record { units = oxygen_of units; remainder = remainder })) out.new result }
+// Puts the line of the river, by its mean.
+fn put_river(text: &mut Cursor, river: RiverMean)
+    requires { Room text.old longest_river_line }
+    ensures { PutsWithin longest_river_line (river_line (mean_told river)) text.old text.new }
 {
-    let next = put_word(out, at, b"river ");
-    let next = put_signed(out, next, units);
-    let next = put_word(out, next, b" ");
-    let next = put_number(out, next, remainder);
-    put_word(out, next, b"\n")
+    put_word(text, b"river ");
+    put_signed(text, u64::from(river.units));
+    put_word(text, b" ");
+    put_number(text, river.remainder);
+    put_word(text, b"\n");
 }
 
 // Puts the lines of the first reaches, and that of the river.
-pub fn put_means(out: &mut [u8], means: &[u8], count: usize, units: u64, remainder: u64) -> usize
-    requires { (count ≤ 128) × (mean_bytes * count ≤ length means.now) × (longest_mean_line * count + longest_river_line ≤ length out.old) }
-    ensures { PutWithin (longest_mean_line * count + longest_river_line) out.old 0 (mean_lines (mean_held means.now) count ++ river_line (record { units = oxygen_of units; remainder = remainder })) out.new result }
+pub fn put_means(text: &mut Cursor, means: &[u8], river: RiverMean)
+    requires few { river.count ≤ 128 }
+    requires held { mean_bytes * river.count ≤ length means.now }
+    requires room { Room text.old (longest_mean_line * river.count + longest_river_line) }
+    ensures { PutsWithin (longest_mean_line * river.count + longest_river_line) (mean_lines (mean_held means.now) river.count ++ river_line (mean_told river)) text.old text.new }
 {
-    let next = put_mean_lines(out, means, count);
-    put_river(out, next, units, remainder)
+    put_mean_lines(text, means, river.count);
+    put_river(text, river);
 }

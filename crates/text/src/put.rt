@@ -1,75 +1,69 @@
-// Words, numbers and lines put at a place of a text. Each function returns the next place.
-ghost use Rattle.std.specs.Prelude.{◌++◌, suc, ◌+◌, ◌*◌, ◌≤◌, ◌<◌, length, drop};
+// Words, numbers and lines put one behind the other in a buffer.
+ghost use Rattle.std.specs.Prelude.{◌++◌, suc, ◌*◌, ◌<◌, length, drop};
 ghost use Rattle.flows.specs.held.Stored.{oxygen_of};
+ghost use Rattle.river.specs.held.Cursors.{Room};
 ghost use Rattle.text.specs.Text.{number, signed, after_word, line};
-ghost use Rattle.text.specs.held.Words.{word_at, words_of, PutWithin};
+ghost use Rattle.text.specs.held.Words.{word_at, words_of, PutsWithin};
 
 use flows::head::STORED_ZERO_WIDE;
+use river::bytes::Cursor;
 
 // The bytes of a number in a line at most: 20 digits, a sign and what stands after the number.
 pub const LONGEST_NUMBER: usize = 22;
 
 // Puts a word.
-pub fn put_word(out: &mut [u8], at: usize, word: &[u8]) -> usize
-    requires { at + length word.now ≤ length out.old }
-    ensures { PutWithin (length word.now) out.old at word.now out.new result }
+pub fn put_word(text: &mut Cursor, word: &[u8])
+    requires { Room text.old (length word.now) }
+    ensures { PutsWithin (length word.now) word.now text.old text.new }
 {
-    let mut next = at;
-    let mut i: usize = 0;
-    while i < word.len() {
-        out[next] = word[i];
-        next = next + 1;
-        i = i + 1;
-    }
-    next
+    text.bytes(word);
 }
 
-// Puts a number in decimal.
-pub fn put_number(out: &mut [u8], at: usize, n: u64) -> usize
-    requires { at + 20 ≤ length out.old }
-    ensures { PutWithin 20 out.old at (number n) out.new result }
+// Puts a number in decimal, by `io::decimal`: `Display` says what it writes only where it answers `Ok`, and `Renders` promises the text on
+// every file.
+pub fn put_number(text: &mut Cursor, n: u64)
+    requires { Room text.old 20 }
+    ensures { PutsWithin 20 (number n) text.old text.new }
 {
     let mut digits = [0u8; 20];
     let count = io::decimal(n, &mut digits);
-    put_word(out, at, &digits[..count])
+    put_word(text, &digits[..count]);
 }
 
 // Puts a stored number in decimal, with a minus sign below zero.
-pub fn put_signed(out: &mut [u8], at: usize, stored: u64) -> usize
-    requires { at + 21 ≤ length out.old }
-    ensures { PutWithin 21 out.old at (signed (oxygen_of stored)) out.new result }
+pub fn put_signed(text: &mut Cursor, stored: u64)
+    requires { Room text.old 21 }
+    ensures { PutsWithin 21 (signed (oxygen_of stored)) text.old text.new }
 {
     if stored < STORED_ZERO_WIDE {
-        let next = put_word(out, at, b"-");
-        put_number(out, next, STORED_ZERO_WIDE - stored)
+        put_word(text, b"-");
+        put_number(text, STORED_ZERO_WIDE - stored);
     } else {
-        put_number(out, at, stored - STORED_ZERO_WIDE)
+        put_number(text, stored - STORED_ZERO_WIDE);
     }
 }
 
 // Puts number i of a line, and what stands after it: one space, or the end of the line.
-fn put_next(out: &mut [u8], at: usize, numbers: &[u64], i: usize) -> usize
-    requires { (at + 22 ≤ length out.old) × (i < length numbers.now) }
-    ensures { PutWithin 22 out.old at (word_at numbers.now i ++ after_word (drop (suc i) (words_of numbers.now))) out.new result }
+fn put_next(text: &mut Cursor, numbers: &[u64], i: usize)
+    requires room { Room text.old 22 }
+    requires in_line { i < length numbers.now }
+    ensures { PutsWithin 22 (word_at numbers.now i ++ after_word (drop (suc i) (words_of numbers.now))) text.old text.new }
 {
-    let next = put_signed(out, at, numbers[i]);
+    put_signed(text, numbers[i]);
     if i + 1 < numbers.len() {
-        put_word(out, next, b" ")
+        put_word(text, b" ");
     } else {
-        put_word(out, next, b"\n")
+        put_word(text, b"\n");
     }
 }
 
-// Puts a line of stored numbers.
-pub fn put_line(out: &mut [u8], at: usize, numbers: &[u64]) -> usize
-    requires { at + 22 * length numbers.now ≤ length out.old }
-    ensures { PutWithin (22 * length numbers.now) out.old at (line (words_of numbers.now)) out.new result }
+// Puts a line of stored numbers. It goes by an index, since what stands after a number depends on whether one more follows: an iterator of the last and
+// the others would put a number in two places.
+pub fn put_line(text: &mut Cursor, numbers: &[u64])
+    requires { Room text.old (22 * length numbers.now) }
+    ensures { PutsWithin (22 * length numbers.now) (line (words_of numbers.now)) text.old text.new }
 {
-    let mut next = at;
-    let mut i: usize = 0;
-    while i < numbers.len() {
-        next = put_next(out, next, numbers, i);
-        i = i + 1;
+    for i in 0..numbers.len() {
+        put_next(text, numbers, i);
     }
-    next
 }

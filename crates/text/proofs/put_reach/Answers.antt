@@ -6,17 +6,11 @@ use lib.IntN.{ℤ}
 use lib.ListN.{length-take}
 use Rattle.text.specs.Text.{signed, line}
 use Rattle.text.proofs.Numbers.{numbers_are}
-use Rattle.text.proofs.put.Puts.{reworded}
+use Rattle.text.proofs.put.Puts.{reworded, widened}
 use Rattle.text.proofs.put_reach.Goals as goal
-
-pub put_line-requires : goal.put_line-requires
-put_line-requires c = omega (arith, length-take c.number_count-count.result c.numbers_of-numbers.result)
 
 pub returns : goal.returns
 returns c =
-    record {
-      put =
-          (reworded (ap (λ (z : List ℤ). line (map signed z)) (numbers_are c.args.nitrified _ c.args.reach _ c.numbers_of-numbers.ensures c.number_count-count.ensures.value))
-          c.put_line.ensures).put;
-      within = omega (arith, c.put_line.ensures.within, length-take c.number_count-count.result c.numbers_of-numbers.result);
-    }
+    widened (omega (arith, length-take c.number_count-count.result c.numbers_of-numbers.result))
+    (reworded (ap (λ (z : List ℤ). line (map signed z)) (numbers_are c.args.nitrified _ c.args.reach _ c.numbers_of-numbers.ensures c.number_count-count.ensures.value))
+    c.put_line.ensures)

@@ -1,10 +1,12 @@
 -- How the program holds what it prints on the way to a text: numbers stored as oxygen is, the figures in the records of a report,
 -- the means in their bytes, and words put into a buffer. `Renders` and `RendersMeans` name none of this.
-use Rattle.std.specs.Prelude.{Bool, cond, List, map, ℕ, pred, ◌+◌, ◌≤◌, ℤ, get_or}
-use Rattle.river.specs.Bytes.{Put}
+use Rattle.std.specs.Prelude.{◌≡◌, Bool, cond, List, map, ℕ, pred, ◌+◌, ◌≤◌, ℤ, get_or, length}
+use Rattle.river.specs.declared.bytes.Cursor.{Cursor}
+use Rattle.river.specs.held.Cursors.{Puts}
 use Rattle.flows.specs.held.Stored.{oxygen_of}
 use Rattle.report.specs.Record.{Figures, record_bytes, record_at, read_record}
-use Rattle.report.specs.Mean.{mean_read}
+use Rattle.report.specs.Mean.{mean_read, Weighted}
+use Rattle.report.specs.declared.mean.RiverMean.{RiverMean}
 use Rattle.text.specs.Text.{signed}
 
 -- the word of stored number i, and all words of some stored numbers
@@ -38,7 +40,12 @@ longest_river_line = 49
 abbrev pub mean_held : (means : List ℕ) → ℕ → ℤ
 mean_held means i = mean_read means (pred i)
 
--- a word of at most so many bytes is put at a place of a buffer, and the rest of it is kept; the next place is behind the word
-pub record PutWithin (most : ℕ) (before : List ℕ) (at : ℕ) (word exit : List ℕ) (next : ℕ) : Type 0 where
-  pub put : Put before at word exit next
-  pub within : next ≤ at + most
+-- the mean of a river, from what the program tells
+abbrev pub mean_told : RiverMean → Weighted
+mean_told m = record { units = oxygen_of m.units; remainder = m.remainder }
+
+-- a word of at most so many bytes is put at a cursor, whose buffer keeps its length
+pub record PutsWithin (most : ℕ) (word : List ℕ) (before after : Cursor) : Type 0 where
+  pub put : Puts before word after
+  pub within : after.at ≤ before.at + most
+  pub long : length after.out.now ≡ length before.out.now

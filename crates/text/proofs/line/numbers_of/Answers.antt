@@ -15,4 +15,10 @@ returns c =
       c.plain-7.ensures,
       c.plain-8.ensures,
       c.plain-9.ensures,
+      c.from.ensures,
+      c.from-2.ensures,
+      c.from-3.ensures,
+      c.from-4.ensures,
+      c.from-5.ensures,
+      c.from-6.ensures,
     )

@@ -1,6 +1,7 @@
 -- `text::means::put_mean` meets its contract: a line of two numbers. Assumes nothing.
-use mathlib.Core.Path.{ap}
+use mathlib.Core.Path.{ap₂}
 use mathlib.Core.List.{[], ◌∷◌}
+use Prim.Native.Nat.{ℕ}
 use lib.IntN.{ℤ}
 use Rattle.flows.specs.held.Stored.{oxygen_of}
 use Rattle.text.specs.Text.{signed, line}
@@ -11,4 +12,4 @@ use Rattle.text.proofs.means.put_mean.Goals as goal
 pub returns : goal.returns
 unfolding mean_line
 returns c =
-    reworded (ap (λ (z : ℤ). line (signed z ∷ signed (oxygen_of c.args.mean) ∷ [])) c.plain.ensures) c.put_line.ensures
+    reworded (ap₂ (λ (z : ℤ) (m : ℕ). line (signed z ∷ signed (oxygen_of m) ∷ [])) c.plain.ensures c.from.ensures) c.put_line.ensures

@@ -3,4 +3,4 @@ use Rattle.text.proofs.put.Puts.{both}
 use Rattle.text.proofs.means.put_means.Goals as goal
 
 pub returns : goal.returns
-returns c = both c.put_mean_lines-next.ensures c.put_river.ensures
+returns c = both c.put_mean_lines.ensures c.put_river.ensures
