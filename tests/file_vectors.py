@@ -11,7 +11,7 @@ import vectors
 from reference import LONGEST, Ammonia, Card, Dam, Factors, Pressure, Refused, River, Sludge, Take
 
 CRATE = "file_vectors"
-# The kinds of cases, as in its src/main.rt.
+# The kinds of cases, as in its src/given.rt.
 READ, WRITE, COPY, LONGEST_FILE = (bytes([kind]) for kind in range(4))
 # The widths of the numbers of a reach in a case, as in its src/given.rt; those of records after it, each behind a byte that tells whether it is there.
 REACH_WIDTHS = {"outlet": 1, "temperature": 1, "inflow_oxygen": 2, "k1": 4, "k2": 4, "volume": 4, "inflow": 4, "inflow_bod": 4, "load": 4}

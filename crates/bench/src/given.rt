@@ -3,11 +3,12 @@
 use river::bytes::{behind, byte_at, two_at};
 
 // The kinds of cases: a report, the size of a reach in it, and means.
-pub const REPORT: u8 = 0;
-
-pub const SIZE: u8 = 1;
-
-pub const MEANS: u8 = 2;
+#[derive(Clone, Copy)]
+pub enum Kind {
+    Report,
+    Size,
+    Means,
+}
 
 // Places in a case.
 const KIND: usize = 0;
@@ -24,37 +25,42 @@ const MOST_OFF: usize = 6;
 
 const NAME: usize = 8;
 
-pub fn kind_in(case: &[u8]) -> u8 {
-    byte_at(case, KIND)
+// The kind of a case, if it is one. A `TryFrom` would need an error that nobody reads.
+pub fn kind_in(case: &[u8]) -> Option<Kind> {
+    match byte_at(case, KIND) {
+        0 => Some(Kind::Report),
+        1 => Some(Kind::Size),
+        2 => Some(Kind::Means),
+        _ => None,
+    }
 }
 
-pub fn room_in(case: &[u8]) -> isize {
-    two_at(case, ROOM) as isize
+pub fn room_in(case: &[u8]) -> usize {
+    usize::from(two_at(case, ROOM))
 }
 
-pub fn shown_in(case: &[u8]) -> u8 {
-    byte_at(case, SHOWN)
+pub fn shown_in(case: &[u8]) -> usize {
+    usize::from(byte_at(case, SHOWN))
 }
 
 pub fn has_status(case: &[u8]) -> bool {
     byte_at(case, STATUS) != 0
 }
 
-pub fn most_off_in(case: &[u8]) -> u64 {
-    two_at(case, MOST_OFF) as u64
+pub fn most_off_in(case: &[u8]) -> u32 {
+    u32::from(two_at(case, MOST_OFF))
 }
 
-fn name_length(case: &[u8]) -> u8 {
-    byte_at(case, NAME_LENGTH)
+fn name_length(case: &[u8]) -> usize {
+    usize::from(byte_at(case, NAME_LENGTH))
 }
 
 // The name, or all that is left of a case that ends within it.
 pub fn name_in(case: &[u8]) -> &[u8] {
     let rest = behind(case, NAME);
-    let n = io::count(name_length(case) as isize, rest);
-    &rest[..n]
+    rest.get(..name_length(case)).unwrap_or(rest)
 }
 
 pub fn file_in(case: &[u8]) -> &[u8] {
-    behind(behind(case, NAME), name_length(case) as usize)
+    behind(behind(case, NAME), name_length(case))
 }

@@ -7,47 +7,43 @@
 mod given;
 mod shown;
 
-use cases::{BUNDLE, case_end, case_in};
-use given::{MEANS, REPORT, SIZE, kind_in, room_in};
+use cases::{BUNDLE, cases_in};
+use given::{Kind, kind_in, room_in};
+use printing::Out;
 use report::record::RP_SIZE;
 use river::card::REACHES;
 use shown::{show_means, show_report, show_size};
+use std::fmt;
 
 // The longest buffer of a case: that for the report on as many reaches as there may be.
 const ROOM: usize = REACHES * RP_SIZE;
 
-// Shows a case with this buffer.
-fn show_with(case: &[u8], out: &mut [u8]) {
-    let kind = kind_in(case);
-    if kind == REPORT {
-        show_report(case, out);
-    } else if kind == SIZE {
-        show_size(case);
-    } else if kind == MEANS {
-        show_means(case, out);
+// Shows a case with as long a buffer as it asks for. A case of another kind shows nothing.
+fn show(out: &mut Out, case: &[u8]) -> fmt::Result {
+    let mut buffer = [1u8; ROOM];
+    let room = room_in(case).min(ROOM);
+    let lent = &mut buffer[..room];
+    match kind_in(case) {
+        Some(Kind::Report) => show_report(out, case, lent),
+        Some(Kind::Size) => show_size(out, case),
+        Some(Kind::Means) => show_means(out, case, lent),
+        None => Ok(()),
     }
-}
-
-// Shows a case with as long a buffer as it asks for.
-fn show_case(case: &[u8]) {
-    let mut out = [1u8; ROOM];
-    let room = io::count(room_in(case), &out);
-    show_with(case, &mut out[..room]);
 }
 
 // Shows the cases of a bundle, one after another.
-fn show_all(bundle: &[u8]) {
-    let mut at: usize = 0;
-    let mut end = case_end(bundle, at);
-    while at < end {
-        show_case(case_in(bundle, at, end));
-        at = end;
-        end = case_end(bundle, at);
+fn show_all(out: &mut Out, bundle: &[u8]) -> fmt::Result {
+    for case in cases_in(bundle) {
+        show(out, case)?;
     }
+    Ok(())
 }
 
+// What cannot be written ends the printing, with status 0. Each program reads its bundle for itself: in `cases` the buffer would be lent to a closure for
+// these lines.
 fn main() {
     let mut bundle = [0u8; BUNDLE];
+    // The reader of the runtime would rest on more of the C library than its read.
     let n = io::read_full(0, &mut bundle);
-    show_all(&bundle[..n]);
+    let _ = show_all(&mut Out, &bundle[..n]);
 }

@@ -2,9 +2,11 @@
 // to the end. Bytes at the end that are no whole case are passed over.
 #![tactic(auto)]
 
-ghost use Rattle.std.specs.Prelude.{◌+◌, ◌-◌, ◌≤◌, length};
+ghost use Rattle.std.specs.Prelude.{◌≡◌, length, MatchOption};
+ghost use Rattle.std.specs.Iterator.{at_most};
+ghost use Rattle.cases.specs.Cases.{BeginsWith, NoWholeCase};
 
-use river::bytes::{behind, four_at};
+use river::bytes::four_at;
 
 // Room for a bundle.
 pub const BUNDLE: usize = 65_536;
@@ -12,31 +14,31 @@ pub const BUNDLE: usize = 65_536;
 // The bytes of a case's length.
 const LENGTH_BYTES: usize = 4;
 
-// Where the case at a place of a bundle ends, or the place itself where no whole case stands there: within the bundle, if the place is.
-pub fn case_end(bundle: &[u8], at: usize) -> usize
-    ensures { (at ≤ result) × (result ≤ at + (length bundle.now - at)) }
-{
-    if bundle.len() < at {
-        return at;
-    }
-    let remaining = bundle.len() - at;
-    if remaining < LENGTH_BYTES {
-        return at;
-    }
-    let size = four_at(behind(bundle, at), 0) as usize;
-    if remaining - LENGTH_BYTES < size {
-        return at;
-    }
-    at + LENGTH_BYTES + size
+// The cases in the rest of a bundle, one after another.
+#[derive(Drop)]
+pub struct Cases<'a> {
+    pub rest: &'a [u8],
 }
 
-// The case at a place of a bundle, which ends at another; no byte where it does not end so.
-pub fn case_in(bundle: &[u8], at: usize, end: usize) -> &[u8] {
-    if bundle.len() < end {
-        return &bundle[..0];
+// The cases of a bundle.
+pub fn cases_in(bundle: &[u8]) -> Cases<'_>
+    ensures { result.rest.now ≡ bundle.now }
+{
+    Cases { rest: bundle }
+}
+
+impl<'a> Iterator for Cases<'a> {
+    type Item = &'a [u8];
+
+    ghost next_gives = { λ s r t. MatchOption r (NoWholeCase s.rest.now t.rest.now) (λ c. BeginsWith s.rest.now c.now t.rest.now) };
+
+    ghost remaining = { λ s. at_most (length s.rest.now) };
+
+    fn next(&mut self) -> Option<&'a [u8]> {
+        let size = four_at(self.rest, 0) as usize;
+        let (_, behind) = self.rest.split_at_checked(LENGTH_BYTES)?;
+        let (first, others) = behind.split_at_checked(size)?;
+        self.rest = others;
+        Some(first)
     }
-    if end < at {
-        return &bundle[..0];
-    }
-    behind(&bundle[at..end], LENGTH_BYTES)
 }

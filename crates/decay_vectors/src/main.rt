@@ -4,109 +4,117 @@
 #![tactic(auto)]
 
 ghost use Rattle.decay.specs.held.Step.{RatesPass};
-ghost use Rattle.decay.specs.held.Factors.{SoundStep, AreShares};
+ghost use Rattle.decay.specs.held.Factors.{AreShares};
 
 use decay::factors::Factors;
-use decay::step::Step;
+use decay::pace::Pace;
+use decay::rates::Rates;
+use decay::{factors, step};
+use printing::Out;
+use std::fmt;
+use std::fmt::Write;
 
-// A label and three numbers on a line.
-fn line(label: &[u8], a: u64, b: u64, c: u64) {
-    io::write_all(1, label);
-    io::write_all(1, b" ");
-    io::print_decimal(1, a);
-    io::write_all(1, b" ");
-    io::print_decimal(1, b);
-    io::write_all(1, b" ");
-    io::print_decimal(1, c);
-    io::write_all(1, b"\n");
-}
+// The instants that are printed, each with how many steps it lies below the one before, which the proof of the loop need not subtract.
+const INSTANTS: [(u32, u32); 4] = [(0, 0), (1, 1), (512, 511), (1_024, 512)];
 
 // The factors so many steps further down.
-fn after(s: Step, from: Factors, foot: u32) -> Factors
-    requires { SoundStep s × AreShares from }
+fn after(pace: Pace, from: Factors, steps: u32) -> Factors
+    requires { AreShares from }
     ensures { AreShares result }
 {
     let mut f = from;
-    let mut i: u32 = 0;
-    while i < foot {
-        f = decay::factors::next(s, f);
-        i = i + 1;
+    for _ in 0..steps {
+        f = factors::next(pace, f);
     }
     f
 }
 
-// One line for an instant.
-fn instant(label: &[u8], f: Factors) {
-    line(label, f.left, f.turned, f.kept);
-}
-
-// Four instants of a reach.
-fn instants(s: Step)
-    requires { SoundStep s }
-{
-    let head = decay::factors::start();
-    instant(b"0", head);
-    let first = after(s, head, 1);
-    instant(b"1", first);
-    let middle = after(s, first, 511);
-    instant(b"512", middle);
-    instant(b"1024", after(s, middle, 512));
+// A line for each instant.
+fn instants(out: &mut Out, pace: Pace) -> fmt::Result {
+    let mut f = factors::start();
+    for (instant, steps) in INSTANTS {
+        f = after(pace, f, steps);
+        let Factors { left, turned, kept } = f;
+        writeln!(out, "{instant} {left} {turned} {kept}")?;
+    }
+    Ok(())
 }
 
 // How many terms the series of each share of a step has.
-fn terms(k1: u32, k2: u32, volume: u32, flow: u32)
-    requires { RatesPass k1 k2 volume flow }
-{
-    let y = decay::step::exponent(k1, volume, flow);
-    let z = decay::step::exponent(k2, volume, flow);
-    let lost = decay::step::series(y, 0);
-    let spent = decay::step::series(y, z);
-    let filled = decay::step::series(z, 0);
-    line(b"terms", lost.count, spent.count, filled.count);
+fn terms(out: &mut Out, rates: Rates) -> fmt::Result {
+    let e = step::exponents(rates);
+    let lost = step::series(e.bod()).count;
+    let spent = step::series(e).count;
+    let filled = step::series(e.deficit()).count;
+    writeln!(out, "terms {lost} {spent} {filled}")
 }
 
 // A reach: its card's numbers, the shares of its step with their terms, and four instants.
-fn reach(k1: u32, k2: u32, volume: u32, flow: u32)
+fn reach(out: &mut Out, rates: Rates) -> fmt::Result {
+    let Rates {
+        k1,
+        k2,
+        volume,
+        flow,
+    } = rates;
+    writeln!(out, "flow {flow}")?;
+    writeln!(out, "card {k1} {k2} {volume}")?;
+    let pace = step::step_of(rates);
+    let s = pace.step;
+    writeln!(out, "step {} {} {}", s.lost, s.spent, s.filled)?;
+    terms(out, rates)?;
+    instants(out, pace)
+}
+
+// A row of the table below, which is proved to pass where it stands.
+fn rates_of(k1: u32, k2: u32, volume: u32, flow: u32) -> Rates
     requires { RatesPass k1 k2 volume flow }
 {
-    io::write_all(1, b"flow ");
-    io::print_decimal(1, flow as u64);
-    io::write_all(1, b"\n");
-    line(b"card", k1 as u64, k2 as u64, volume as u64);
-    let s = decay::step::step_of(k1, k2, volume, flow);
-    line(b"step", s.lost, s.spent, s.filled);
-    terms(k1, k2, volume, flow);
-    instants(s);
+    Rates {
+        k1,
+        k2,
+        volume,
+        flow,
+    }
 }
 
-// Reaches of equal rates in pairs, the exponents of a step one part of 2^-44 apart. From the first of a pair to the second comes a second term
-// of all three series, a third of BOD spent, a third of BOD lost and deficit filled, a fourth of BOD spent, a fourth of BOD lost and deficit filled.
-fn counts_change() {
-    reach(100, 100, 724, 2427);
-    reach(700, 700, 333, 7814);
-    reach(3000, 3000, 27938, 17083);
-    reach(1500, 1500, 32859, 10046);
-    reach(700, 700, 108962, 12339);
-    reach(100, 100, 56437, 913);
-    reach(1500, 1500, 119063, 2458);
-    reach(2000, 2000, 1059760, 29171);
-    reach(1200, 1200, 294912, 3701);
-    reach(2000, 2000, 829945, 17359);
+// All reaches.
+fn reaches(out: &mut Out) -> fmt::Result {
+    let all = [
+        rates_of(1000, 1000, 864000, 10000),
+        rates_of(1000, 1001, 864000, 10000),
+        rates_of(1001, 1000, 864000, 10000),
+        rates_of(0, 1000, 864000, 10000),
+        rates_of(1000, 0, 864000, 10000),
+        rates_of(0, 0, 864000, 10000),
+        rates_of(300, 700, 0, 10000),
+        rates_of(20000, 20000, 1728000, 100000),
+        rates_of(20000, 19999, 1728000, 100000),
+        rates_of(1, 20000, 17, 1),
+        rates_of(345, 1000, 345, 1),
+        rates_of(20000, 3, 1000000000, 100000000),
+        rates_of(3, 20000, 1000000000, 100000000),
+        // Reaches of equal rates in pairs, the exponents of a step one part of 2^-44 apart. From the first of a pair to the second comes a
+        // second term of all three series, a third of BOD spent, a third of BOD lost and deficit filled, a fourth of BOD spent, a fourth of
+        // BOD lost and deficit filled.
+        rates_of(100, 100, 724, 2427),
+        rates_of(700, 700, 333, 7814),
+        rates_of(3000, 3000, 27938, 17083),
+        rates_of(1500, 1500, 32859, 10046),
+        rates_of(700, 700, 108962, 12339),
+        rates_of(100, 100, 56437, 913),
+        rates_of(1500, 1500, 119063, 2458),
+        rates_of(2000, 2000, 1059760, 29171),
+        rates_of(1200, 1200, 294912, 3701),
+        rates_of(2000, 2000, 829945, 17359),
+    ];
+    for rates in all {
+        reach(out, rates)?;
+    }
+    Ok(())
 }
 
+// What cannot be written ends the printing, with status 0.
 fn main() {
-    reach(1000, 1000, 864000, 10000);
-    reach(1000, 1001, 864000, 10000);
-    reach(1001, 1000, 864000, 10000);
-    reach(0, 1000, 864000, 10000);
-    reach(1000, 0, 864000, 10000);
-    reach(0, 0, 864000, 10000);
-    reach(300, 700, 0, 10000);
-    reach(20000, 20000, 1728000, 100000);
-    reach(20000, 19999, 1728000, 100000);
-    reach(1, 20000, 17, 1);
-    reach(345, 1000, 345, 1);
-    reach(20000, 3, 1000000000, 100000000);
-    reach(3, 20000, 1000000000, 100000000);
-    counts_change();
+    let _ = reaches(&mut Out);
 }

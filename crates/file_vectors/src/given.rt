@@ -1,23 +1,30 @@
-// What stands in a case of a river behind its kind: whether it has rate factors, the two of them, how many reaches it has, the room for its file,
+// What stands behind the kind in a case to write or to copy: whether it has rate factors, the two of them, how many reaches it has, the room for its file,
 // and then two cards, of which a river of one reach has the first, or a file. The numbers of these cards have as many bytes as in memory, so that
-// a card may be one that no file holds.
-ghost use Rattle.std.specs.Prelude.{◌<◌};
-
+// a card may be one that no file holds. A case to read has its file behind the kind.
 use river::bytes::{behind, byte_at, four_at, two_at};
-use river::card::{Amount, Card, Cards, Dam, Nitrification, Optionals, REACHES, RateFactors};
+use river::card::{Card, Cards, Dam, Nitrification, Optionals, REACHES, RateFactors};
+
+// The kinds of cases: a file to read, a river to write, a file whose cards are written, and the length of the longest file.
+#[derive(Clone, Copy)]
+pub enum Kind {
+    Read,
+    Write,
+    Copy,
+    Longest,
+}
 
 // Places in a case.
-const HAS_FACTORS: usize = 1;
+const KIND: usize = 0;
 
-const DECAY: usize = 2;
+const READ: usize = 1;
 
-const AERATION: usize = 4;
+const FACTORS: usize = 1;
 
-pub const COUNT: usize = 6;
+const COUNT: usize = 6;
 
-pub const ROOM: usize = 7;
+const ROOM: usize = 7;
 
-pub const FIRST: usize = 9;
+const FIRST: usize = 9;
 
 const SECOND: usize = 72;
 
@@ -32,46 +39,71 @@ const SLUDGE: usize = 45;
 
 const NITRIFICATION: usize = 50;
 
-// The rate factors of a case.
-pub fn factors_in(case: &[u8]) -> RateFactors {
-    if byte_at(case, HAS_FACTORS) == 0 {
-        return RateFactors::Absent;
-    }
-    RateFactors::PerDegree {
-        decay: two_at(case, DECAY),
-        aeration: two_at(case, AERATION),
+// The kind of a case, if it is one. A `TryFrom` would need an error that nobody reads.
+pub fn kind_in(case: &[u8]) -> Option<Kind> {
+    match byte_at(case, KIND) {
+        0 => Some(Kind::Read),
+        1 => Some(Kind::Write),
+        2 => Some(Kind::Copy),
+        3 => Some(Kind::Longest),
+        _ => None,
     }
 }
 
-fn dam_in(card: &[u8]) -> Dam {
-    if byte_at(card, DAM) == 0 {
-        return Dam::Absent;
-    }
-    Dam::Aerating {
-        share: two_at(card, DAM + 1),
-        generating: four_at(card, DAM + 3),
-    }
+// The file of a case that is read.
+pub fn read_in(case: &[u8]) -> &[u8] {
+    behind(case, READ)
+}
+
+// The file of a case whose cards are written.
+pub fn copied_in(case: &[u8]) -> &[u8] {
+    behind(case, FIRST)
+}
+
+pub fn count_in(case: &[u8]) -> u8 {
+    byte_at(case, COUNT)
+}
+
+pub fn room_in(case: &[u8]) -> usize {
+    usize::from(two_at(case, ROOM))
+}
+
+// What stands behind the byte at a place that tells whether it is there.
+fn record_in(s: &[u8], at: usize) -> Option<&[u8]> {
+    let (given, record) = behind(s, at).split_first()?;
+    if *given == 0 { None } else { Some(record) }
+}
+
+// The rate factors of a case.
+pub fn factors_in(case: &[u8]) -> Option<RateFactors> {
+    let record = record_in(case, FACTORS)?;
+    Some(RateFactors {
+        decay: two_at(record, 0),
+        aeration: two_at(record, 2),
+    })
+}
+
+// The dam of a card. A record has fields of its own, which a function for all would be handed as a closure.
+fn dam_in(card: &[u8]) -> Option<Dam> {
+    let record = record_in(card, DAM)?;
+    Some(Dam {
+        share: two_at(record, 0),
+        generating: four_at(record, 2),
+    })
 }
 
 // The number of a record that has one.
-fn amount_in(card: &[u8], at: usize) -> Amount
-    requires { at < 61 }
-{
-    if byte_at(card, at) == 0 {
-        return Amount::Absent;
-    }
-    Amount::Given(four_at(card, at + 1))
+fn amount_in(card: &[u8], at: usize) -> Option<u32> {
+    Some(four_at(record_in(card, at)?, 0))
 }
 
-fn nitrification_in(card: &[u8]) -> Nitrification {
-    if byte_at(card, NITRIFICATION) == 0 {
-        return Nitrification::Absent;
-    }
-    Nitrification::Nitrifying {
-        rate: four_at(card, NITRIFICATION + 1),
-        concentration: four_at(card, NITRIFICATION + 5),
-        load: four_at(card, NITRIFICATION + 9),
-    }
+fn nitrification_in(card: &[u8]) -> Option<Nitrification> {
+    let record = record_in(card, NITRIFICATION)?;
+    Some(Nitrification {
+        rate: four_at(record, 0),
+        concentration: four_at(record, 4),
+        load: four_at(record, 8),
+    })
 }
 
 fn optionals_in(card: &[u8]) -> Optionals {
@@ -106,6 +138,6 @@ pub fn river_in(case: &[u8]) -> Cards {
     at[0] = card_in(behind(case, FIRST));
     Cards {
         at,
-        count: byte_at(case, COUNT),
+        count: count_in(case),
     }
 }

@@ -4,51 +4,38 @@
 mod given;
 mod shown;
 
-use cases::{BUNDLE, case_end, case_in};
-use given::{COUNT, FIRST, ROOM, factors_in, river_in};
-use river::bytes::{behind, byte_at, two_at};
+use cases::{BUNDLE, cases_in};
+use given::{Kind, copied_in, count_in, factors_in, kind_in, read_in, river_in, room_in};
+use printing::Out;
 use river::card::longest_file;
-use shown::{copied, count, show, wrote};
+use shown::{copied, show, wrote};
+use std::fmt;
+use std::fmt::Write;
 
-// The kinds of cases, by their first byte: a file to read, a river to write, a file whose cards are written, and the length of the longest file.
-const READ: u8 = 0;
-
-const WRITE: u8 = 1;
-
-const COPY: u8 = 2;
-
-const LONGEST: u8 = 3;
-
-fn show_case(case: &[u8]) {
-    let kind = byte_at(case, 0);
-    if kind == READ {
-        show(behind(case, 1));
-    } else if kind == WRITE {
-        wrote(
-            factors_in(case),
-            river_in(case),
-            two_at(case, ROOM) as isize,
-        );
-    } else if kind == COPY {
-        copied(factors_in(case), byte_at(case, COUNT), behind(case, FIRST));
-    } else if kind == LONGEST {
-        count(b"longest ", longest_file());
+// Shows a case. A case of another kind shows nothing.
+fn show_case(out: &mut Out, case: &[u8]) -> fmt::Result {
+    match kind_in(case) {
+        Some(Kind::Read) => show(out, read_in(case)),
+        Some(Kind::Write) => wrote(out, factors_in(case), river_in(case), room_in(case)),
+        Some(Kind::Copy) => copied(out, factors_in(case), count_in(case), copied_in(case)),
+        Some(Kind::Longest) => writeln!(out, "longest {}", longest_file()),
+        None => Ok(()),
     }
 }
 
 // Shows the cases of a bundle, one after another.
-fn show_all(bundle: &[u8]) {
-    let mut at: usize = 0;
-    let mut end = case_end(bundle, at);
-    while at < end {
-        show_case(case_in(bundle, at, end));
-        at = end;
-        end = case_end(bundle, at);
+fn show_all(out: &mut Out, bundle: &[u8]) -> fmt::Result {
+    for case in cases_in(bundle) {
+        show_case(out, case)?;
     }
+    Ok(())
 }
 
+// What cannot be written ends the printing, with status 0. Each program reads its bundle for itself: in `cases` the buffer would be lent to a closure for
+// these lines.
 fn main() {
     let mut bundle = [0u8; BUNDLE];
+    // The reader of the runtime would rest on more of the C library than its read.
     let n = io::read_full(0, &mut bundle);
-    show_all(&bundle[..n]);
+    let _ = show_all(&mut Out, &bundle[..n]);
 }

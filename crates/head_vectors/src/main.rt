@@ -4,9 +4,11 @@
 
 mod shown;
 
-use cases::{BUNDLE, case_end, case_in};
+use cases::{BUNDLE, cases_in};
+use printing::Out;
 use river::bytes::{behind, four_at};
 use shown::show;
+use std::fmt;
 
 // Places in a case.
 const FIRST: usize = 0;
@@ -15,27 +17,24 @@ const STEP: usize = 4;
 
 const FILE: usize = 8;
 
-fn show_case(case: &[u8]) {
-    show(
-        behind(case, FILE),
-        four_at(case, FIRST),
-        four_at(case, STEP),
-    );
-}
-
 // Shows the cases of a bundle, one after another.
-fn show_all(bundle: &[u8]) {
-    let mut at: usize = 0;
-    let mut end = case_end(bundle, at);
-    while at < end {
-        show_case(case_in(bundle, at, end));
-        at = end;
-        end = case_end(bundle, at);
+fn show_all(out: &mut Out, bundle: &[u8]) -> fmt::Result {
+    for case in cases_in(bundle) {
+        show(
+            out,
+            behind(case, FILE),
+            four_at(case, FIRST),
+            four_at(case, STEP),
+        )?;
     }
+    Ok(())
 }
 
+// What cannot be written ends the printing, with status 0. Each program reads its bundle for itself: in `cases` the buffer would be lent to a closure for
+// these lines.
 fn main() {
     let mut bundle = [0u8; BUNDLE];
+    // The reader of the runtime would rest on more of the C library than its read.
     let n = io::read_full(0, &mut bundle);
-    show_all(&bundle[..n]);
+    let _ = show_all(&mut Out, &bundle[..n]);
 }

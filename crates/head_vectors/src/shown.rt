@@ -1,52 +1,32 @@
 // Flows and heads of an accepted river, printed. A foot has seven eighths of each demand at the head, and an oxygen that the test gives.
-ghost use Rattle.std.specs.Prelude.{◌<◌, ◌≤◌, length};
-ghost use Rattle.river.specs.Card.{Lawful, card_list};
-ghost use Rattle.flows.specs.Flow.{Flows};
-ghost use Rattle.flows.specs.held.FlowTable.{Tabled};
-ghost use Rattle.flows.specs.held.HeadTable.{BroughtWithin, HeadTabled};
+ghost use Rattle.std.specs.Prelude.{◌<◌, ◌≤◌};
+ghost use Rattle.flows.specs.held.Accepts.{IsAccepted};
 
-use flows::accept::accept;
-use flows::flow::{FlowTable, reach_count};
-use flows::head::{
-    Brought, BroughtTable, Head, STORED_ZERO, brought_by, brought_to, head_of, nothing_brought,
-};
-use river::card::Cards;
-use river::refusal::{Outcome, Refusal};
-
-// A number and a space.
-fn number(n: u64) {
-    io::print_decimal(1, n);
-    io::write_all(1, b" ");
-}
-
-// Stored oxygen as a signed number, and the end of the line.
-fn oxygen(stored: u32) {
-    if stored < STORED_ZERO {
-        io::write_all(1, b"-");
-        io::print_decimal(1, (STORED_ZERO - stored) as u64);
-    } else {
-        io::print_decimal(1, (stored - STORED_ZERO) as u64);
-    }
-    io::write_all(1, b"\n");
-}
-
-fn refusal(r: Refusal) {
-    io::write_all(1, b"refused ");
-    number(r.number as u64);
-    io::write_all(1, b"reach ");
-    io::print_decimal(1, r.reach as u64);
-    io::write_all(1, b"\n");
-}
+use flows::accept::{Acceptance, accept};
+use flows::flow::{ReachFlows, reach_count};
+use flows::head::{Head, brought_by, brought_to, head_of, nothing_brought, signed};
+use printing::Out;
+use std::fmt;
+use std::fmt::Write;
 
 // A reach: its number, depth, flow, undecayed BOD, head BOD, head nitrogenous BOD and head oxygen.
-fn line(reach: usize, depth: u8, flow: u64, mass: u64, head: Head) {
-    number(reach as u64);
-    number(depth as u64);
-    number(flow);
-    number(mass);
-    number(head.bod as u64);
-    number(head.nitrogenous as u64);
-    oxygen(head.oxygen);
+fn line(out: &mut Out, number: usize, reach: ReachFlows, head: Head) -> fmt::Result {
+    let ReachFlows {
+        depth,
+        flow,
+        mass,
+        ..
+    } = reach;
+    let Head {
+        bod,
+        nitrogenous,
+        oxygen,
+    } = head;
+    let oxygen = signed(oxygen);
+    writeln!(
+        out,
+        "{number} {depth} {flow} {mass} {bod} {nitrogenous} {oxygen}"
+    )
 }
 
 // Seven eighths.
@@ -56,61 +36,45 @@ fn less(demand: u32) -> u32
     demand - demand / 8
 }
 
-// Prints reach i + 1, and tells what its foot brings, which has this stored oxygen.
-fn reach(cards: Cards, flows: FlowTable, by_reach: BroughtTable, i: usize, oxygen: u32) -> Brought
-    requires { HeadTabled (card_list cards) flows by_reach i }
-    ensures { BroughtWithin (card_list cards) i result }
-{
-    let card = cards.at[i];
-    let flow = flows.flow[i];
-    let depth = flows.depth[i];
-    let sums = brought_to(
-        &flows.outlet,
-        &by_reach.bod,
-        &by_reach.nitrogenous,
-        &by_reach.oxygen,
-        &by_reach.used,
-        i,
-    );
-    let head = head_of(card, 1 < depth, flows.upstream[i] as u64, sums);
-    line(i + 1, depth, flow as u64, flows.mass[i], head);
-    brought_by(flow, less(head.bod), less(head.nitrogenous), oxygen, false)
-}
-
-// Stored foot oxygen of reach i + 1.
+// Stored foot oxygen of reach i + 1. The first and the step come side by side, as a case has them: a struct of the two would be made in `main` and taken
+// apart here.
 fn foot_oxygen(first: u32, step: u32, i: usize) -> u32
     requires { i < 128 }
 {
-    ((first as u64 + (step as u64) * (i as u64)) % 4_294_967_296) as u32
+    first.wrapping_add(step.wrapping_mul(i as u32))
 }
 
 // Prints every reach of an accepted river.
-fn reaches(cards: Cards, flows: FlowTable, first: u32, step: u32)
-    requires { Lawful (card_list cards) × Flows (card_list cards) × Tabled (card_list cards) (length (card_list cards)) flows }
+fn reaches(out: &mut Out, accepted: Acceptance, first: u32, step: u32) -> fmt::Result
+    requires { IsAccepted accepted }
 {
-    let count = reach_count(cards.count);
+    let Acceptance { effective, flows } = accepted;
     let mut by_reach = nothing_brought();
-    let mut i: usize = 0;
-    while i < count {
-        let brings = reach(cards, flows, by_reach, i, foot_oxygen(first, step, i));
-        by_reach.bod[i] = brings.bod;
-        by_reach.nitrogenous[i] = brings.nitrogenous;
-        by_reach.oxygen[i] = brings.oxygen;
-        by_reach.used[i] = brings.used;
-        i = i + 1;
+    for i in 0..reach_count(effective.count) {
+        let reach = flows[i];
+        let brought = brought_to(&flows[..i], &by_reach[..i], (i + 1) as u8);
+        let head = head_of(
+            effective.at[i],
+            0 < reach.upstream,
+            u64::from(reach.upstream),
+            brought,
+        );
+        line(out, i + 1, reach, head)?;
+        by_reach[i] = brought_by(
+            reach.flow,
+            less(head.bod),
+            less(head.nitrogenous),
+            foot_oxygen(first, step, i),
+            false,
+        );
     }
+    Ok(())
 }
 
 // Prints what a river file yields. Feet have stored oxygen from the first, and a step more for each reach.
-pub fn show(file: &[u8], first: u32, step: u32) {
-    let accepted = accept(file);
-    let outcome = accepted.outcome;
-    match outcome {
-        Outcome::Refused(r) => refusal(r),
-        Outcome::Accepted => {
-            let cards = accepted.effective;
-            let flows = accepted.flows;
-            reaches(cards, flows, first, step);
-        }
+pub fn show(out: &mut Out, file: &[u8], first: u32, step: u32) -> fmt::Result {
+    match accept(file) {
+        Err(refusal) => writeln!(out, "{refusal}"),
+        Ok(accepted) => reaches(out, accepted, first, step),
     }
 }

@@ -1,8 +1,10 @@
 // Prints the report and the means for each river file of a bundle on standard input: the example rivers.
 #![tactic(auto)]
 
-use cases::{BUNDLE, case_end, case_in};
+use cases::{BUNDLE, cases_in};
 
+// This and `print_means` differ in a call and in the size of its buffer; one function for both would take these two and what the call promises,
+// and be longer than they are.
 fn print_report(file: &[u8]) {
     let mut out = [0u8; text::TEXT];
     let length = text::render(file, &mut out);
@@ -20,19 +22,11 @@ fn show(file: &[u8]) {
     print_means(file);
 }
 
-// Shows the cases of a bundle, one after another.
-fn show_all(bundle: &[u8]) {
-    let mut at: usize = 0;
-    let mut end = case_end(bundle, at);
-    while at < end {
-        show(case_in(bundle, at, end));
-        at = end;
-        end = case_end(bundle, at);
-    }
-}
-
 fn main() {
     let mut bundle = [0u8; BUNDLE];
+    // The reader of the runtime would rest on more of the C library than its read.
     let n = io::read_full(0, &mut bundle);
-    show_all(&bundle[..n]);
+    for case in cases_in(&bundle[..n]) {
+        show(case);
+    }
 }

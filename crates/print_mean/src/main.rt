@@ -1,8 +1,10 @@
-// Prints the means for the river file on standard input: one line a reach and one for the river, or the refusal.
+// Prints the means for the river file on standard input: one line a reach and one for the river, or the refusal. It has
+// the shape of `print`, since a program has one `main`.
 #![tactic(auto)]
 
 fn main() {
     let mut file = [0u8; text::FILE];
+    // The reader of the runtime would rest on more of the C library than its read.
     let n = io::read_full(0, &mut file);
     let mut out = [0u8; text::MEANS_TEXT];
     let length = text::render_means(&file[..n], &mut out);

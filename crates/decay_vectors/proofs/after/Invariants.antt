@@ -1,10 +1,6 @@
--- `decay_vectors::after` meets its contract: a step keeps the factors in range. The measure is the steps that are left. Assumes nothing.
-use Prim.Native.Nat.{◌≤◌, ◌-◌}
+-- `decay_vectors::after` meets its contract: a step keeps the factors in range. Assumes nothing.
 use Rattle.decay.specs.held.Factors.{AreShares}
 use Rattle.decay_vectors.proofs.after.Given as goal
 
-abbrev pub invariant-loop-i : goal.invariant-loop-i
-invariant-loop-i l = AreShares l.f × (l.i ≤ l.foot)
-
-abbrev pub decreases-loop-i : goal.decreases-loop-i
-decreases-loop-i l = l.foot - l.i
+abbrev pub invariant-loop : goal.invariant-loop
+invariant-loop l = AreShares l.f

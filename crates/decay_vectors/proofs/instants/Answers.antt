@@ -1,10 +1,6 @@
--- `decay_vectors::instants` meets its contract: the factors of the head are in range. Assumes nothing.
-use borrow.Author.Rules.{rules}
+-- `decay_vectors::instants`: the factors of the head are in range. Assumes nothing.
 use Rattle.decay.proofs.factors.Instants.{start_range}
 use Rattle.decay_vectors.proofs.instants.Goals as goal
 
-pub after-first-requires : goal.after-first-requires
-after-first-requires c = (c.requires, rw c.start-head.ensures start_range)
-
-pub returns : goal.returns
-returns c = search rules
+pub loop-instant-init : goal.loop-instant-init
+loop-instant-init c = rw c.start-f.ensures start_range
