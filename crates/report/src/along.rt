@@ -40,7 +40,7 @@ pub struct ReachAlong {
 }
 
 // A demand along a reach, at its pace, that starts with so many parts. At the rate 0 all of it stays.
-fn demand_along(rates: Rates, pace: Pace, start: u64) -> DemandAlong
+pub fn demand_along(rates: Rates, pace: Pace, start: u64) -> DemandAlong
     requires { (pace.step ≡ step_of rates.k1 rates.k2 rates.volume rates.flow) × (start ≤ one) }
     ensures { result ≡ demands_along rates.k1 rates.k2 rates.volume rates.flow start }
 {
@@ -96,8 +96,8 @@ pub fn along_of(reach: Reach) -> ReachAlong
     along_with(course, mean_pace, demand)
 }
 
-// Whether oxygen is surely nowhere below zero along a reach: head oxygen and saturation are each at least what its demands lose on the way and what its
-// bed takes, together.
+// Whether oxygen is surely nowhere below zero along a reach, for whatever flow, which is why card and head come apart from their `Reach`: head
+// oxygen and saturation are each at least what its demands lose on the way and what its bed takes, together.
 pub fn never_below_zero(card: Card, head: Head, p: ReachAlong) -> bool
     requires { AlongHead card head p }
     ensures { TellsNeverBelow card head p result }

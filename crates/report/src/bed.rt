@@ -17,8 +17,8 @@ const DAY_UNITS: u64 = 625;
 
 const DAY_SECONDS: u64 = 54;
 
-// The loss of oxygen to a bed, in units: that to which it comes in the end if there is aeration, and if there is none that at the foot, which
-// it reaches in equal steps.
+// The loss of oxygen to a bed, in units, by two numbers and no enum, since `loss_with` of the definitions adds both: that to which it comes in the
+// end if there is aeration, and if there is none that at the foot, which it reaches in equal steps.
 #[derive(Clone, Copy)]
 pub struct Bed {
     pub eventual: u64,

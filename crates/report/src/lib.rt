@@ -24,7 +24,7 @@ use river::file::read_file;
 use river::refusal::Refusal;
 use river::rewrite;
 
-// The number of the refusal in a result.
+// The number of the refusal in a result, which C has too.
 pub fn refusal_number(res: u32) -> u32
     ensures { result ≡ res % 256 }
 {

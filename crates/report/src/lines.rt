@@ -83,7 +83,7 @@ pub fn course_of(reach: Reach) -> Course
     }
 }
 
-// The figures of a reach.
+// The figures of a reach. By `Profiled` each fits the bytes that it has in a record, so that `as` loses nothing here and in `along`.
 pub fn line_of(reach: Reach) -> Line
     ensures { figures_in result ≡ figures_of_reach reach }
 {
@@ -138,6 +138,7 @@ pub fn line_at(site: Site) -> Line
 }
 
 // Puts the record of a reach at a place, by whether its river has nitrification, and tells what its foot brings, with oxygen as it is.
+// Buffer and place come side by side, since `PlacedAt`, which this public clause asks for, speaks of the place by the number of the reach.
 pub fn report_reach(site: Site, nitrified: bool, report: &mut [u8], at: usize) -> Brought
     requires { PlacedAt site nitrified at (length report.old) }
     ensures { ReportedBy site nitrified at report.old report.new result }

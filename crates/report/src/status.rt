@@ -38,7 +38,8 @@ pub fn status_of(used: bool, critical: u32) -> Status
     }
 }
 
-// Whether oxygen is used up at a reach whose status has this number, or above it.
+// Whether oxygen is used up at a reach whose status has this number, or above it. It takes any number, since `read_record` promises the byte of any
+// buffer.
 #[tactic(auto, unfolding(crate::specs::Status::is_used))]
 pub fn is_used(status: u8) -> bool
     ensures { result ≡ is_used status }

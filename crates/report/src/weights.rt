@@ -2,7 +2,8 @@
 ghost use Rattle.std.specs.Prelude.{◌≡◌, ◌+◌, ◌*◌, ◌/◌, ◌%◌, ◌<◌, ◌≤◌, ◌^◌};
 ghost use Rattle.flows.specs.held.Stored.{stored_limit};
 
-// A long division goes on by 16 bits.
+// A long division goes on by 16 bits, as that at a dam does. The two stay apart: this one has a sum of 128 bits before it and a remainder behind it, that
+// one a product, and what they share is three operations.
 const CHUNK: u64 = 65_536;
 
 const WIDE_CHUNK: u128 = 65_536;
@@ -12,8 +13,6 @@ const WIDE_CHUNK: u128 = 65_536;
 pub struct Weights {
     pub sum: u128,
     pub volume: u64,
-    pub ghost fits: { sum ≤ stored_limit * volume },
-    pub ghost few: { volume < 2 ^ 37 },
 }
 
 impl Weights {
@@ -27,7 +26,8 @@ impl Weights {
 
     // The sums with the stored mean of one more reach.
     pub fn weigh(self, volume: u32, mean: u32) -> Self
-        requires { self.volume + volume < 2 ^ 37 }
+        requires sum_room { self.sum < 2 ^ 127 }
+        requires volume_room { self.volume + volume < 2 ^ 64 }
         ensures sum { result.sum ≡ self.sum + volume * mean }
         ensures volume { result.volume ≡ self.volume + volume }
     {
@@ -40,7 +40,9 @@ impl Weights {
     // Their quotient in whole units, stored, and the remainder, by long division in two chunks: a quotient of 128 bits would call `__udivti3` of the C
     // compiler's library, which no proof covers.
     pub fn divide(self) -> (u32, u64)
-        requires { 0 < self.volume }
+        requires some { 0 < self.volume }
+        requires few { self.volume < 2 ^ 37 }
+        requires fits { self.sum ≤ stored_limit * self.volume }
         ensures { result ≡ (self.sum / self.volume, self.sum % self.volume) }
     {
         let volume = self.volume;

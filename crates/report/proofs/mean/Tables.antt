@@ -3,12 +3,12 @@
 use mathlib.Core.Path.{◌≡◌, sym, ap, ap₂, ◌∙◌}
 use mathlib.Core.List.{List}
 use Prim.Native.Nat.{ℕ, suc, ◌+◌, ◌*◌, ◌≤◌, ◌<◌}
-use native.Mathlib.Nat.{suc-mul, mul_comm, mul-add, not-suc-le-zero}
+use native.Mathlib.Nat.{suc-mul, mul_comm, mul-add, mul-le-mul_right, not-suc-le-zero}
 use native.Mathlib.Omega.{arith}
 use lib.IntN.{ℤ, pos, sub_ℕ, ◌+ℤ◌, ◌*ℤ◌}
 use lib.ListN.{replicate, set, length-replicate, length-set}
 use Rattle.river.specs.declared.card.Card.{Card}
-use Rattle.flows.specs.held.Stored.{stored_zero, oxygen_of}
+use Rattle.flows.specs.held.Stored.{stored_zero, stored_limit, oxygen_of}
 use Rattle.flows.proofs.flow.Table.{entered_at}
 use Rattle.flows.proofs.head.Offset.{sub_add, times_sub}
 use Rattle.report.specs.Mean.{mean_at, counted_volume_at, weighted_sum, volume_sum}
@@ -18,11 +18,11 @@ use Rattle.report.specs.declared.weights.Weights.{Weights}
 -- the sums of no reach, and with one more
 pub weighs_none : (cards : List Card) {w : Weights} → w.sum ≡ 0 → w.volume ≡ 0 → Weighs cards 0 w
 unfolding volume_sum weighted_sum
-weighs_none cards sum volume = record { sum = ap (λ (n : ℕ). sub_ℕ n 0) sum; volume = volume; few = omega (arith, volume) }
+weighs_none cards sum volume = record { sum = ap (λ (n : ℕ). sub_ℕ n 0) sum; fits = omega (arith, sum); volume = volume; few = omega (arith, volume) }
 
-pub weighs_next : {cards : List Card} {n : ℕ} {w next : Weights} (mean : ℕ) → Weighs cards n w → counted_volume_at cards (suc n) ≤ volume_limit → oxygen_of mean ≡ mean_at cards (suc n) → next.sum ≡ w.sum + counted_volume_at cards (suc n) * mean → next.volume ≡ w.volume + counted_volume_at cards (suc n) → Weighs cards (suc n) next
+pub weighs_next : {cards : List Card} {n : ℕ} {w next : Weights} (mean : ℕ) → Weighs cards n w → counted_volume_at cards (suc n) ≤ volume_limit → mean ≤ stored_limit → oxygen_of mean ≡ mean_at cards (suc n) → next.sum ≡ w.sum + counted_volume_at cards (suc n) * mean → next.volume ≡ w.volume + counted_volume_at cards (suc n) → Weighs cards (suc n) next
 unfolding volume_sum weighted_sum oxygen_of
-weighs_next {cards} {n} {w} mean h few is sum volume =
+weighs_next {cards} {n} {w} mean h few held is sum volume =
     let v = counted_volume_at cards (suc n) in
     let above = volume_sum (λ i. counted_volume_at cards (suc i)) n in
     record {
@@ -30,6 +30,7 @@ weighs_next {cards} {n} {w} mean h few is sum volume =
           ap₂ sub_ℕ sum (mul-add stored_zero above v)
           ∙ sym (sub_add w.sum (stored_zero * above) (v * mean) (stored_zero * v))
           ∙ ap₂ ◌+ℤ◌ h.sum (ap (sub_ℕ (v * mean)) (mul_comm stored_zero v) ∙ sym (times_sub v mean stored_zero) ∙ ap (λ (z : ℤ). pos v *ℤ z) is);
+      fits = omega (arith, sum, volume, h.fits, mul-le-mul_right v held);
       volume = volume ∙ ap (λ (m : ℕ). m + v) h.volume;
       few = omega (arith, volume, h.few, few, suc-mul n volume_limit);
     }

@@ -2,7 +2,7 @@
 use Rattle.std.specs.Prelude.{◌≡◌, List, ℕ, suc, ◌*◌, ◌≤◌, ◌<◌, length, get_or}
 use Rattle.river.specs.declared.card.Card.{Card}
 use Rattle.river.specs.Bytes.{four_bytes}
-use Rattle.flows.specs.held.Stored.{oxygen_of, oxygen_sum_of}
+use Rattle.flows.specs.held.Stored.{stored_limit, oxygen_of, oxygen_sum_of}
 use Rattle.report.specs.Record.{complement}
 use Rattle.report.specs.held.Lines.{HandsOn}
 use Rattle.report.specs.held.Reaches.{Here}
@@ -25,9 +25,10 @@ AveragedBy site r = (here : Here site) → ReachAveraged here.cards here.i r
 abbrev pub volume_limit : ℕ
 volume_limit = 1_000_000_000
 
--- the sums of the first n reaches stand for the sum of volume × mean, with the volume that counts
+-- the sums of the first n reaches stand for the sum of volume × mean, with the volume that counts, and a mean of these fits four bytes
 pub record Weighs (cards : List Card) (n : ℕ) (w : Weights) : Type 0 where
   pub sum : oxygen_sum_of (volume_sum (λ i. counted_volume_at cards (suc i)) n) w.sum ≡ weighted_sum (λ i. counted_volume_at cards (suc i)) (λ i. mean_at cards (suc i)) n
+  pub fits : w.sum ≤ stored_limit * w.volume
   pub volume : w.volume ≡ volume_sum (λ i. counted_volume_at cards (suc i)) n
   pub few : w.volume ≤ n * volume_limit
 

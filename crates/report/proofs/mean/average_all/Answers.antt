@@ -2,17 +2,16 @@
 use mathlib.Core.Path.{◌≡◌, ◌∙◌}
 use mathlib.Core.Bool.{Bool, true, false, cond}
 use mathlib.Core.List.{List}
-use Prim.Native.Nat.{ℕ, suc, ◌+◌, ◌*◌, ◌≤◌, ◌<◌, ◌^◌}
-use native.Mathlib.Nat.{le_of_lt, mul-le-mul_right}
+use Prim.Native.Nat.{ℕ, suc, ◌+◌, ◌*◌, ◌≤◌, ◌<◌}
 use native.Mathlib.Numerals.{add-one}
 use native.Mathlib.Omega.{arith}
 use lib.ListN.{length, set}
 use Rattle.river.specs.declared.card.Card.{Card}
-use Rattle.river.specs.Card.{card_list}
 use Rattle.flows.specs.declared.flow.ReachFlows.{ReachFlows}
 use Rattle.flows.specs.declared.head.Brought.{Brought}
 use Rattle.flows.specs.Flow.{card_of, above}
 use Rattle.flows.proofs.flow.Count.{reaches_counted}
+use Rattle.flows.specs.held.Stored.{stored_limit}
 use Rattle.report.specs.Program.{used_above}
 use Rattle.report.specs.Mean.{counted_volume_at}
 use Rattle.report.specs.held.MeanLines.{volume_limit, ReachAveraged}
@@ -48,31 +47,19 @@ module _ {cards : List Card} {flows : List ReachFlows} {by_reach : List Brought}
     volume_is : volume ≡ counted_volume_at cards (suc i)
     volume_is = e ∙ rw (used_handed p.reaches l site of, of.card)
 
-    room_to_weigh : weights.volume + volume < 2 ^ 37
-    room_to_weigh = rw volume_is (omega (arith, volume_few, p.weighed.few, mul-le-mul_right volume_limit (le_of_lt (reach_few (reach_tables p.reaches l)))))
-
     one_more :
         {r : ReachMean} {w : Weights} →
         ReachAveraged cards i r →
+        r.mean ≤ stored_limit →
         w.sum ≡ weights.sum + volume * r.mean →
         w.volume ≡ weights.volume + volume →
         Progress cards flows (set by_reach i r.brings) (set stored i r.mean) w (i + 1)
-    one_more {r} {w} done sum total =
+    one_more {r} {w} done held sum total =
         record {
           reaches = handed_on p.reaches l done.hands_on;
           tabled = rw add-one (means_next r.mean p.tabled (reach_few (reach_tables p.reaches l)) done.mean);
-          weighed = rw add-one (weighs_next r.mean p.weighed volume_few done.mean (rw volume_is at sum) (rw volume_is at total));
+          weighed = rw add-one (weighs_next r.mean p.weighed volume_few held done.mean (rw volume_is at sum) (rw volume_is at total));
         }
-
-pub site_at-site-requires : goal.site_at-site-requires
-site_at-site-requires c =
-    let counted = reaches_counted c.args.cards (omega arith) c.reach_count-i-end.ensures in
-    reach_tables c.loop-i.invariant.reaches (rw counted at c.loop-i-test.true)
-
-pub weigh-weights-requires : goal.weigh-weights-requires
-weigh-weights-requires c =
-    let counted = reaches_counted c.args.cards (omega arith) c.reach_count-i-end.ensures in
-    room_to_weigh c.loop-i.invariant (rw counted at c.loop-i-test.true) c.site_at-site.result c.site_at-site.ensures c.counted-volume.ensures
 
 pub loop-i-preserved : goal.loop-i-preserved
 loop-i-preserved c =
@@ -80,11 +67,4 @@ loop-i-preserved c =
     let counted = reaches_counted c.args.cards (omega arith) c.reach_count-i-end.ensures in
     let l = rw counted at c.loop-i-test.true in
     let site = c.site_at-site in
-    one_more p l site.result site.ensures c.counted-volume.ensures (c.average_reach-averaged.ensures (handed p.reaches l site.result site.ensures)) c.weigh-weights.ensures.sum c.weigh-weights.ensures.volume
-
-pub returns : goal.returns
-returns c =
-    let v = c.loop-i.invariant in
-    let counted = reaches_counted c.args.cards (omega arith) c.reach_count-i-end.ensures in
-    let all : c.loop-i.i ≡ length (card_list c.args.cards) = omega (arith, counted, c.loop-i-test.false, c.loop-i.auto.i-end) in
-    record { tabled = rw all at v.tabled; weighed = rw all at v.weighed }
+    one_more p l site.result site.ensures c.counted-volume.ensures (c.average_reach-averaged.ensures (handed p.reaches l site.result site.ensures)) (omega arith) c.weigh-weights.ensures.sum c.weigh-weights.ensures.volume

@@ -5,6 +5,3 @@ use Rattle.report.proofs.status.reported_mean.Goals as goal
 pub returns-then-used : goal.returns-then-used
 unfolding oxygen_of
 returns-then-used c = rw c.if-used.true
-
-pub returns-else-used : goal.returns-else-used
-returns-else-used c = rw c.if-used.false

@@ -6,9 +6,9 @@ use Rattle.report.proofs.weights.Weights.divide.Goals as goal
 pub overflow_cast-result : goal.overflow_cast-result
 overflow_cast-result c =
     let w = c.args.self in
-    omega (arith, long_quotient w.sum w.volume c.requires, quotient_fits w.sum w.volume w.fits)
+    omega (arith, long_quotient w.sum w.volume c.requires.some, quotient_fits w.sum w.volume c.requires.fits)
 
 pub returns : goal.returns
 returns c =
     let w = c.args.self in
-    rw (long_quotient w.sum w.volume c.requires, long_remainder w.sum w.volume)
+    rw (long_quotient w.sum w.volume c.requires.some, long_remainder w.sum w.volume)
