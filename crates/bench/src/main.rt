@@ -39,7 +39,7 @@ fn show_all(out: &mut Out, bundle: &[u8]) -> fmt::Result {
     Ok(())
 }
 
-// What cannot be written ends the printing, with status 0. Each program reads its bundle for itself: in `cases` the buffer would be lent to a closure for
+// What cannot be written is passed over, with status 0. Each program reads its bundle for itself: in `cases` the buffer would be lent to a closure for
 // these lines.
 fn main() {
     let mut bundle = [0u8; BUNDLE];

@@ -42,17 +42,13 @@ fn print_first(
 }
 
 // Prints the name of a case, whose bytes need not be text, which is why it goes past `Out`.
-fn print_name(case: &[u8]) -> fmt::Result {
-    if io::write_all(1, name_in(case)) {
-        Ok(())
-    } else {
-        Err(fmt::Error)
-    }
+fn print_name(case: &[u8]) {
+    io::write_all(1, name_in(case));
 }
 
 // Prints the name of a case and the result of its call.
 fn print_result(out: &mut Out, case: &[u8], res: u32) -> fmt::Result {
-    print_name(case)?;
+    print_name(case);
     let number = report::refusal_number(res);
     let reach = report::refusal_reach(res);
     writeln!(out, ": {number} at {reach}")
@@ -98,7 +94,7 @@ pub fn show_report(out: &mut Out, case: &[u8], report: &mut [u8]) -> fmt::Result
 
 // Prints how many bytes a reach has in the report of a case's file.
 pub fn show_size(out: &mut Out, case: &[u8]) -> fmt::Result {
-    print_name(case)?;
+    print_name(case);
     let size = report::xylandreo_record_size(file_in(case));
     writeln!(out, ": {size} bytes")
 }

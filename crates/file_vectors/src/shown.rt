@@ -78,10 +78,10 @@ fn cards(out: &mut Out, river: Cards) -> fmt::Result {
     Ok(())
 }
 
-// The bytes of a buffer, on a line.
+// The bytes of a buffer, on a line. Their digits go past `Out`: `{:02x}` writes a leading 0 by itself, and these are most of what this program writes.
 fn buffer(out: &mut Out, bytes: &[u8]) -> fmt::Result {
     for byte in bytes {
-        write!(out, "{byte:02x}")?;
+        io::print_hex(1, u64::from(*byte), 2);
     }
     writeln!(out)
 }
