@@ -4,7 +4,7 @@ ghost use Rattle.decay.specs.Fixed.{one};
 ghost use Rattle.decay.specs.held.Factors.{AreShares, next_demand, head_factors, next_factors};
 
 use crate::fixed;
-use crate::pace::Pace;
+use crate::step::Pace;
 
 // A reach is 1,024 steps, and its instants are those from 0, its head, to its foot.
 pub const STEPS: u64 = 1_024;

@@ -5,6 +5,5 @@ pub mod exponents;
 pub mod factors;
 pub mod fixed;
 pub mod mean;
-pub mod pace;
 pub mod rates;
 pub mod step;

@@ -8,7 +8,7 @@ ghost use Rattle.decay.specs.declared.step.Step.{Step};
 
 use crate::factors;
 use crate::factors::{DemandFactors, FOOT, Factors, STEPS};
-use crate::pace::Pace;
+use crate::step::Pace;
 
 // What a step of a reach changes, and what has a mean over its instants.
 pub trait Stepped: Copy {

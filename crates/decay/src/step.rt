@@ -2,11 +2,11 @@
 ghost use Rattle.std.specs.Prelude.{◌≡◌, ◌+◌, ◌*◌, ◌≤◌, ◌<◌};
 ghost use Rattle.decay.specs.held.Digits.{small};
 ghost use Rattle.decay.specs.held.Step.{RatesPass, exponent_of, step_of, mean_sum_of, mean_step_of};
+ghost use Rattle.decay.specs.held.Factors.{SoundStep};
 ghost use Rattle.decay.specs.Series.{term_of, next_terms, with_term, AreTerms, SumsExactly, most_terms};
 
 use crate::exponents::Exponents;
 use crate::fixed;
-use crate::pace::Pace;
 use crate::rates::Rates;
 
 // BOD lost, BOD spent (turned to deficit and not yet filled again) and deficit filled in one step, as shares of one. The fact that they are sound is
@@ -16,6 +16,13 @@ pub struct Step {
     pub lost: u64,
     pub spent: u64,
     pub filled: u64,
+}
+
+// A step that may be taken: its shares are small, and it spends no more BOD than it loses.
+#[derive(Clone, Copy)]
+pub struct Pace {
+    pub step: Step,
+    pub ghost sound: { SoundStep step },
 }
 
 // A term of a series in its two parts: BOD lost, and the deficit made of it that is filled again within the step.
@@ -96,15 +103,16 @@ fn terms_of(e: Exponents) -> [u64; MOST_TERMS]
     all
 }
 
-// The series of exponents. It stops at the first term after the leading one that is 0, or at its end.
+// The series of exponents. It stops at the first term after the leading one that is 0, or at its end, and makes no term after that, which `terms_of` would.
 pub fn series(e: Exponents) -> SeriesSum
     ensures { SumsExactly e.y e.z result }
 {
-    let terms = terms_of(e);
+    let mut terms = Terms { lost: e.y, back: 0 };
     let mut sum = e.y;
     for i in 1..MOST_TERMS {
         let count = i as u64;
-        let t = terms[i];
+        terms = next_terms(terms, e, count + 1);
+        let t = terms.lost + terms.back;
         let ended = t == 0;
         if ended {
             return SeriesSum { sum, count };

@@ -7,8 +7,8 @@ ghost use Rattle.decay.specs.held.Step.{RatesPass};
 ghost use Rattle.decay.specs.held.Factors.{AreShares};
 
 use decay::factors::Factors;
-use decay::pace::Pace;
 use decay::rates::Rates;
+use decay::step::Pace;
 use decay::{factors, step};
 use printing::Out;
 use std::fmt;
@@ -114,7 +114,7 @@ fn reaches(out: &mut Out) -> fmt::Result {
     Ok(())
 }
 
-// What cannot be written ends the printing, with status 0.
+// What cannot be written is passed over, with status 0.
 fn main() {
     let _ = reaches(&mut Out);
 }

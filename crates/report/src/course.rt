@@ -9,7 +9,7 @@ ghost use Rattle.report.specs.held.Start.{StartInRange};
 use crate::bed::Bed;
 use decay::factors::Factors;
 use decay::fixed;
-use decay::pace::Pace;
+use decay::step::Pace;
 use flows::head::STORED_ZERO_WIDE;
 
 // What a reach starts with: head BOD, head nitrogenous BOD, stored head oxygen and saturation. Oxygen is stored as its units plus 2^31.

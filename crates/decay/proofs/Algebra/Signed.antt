@@ -1,6 +1,6 @@
 -- The signed numbers of lib.IntN as an ordered commutative ring: what the library lacks of it.
 -- Sums and the order follow by `omega` with `ints`; what is here beside are products: associativity, distributivity, negations, products of
--- nonnegatives, and cancellation.
+-- nonnegatives, and cancellation; and the natural number by which one number is larger than another.
 use mathlib.Core.Path.{◌≡◌, refl, sym, ◌∙◌, ap, subst}
 use mathlib.Core.Bool.{Bool, true, false}
 use mathlib.Core.Logic.{◌⊎◌, inl, inr}
@@ -122,6 +122,14 @@ pub ≤ℤ_diff : {a b : ℤ} → a ≤ℤ b → pos zero ≤ℤ (b -ℤ a)
 
 pub ≤ℤ_of_diff : (a b : ℤ) → pos zero ≤ℤ (b -ℤ a) → a ≤ℤ b
 ≤ℤ_of_diff a b h = omega (arith, ints)
+
+-- a number that is not negative is a natural number, and every larger number is the smaller and a natural number more
+pub ≤ℤ_nat : {a : ℤ} → pos zero ≤ℤ a → (n : ℕ) × (a ≡ pos n)
+≤ℤ_nat {a = pos n} h = (n, refl)
+≤ℤ_nat {a = negsuc n} h = absurd h.le
+
+pub ≤ℤ_gap : {a b : ℤ} → a ≤ℤ b → (n : ℕ) × (b ≡ a +ℤ pos n)
+≤ℤ_gap h = let (n, e) = ≤ℤ_nat (≤ℤ_diff h) in (n, omega (arith, ints, e))
 
 pub nonneg_pos : (n : ℕ) → pos zero ≤ℤ pos n
 nonneg_pos n = omega (arith, ints)

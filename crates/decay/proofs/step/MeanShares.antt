@@ -1,8 +1,9 @@
 -- Laws of the means over a step: the sum has no difference below zero, no more BOD is spent than lost, and no more deficit filled than in the
 -- whole step. Assumes nothing.
 use mathlib.Core.Path.{◌≡◌}
-use Prim.Native.Nat.{ℕ, ◌+◌, ◌*◌, ◌/◌, ◌≤◌, zero-le}
+use Prim.Native.Nat.{ℕ, zero, suc, ◌+◌, ◌*◌, ◌/◌, ◌≤◌, ◌<◌, zero-le}
 use native.Mathlib.Nat.{le_trans, mul-le-mul_right}
+use native.Mathlib.Numerals.{add-one}
 use native.Mathlib.Omega.{arith}
 use Rattle.decay.specs.Fixed.{product}
 use Rattle.decay.specs.held.Digits.{small}
@@ -10,6 +11,28 @@ use Rattle.decay.specs.held.Step.{RatesPass, exponent_of, mean_sum_of, step_of, 
 use Rattle.decay.specs.Series.{term_of, next_terms, terms_at, term_at, with_term, most_terms, series_of}
 use Rattle.decay.specs.held.Factors.{SoundStep}
 use Rattle.decay.proofs.step.Shares.{first_term, term_alone, terms_fall, series_sum, exponent_small, step_sound, step_loses_nothing, step_fills_nothing}
+
+-- the mean of the first term, and the sum with one more
+pub mean_first : (y z : ℕ) → mean_sum_of y z 1 ≡ y / 2
+unfolding mean_sum_of with_term
+mean_first y z = omega (arith, first_term y z)
+
+pub mean_next : (y z n : ℕ) → with_term (mean_sum_of y z n) (term_at y z n / (n + 2)) n ≡ mean_sum_of y z (n + 1)
+unfolding mean_sum_of
+mean_next y z n = rw add-one
+
+-- a sum has room for its next term, and stays small
+pub record MeanFits (y z n : ℕ) : Type 0 where
+  pub lower : term_at y z n / (n + 2) ≤ mean_sum_of y z n
+  pub upper : mean_sum_of y z n ≤ small
+
+pub mean_fits : (y z : ℕ) → y ≤ small → z ≤ small → (n : ℕ) → 1 ≤ n → n < most_terms → MeanFits y z n
+unfolding mean_sum_of with_term
+mean_fits y z hy hz zero h l = absurd (omega arith)
+mean_fits y z hy hz (suc zero) h l = omega (arith, first_term y z, terms_fall y z hy hz 0)
+mean_fits y z hy hz (suc (suc zero)) h l = omega (arith, first_term y z, terms_fall y z hy hz 0, terms_fall y z hy hz 1)
+mean_fits y z hy hz (suc (suc (suc zero))) h l = omega (arith, first_term y z, terms_fall y z hy hz 0, terms_fall y z hy hz 1, terms_fall y z hy hz 2)
+mean_fits y z hy hz (suc (suc (suc (suc n)))) h l = absurd (omega arith)
 
 -- the sum as an equation without differences
 pub mean_sum : (y z : ℕ) → y ≤ small → z ≤ small → mean_sum_of y z most_terms + term_at y z 1 / 3 + term_at y z 3 / 5 ≡ y / 2 + term_at y z 2 / 4

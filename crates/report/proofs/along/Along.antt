@@ -9,7 +9,7 @@ use Rattle.decay.specs.held.Step.{step_of, mean_step_of}
 use Rattle.decay.specs.held.Factors.{AreShares, next_demand, head_factors, next_factors}
 use Rattle.decay.specs.held.Mean.{mean_demand, mean_factors, no_factors, factors_plus, demand_averaged, factors_averaged, Summed, DemandSummed, FactorsSummed}
 use Rattle.decay.specs.declared.step.Step.{Step}
-use Rattle.decay.specs.declared.pace.Pace.{Pace}
+use Rattle.decay.specs.declared.step.Pace.{Pace}
 use Rattle.decay.specs.declared.rates.Rates.{Rates}
 use Rattle.decay.specs.declared.factors.DemandFactors.{DemandFactors}
 use Rattle.decay.specs.declared.factors.Factors.{Factors}
