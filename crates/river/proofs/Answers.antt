@@ -51,6 +51,11 @@ module _ {A : Type 0} where
   unfolding after
   after_refused x f p = rw p
 
+  pub after_all : (x : Answer A) → after x accepted ≡ x
+  unfolding after
+  after_all (accepted a) = refl
+  after_all (refused r) = refl
+
   -- a sequence of three
   pub after_after : {B C : Type 0} (x : Answer A) (f : A → Answer B) (g : B → Answer C) → after (after x f) g ≡ after x (λ a. after (f a) g)
   unfolding after

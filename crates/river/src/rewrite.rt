@@ -11,7 +11,11 @@ use crate::writer::{write, write_cards};
 pub fn rewrite(file: &[u8], out: &mut [u8]) -> Result<(), Refusal>
     ensures { WritesBack file.now out.old result out.new }
 {
-    let reading = read_file(file)?;
+    // This is a `?` written out: so an answer that is wrong for a refused file fails at what is promised, and not at the names in its proof.
+    let reading = match read_file(file) {
+        Ok(reading) => reading,
+        Err(refusal) => return Err(refusal),
+    };
     write_cards(reading.factors, reading.cards, out)?;
     Ok(())
 }

@@ -1,13 +1,14 @@
 -- Bytes put into a buffer one after the other.
 -- Assumes nothing.
-use Prim.Native.Nat.{ℕ, suc, ◌+◌, ◌≤◌}
-use mathlib.Core.Path.{◌≡◌, ap, sym, ◌∙◌}
+use Prim.Native.Nat.{ℕ, suc, ◌+◌, ◌≤◌, ◌<◌}
+use mathlib.Core.Path.{◌≡◌, refl, ap, sym, ◌∙◌}
 use mathlib.Core.List.{List, [], ◌∷◌, ◌++◌}
-use native.Mathlib.Nat.{add-zero, add-suc, suc-add}
+use native.Mathlib.Nat.{mod-eq_of_lt, add-zero, add-suc, suc-add}
+use native.Mathlib.Numerals.{add-one}
 use native.Mathlib.Omega.{arith}
 use lib.ListN.{length, drop, set, length-append}
 use lib.Seq.{sets, sets-eq, length-sets}
-use Rattle.river.specs.Bytes.{Put}
+use Rattle.river.specs.Bytes.{Put, two_bytes, narrow_bytes}
 use Rattle.river.specs.declared.bytes.Cursor.{Cursor}
 use Rattle.river.specs.held.Cursors.{Puts}
 
@@ -27,6 +28,17 @@ chain {b} {m} {l} {x} {y} {at} {k} {r} p q =
           sym (sets_append b at x y);
       place = omega (arith, p.place, q.place, length-append x y);
     }
+
+-- two bytes hold a number below 65,536 as it is
+pub held : (x : ℕ) {b l : List ℕ} {at k : ℕ} → x < 65536 → Put b at (two_bytes x) l k → Put b at (narrow_bytes x) l k
+held x h p = rw (mod-eq_of_lt h) p
+
+-- no bytes put
+pub put_none : (b : List ℕ) (at : ℕ) → Put b at [] b at
+put_none b at = record { buffer = refl; place = rw add-zero }
+
+pub put_pair : (b : List ℕ) (at x y : ℕ) → Put b at (x ∷ y ∷ []) (set (set b at x) (at + 1) y) (at + 2)
+put_pair b at x y = record { buffer = rw add-one; place = refl }
 
 -- bytes put at the start
 pub put_at_start : {b x l : List ℕ} {r : ℕ} → Put b 0 x l r → length x ≤ length b → l ≡ x ++ drop (length x) b

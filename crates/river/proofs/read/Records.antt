@@ -2,7 +2,7 @@
 -- Assumes nothing.
 use Prim.Native.Nat.{ℕ, ◌%◌, ◌≤◌}
 use mathlib.Core.Path.{◌≡◌, refl, ap, sym, subst, ◌∙◌}
-use mathlib.Core.List.{List, ◌∷◌, ◌++◌}
+use mathlib.Core.List.{List, [], ◌∷◌, ◌++◌}
 use mathlib.Core.Bool.{true}
 use native.Mathlib.Nat.{div-add-mod', mod-eq_of_lt}
 use native.Mathlib.Omega.{arith}
@@ -10,11 +10,11 @@ use lib.ListN.{length, drop}
 use lib.Seq.{drop_at}
 use borrow.Author.Tests.{le-leb, leb-true}
 use Rattle.river.specs.Bytes.{AreBytes, byte_at}
-use Rattle.river.specs.Card.{RatesInRange, LawfulCard, RE, optional, optional_of, in_range, outlet_ok, size_of}
-use Rattle.river.specs.Optional.{Values, absent, encode_optionals}
+use Rattle.river.specs.Card.{RatesInRange, LawfulCard, RE, optional, optional_of, blank, in_range, outlet_ok, size_of}
+use Rattle.river.specs.Optional.{Values, absent, read_optional, read_optionals, encode_optionals}
 use Rattle.river.specs.Read.{card_at, read_reach}
 use Rattle.river.specs.Records.{rate_most}
-use Rattle.river.specs.Refusal.{accepted}
+use Rattle.river.specs.Refusal.{accepted, choose, after}
 use Rattle.river.specs.Write.{encode_reach, encode_card}
 use Rattle.river.specs.declared.card.Card.{Card}
 use Rattle.river.proofs.Answers.{need_true, after_accepted, passed, went}
@@ -27,6 +27,11 @@ use Rattle.river.proofs.card.Rows.{sound_optional, length_encode_card}
 pub in_range_card_at : (s : List ℕ) (vs ws : Values optional) → in_range (card_at s vs) ≡ in_range (card_at s ws)
 unfolding in_range card_at
 in_range_card_at s vs ws = refl
+
+-- where no byte is, no record is found and every number is zero
+pub blank_is : {vs : Values optional} {c : Card} → read_optionals optional 0 [] ≡ accepted vs → c ≡ card_at (0 ∷ []) vs → c ≡ blank
+unfolding card_at read_optionals read_optional choose after
+blank_is {vs} e f = let same : vs ≡ absent optional = cc in f ∙ ap (card_at (0 ∷ [])) same
 
 -- Reading what was encoded.
 

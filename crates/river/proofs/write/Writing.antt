@@ -3,7 +3,7 @@
 use Prim.Native.Nat.{ℕ, ◌≤◌, ◌<◌}
 use mathlib.Core.Path.{◌≡◌, refl, ap, sym, ◌∙◌}
 use mathlib.Core.List.{List, ◌++◌}
-use mathlib.Core.Bool.{and-false}
+use mathlib.Core.Bool.{false, and-false}
 use native.Mathlib.Omega.{arith}
 use lib.ListN.{length, drop}
 use borrow.Author.Tests.{le-leb, lt-leb}
@@ -23,9 +23,13 @@ module _ (n : ℕ) (r : River) (before : List ℕ) where
   unfolding buffer_written
   refuses e = record { answer = sym e; buffer = refl }
 
+  pub refuses_count : count_ok n ≡ false → Writes n r before (refused (refuse ReachCount 0)) before
+  unfolding check_river write_answer
+  refuses_count p = refuses (after_refused _ _ (need_false _ _ _ _ p))
+
   pub refuses_many : 128 < n → Writes n r before (refused (refuse ReachCount 0)) before
-  unfolding check_river write_answer count_ok
-  refuses_many h = refuses (after_refused _ _ (need_false _ _ _ _ (rw (lt-leb n 128 h, and-false))))
+  unfolding count_ok
+  refuses_many h = refuses_count (rw (lt-leb n 128 h, and-false))
 
 -- an answer that is refused although it goes on with what is accepted is refused before
 refused_before : {A B : Type 0} (a : Answer A) (f : A → B) {x : Refusal} → after a (λ v. accepted (f v)) ≡ refused x → a ≡ refused x
