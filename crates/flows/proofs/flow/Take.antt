@@ -56,6 +56,9 @@ module _ {card : Card} {up : Feeders} (s : ReachPasses card up) where
   pub flow_within : reach_flow card up ≤ flow_limit
   flow_within = omega (arith, s.bounded)
 
+  pub flow_and_take : reach_flow card up + take_of card ≡ mixed_flow card up
+  flow_and_take = omega (arith, s.take_rule)
+
   -- M before the take, and after it
   pub mixed_bounded : mixed_mass card up ≤ mass_limit * flow_limit
   mixed_bounded = le_trans s.mass_rule (mul-le-mul_left mass_limit s.bounded)

@@ -3,31 +3,38 @@ use Rattle.std.specs.Prelude.{Option, Some, None, SomeIff}
 use Rattle.std.specs.Option.{unwrap_or}
 use mathlib.Core.Path.{◌≡◌, sym, ap, ◌∙◌}
 use mathlib.Core.Bool.{Bool, true, false}
-use Prim.Native.Nat.{ℕ, ◌+◌, ◌*◌, ◌/◌, ◌%◌, ◌≤◌, ◌<◌}
+use Prim.Native.Nat.{ℕ, ◌+◌, ◌*◌, ◌/◌, ◌%◌, ◌^◌, ◌≤◌, ◌<◌}
 use native.Mathlib.Nat.{le_trans, mul-le-mul, mul-le-mul_left, mul-le-mul_right, mul_comm, mul-div-le, div-le_of_le-mul, div-add-mod', mul-div-mul_right, mul-add-div_right}
 use native.Mathlib.Omega.{arith}
 use lib.Dec.{lit<}
 use Rattle.std.proofs.lemmas.Bool.{false_from_ne_true}
 use Rattle.river.specs.declared.card.Card.{Card}
+use Rattle.river.specs.declared.card.Dam.{Dam}
 use Rattle.river.specs.declared.source.Source.{Source}
 use Rattle.river.specs.Card.{amount_or, RegularCard}
 use Rattle.river.specs.Described.{InRange}
 use Rattle.river.specs.Records.{BP}
 use Rattle.river.specs.Source.{source_mass}
 use Rattle.river.proofs.range.Ranges.{regular_pressure}
+use Rattle.flows.specs.Flow.{flow_limit}
 use Rattle.flows.specs.Saturation.{saturation, saturation_thousandths, standard_pressure, pressure_of, saturation_of, ConditionsInRange, SaturationInRange}
 use Rattle.flows.specs.Head.{upstream_demand, mixed_demand, head_demand}
-use Rattle.flows.specs.held.HeadTable.{demand_limit, DemandReady}
+use Rattle.flows.specs.held.HeadTable.{DamWithin, demand_limit, DemandReady}
+use Rattle.flows.specs.held.Stored.{stored_zero, stored_limit}
+
+-- the falling terms of the polynomial are at most the others
+pub saturation_positive : (T : ℕ) → T ≤ 35 → 410220000 * T + 77774 * (T * T * T) ≤ 14652000000 + 7991000 * (T * T)
+saturation_positive T h = omega (arith, mul-le-mul_left (T * T) h)
 
 -- saturation at 0 to 35 degrees and at most 800 mm is at most 15,423,157
 polynomial_small : (T : ℕ) → T ≤ 35 → saturation_thousandths T ≤ 14652000000
 unfolding saturation_thousandths
 polynomial_small T h = omega (arith, mul-le-mul_right T h)
 
-product_small : {T p : ℕ} → ConditionsInRange T p → saturation_thousandths T * p ≤ 14652000000 * 800
+pub product_small : {T p : ℕ} → ConditionsInRange T p → saturation_thousandths T * p ≤ 14652000000 * 800
 product_small {T} {p} h = mul-le-mul (polynomial_small T h.temperature) h.pressure
 
-saturation_small : {T p : ℕ} → ConditionsInRange T p → saturation T p ≤ 15423157
+pub saturation_small : {T p : ℕ} → ConditionsInRange T p → saturation T p ≤ 15423157
 unfolding saturation
 saturation_small h = omega (arith, product_small h)
 
@@ -81,8 +88,24 @@ head_demand_kept source fed Qu sum = le_trans (mul-div-le _ (Qu + source.inflow)
 
 -- what is mixed of a demand is at most the limit times the flow, and so the demand at most the limit
 module _ {source : Source} {fed : Bool} {Qu sum upstream : ℕ} (h : DemandReady source fed Qu sum) (e : upstream ≡ upstream_demand fed Qu sum) where
-  demand_total : Qu * upstream + 1000 * source.inflow * source.concentration + 1000000 * source.load ≤ demand_limit * (Qu + source.inflow)
+  pub demand_total : Qu * upstream + 1000 * source.inflow * source.concentration + 1000000 * source.load ≤ demand_limit * (Qu + source.inflow)
   demand_total = rw e (le_trans (mixed_total source fed Qu sum) h.within)
 
   pub demand_small : mixed_demand source Qu upstream ≤ demand_limit
   demand_small = div-le_of_le-mul (Qu + source.inflow) (omega (arith, demand_total))
+
+-- what is mixed of stored oxygen is at most the largest stored number times the flow, and so is stored in four bytes
+module _ (Qu i : ℕ) {u o : ℕ} (h : u ≤ stored_limit) (k : o ≤ 20000) where
+  pub oxygen_total : Qu * u + i * (stored_zero + 1000 * o) ≤ stored_limit * (Qu + i)
+  oxygen_total = omega (arith, mul-le-mul_left Qu h, mul-le-mul_left i k)
+
+  pub oxygen_small : (Qu * u + i * (stored_zero + 1000 * o)) / (Qu + i) ≤ stored_limit
+  oxygen_small = div-le_of_le-mul (Qu + i) (omega (arith, oxygen_total))
+
+-- the numbers of a dam
+pub dam_numbers : {dam : Option Dam} {d : Dam} {Qu : ℕ} → dam ≡ Some d → DamWithin dam Qu → (d.share ≤ 1000) × (d.generating ≤ Qu)
+dam_numbers e h = rw e at h
+
+-- a share of a flow fits eight bytes
+pub weight_fits : {share flow : ℕ} → share ≤ 1000 → flow ≤ flow_limit → share * flow < 2 ^ 64
+weight_fits h k = omega (arith, mul-le-mul h k)

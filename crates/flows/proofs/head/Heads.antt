@@ -20,19 +20,19 @@ use Rattle.flows.specs.declared.head.Head.{Head}
 use Rattle.river.specs.Card.{blank}
 use Rattle.river.specs.Described.{InRange}
 use Rattle.river.specs.Records.{DM}
-use Rattle.flows.specs.Flow.{Feeders, none, more, card_of, above, feeders_among, joined_if, flow_of, mass_of, fed, mixed_flow, reach_flow, mixed_mass, reach_mass, flow_at, mass_at, ReachPasses, DamRule}
+use Rattle.flows.specs.Flow.{flow_limit, Feeders, none, more, card_of, above, feeders_among, joined_if, flow_of, mass_of, fed, mixed_flow, reach_flow, mixed_mass, reach_mass, own_mass, flow_at, mass_at, ReachPasses, DamRule}
 use Rattle.flows.specs.Head.{head_demand}
 use Rattle.river.proofs.range.Ranges.{asked_at}
 use Rattle.river.proofs.source.Ranges.{source_inflow}
 use Rattle.flows.proofs.flow.Table.{sum_of_feeders, sum_scaled, sums_scaled}
-use Rattle.flows.proofs.flow.Take.{flow_remains, mixed_bounded, mass_scaled, still_within}
+use Rattle.flows.proofs.flow.Take.{flow_remains, flow_within, mixed_bounded, mass_scaled, still_within}
 use Rattle.flows.proofs.head.Bounds.{head_demand_kept, conditions_in_range}
 use Rattle.flows.proofs.flow.Checks.{FirstOf, flows_add, masses_add, flow_table, mass_table}
 use Rattle.flows.proofs.head.Bringing.{brought_taken}
 use Rattle.flows.specs.held.FlowTable.{flows_by}
 use Rattle.river.specs.Source.{source_of, source_mass}
 use Rattle.flows.specs.held.Stored.{stored_limit}
-use Rattle.flows.specs.held.HeadTable.{DamWithin, HeadReady, brings_by, brought_among, brought_by_feeders, BroughtFits, HeadInput, HeadOf, HeadTabled}
+use Rattle.flows.specs.held.HeadTable.{DamWithin, HeadReady, brings_by, brought_among, brought_by_feeders, BroughtFits, DemandReady, HeadInput, HeadOf, HeadTabled}
 
 -- feeders that pass have water
 pub flow_of_fed : (cards : List Card) (n i : ℕ) → ((j : ℕ) → j < n → ReachPasses (card_of cards (suc j)) (above cards (suc j))) → fed (feeders_among cards n i) ≡ true → 0 < flow_of (feeders_among cards n i)
@@ -73,6 +73,22 @@ head_demands_within_mass {card} {up} bod nitrogenous s h =
   where
     inflow : (d : Demand) → mixed_flow card up ≡ flow_of up + (source_of d card).inflow
     inflow d = ap (λ (x : ℕ). flow_of up + x) (sym (source_inflow d card))
+
+-- what a head asks for has what each demand asks for
+module _ {card : Card} {fed : Bool} {Qu : ℕ} {brought : Brought} (h : HeadInput card fed Qu brought) where
+  part_input : (d : Demand) {source : Source} {sum : ℕ} → sum + 1000 * source_mass (source_of d card) ≤ brought.bod + brought.nitrogenous + 1000 * own_mass card → source ≡ source_of d card → DemandReady source fed Qu sum
+  part_input d k e =
+      rw e
+      record {
+        flows = rw (source_inflow d card) h.ready.flows;
+        within = omega (arith, k, h.demands, source_inflow d card);
+      }
+
+  pub bod_input : {source : Source} → source ≡ source_of Bod card → DemandReady source fed Qu brought.bod
+  bod_input = part_input Bod (omega arith)
+
+  pub nitrogenous_input : {source : Source} → source ≡ source_of Nitrogenous card → DemandReady source fed Qu brought.nitrogenous
+  nitrogenous_input = part_input Nitrogenous (omega arith)
 
 -- Qu of reach i + 1, by the table
 abbrev pub qu_by : List ReachFlows → ℕ → ℕ
@@ -115,7 +131,10 @@ module _ {cards : List Card} {flows : List ReachFlows} {by_reach : List Brought}
         oxygen = omega (arith, sum_oxygen, here.bounded);
       }
 
-  -- Qu, and whether there are feeders
+  -- the flow after the take, Qu, and whether there are feeders
+  pub flow_bounded : (flows_by flows i).flow ≤ flow_limit
+  flow_bounded = rw (h.tabled.each i h.within) (flow_within here)
+
   pub qu_here : qu_by flows i ≡ flow_of (above cards (suc i))
   qu_here = ap (λ (f : ReachFlows). f.upstream) (h.tabled.each i h.within)
 
