@@ -169,22 +169,22 @@ module _ (site : Site) (p : Here site) where
   tabled = head_tabled p.ready p.brought_tabled p.within
 
   pub flow_here : site.flows.flow ≡ flow_at p.cards (suc p.i)
-  flow_here = ap (λ (r : ReachFlows). r.flow) (p.flows_are ∙ p.ready.tabled.each p.i p.within)
+  flow_here = p.flow_is ∙ ap (λ (r : ReachFlows). r.flow) (p.ready.tabled.each p.i p.within)
 
   depth_here : site.flows.depth ≡ depth_at p.cards (suc p.i)
-  depth_here = ap (λ (r : ReachFlows). r.depth) (p.flows_are ∙ p.ready.tabled.each p.i p.within)
+  depth_here = p.depth_is ∙ ap (λ (r : ReachFlows). r.depth) (p.ready.tabled.each p.i p.within)
 
   pub used_here : site.brought.used ≡ used_above (above p.cards (suc p.i))
   used_here = rw p.brought_is (used_table p.ready p.brought_tabled p.within)
 
   -- what its head asks
   pub head_asked : HeadInput site.card (ltb 0 site.flows.upstream) site.flows.upstream site.brought
-  head_asked = rw p.flows_are (head_input tabled p.own refl p.brought_is)
+  head_asked = rw p.upstream_is (head_input tabled p.own refl p.brought_is)
 
   -- that head
   pub head_here : {h : Head} → HeadOf site.card (ltb 0 site.flows.upstream) site.flows.upstream site.brought h → HeadOfReach p.cards p.i h
   head_here {h} of =
-      let at_tables : HeadOf site.card (ltb 0 (qu_by p.flows p.i)) (qu_by p.flows p.i) site.brought h = rw p.flows_are at of in
+      let at_tables : HeadOf site.card (ltb 0 (qu_by p.flows p.i)) (qu_by p.flows p.i) site.brought h = rw p.upstream_is at of in
       head_of_reach p.ready p.brought_tabled p.within (rw (p.brought_is, qu_here tabled, fed_here tabled, p.own) at at_tables)
       (head_within tabled p.own refl p.brought_is at_tables)
 

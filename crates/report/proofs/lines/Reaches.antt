@@ -1,7 +1,7 @@
 -- The one law of the loops over the reaches of an accepted river, that of the report and that of the means: by the tables of what the first i
 -- reaches bring the next reach is handed its card, its flows and what its feeders bring, and the tables with what it hands on are those of one more
 -- reach. What a loop makes of a reach besides stands in the proof of the loop. Assumes nothing.
-use mathlib.Core.Path.{◌≡◌}
+use mathlib.Core.Path.{◌≡◌, ap}
 use mathlib.Core.List.{List}
 use Prim.Native.Nat.{ℕ, suc, ◌+◌, ◌<◌}
 use native.Mathlib.Omega.{arith}
@@ -40,7 +40,9 @@ module _ {cards : List Card} {flows : List ReachFlows} {by_reach : List Brought}
         brought_tabled = t.brought_tabled;
         within = t.within;
         own = own;
-        flows_are = flows_are;
+        upstream_is = ap (λ (r : ReachFlows). r.upstream) flows_are;
+        flow_is = ap (λ (r : ReachFlows). r.flow) flows_are;
+        depth_is = ap (λ (r : ReachFlows). r.depth) flows_are;
         brought_is = brought_is;
       }
 

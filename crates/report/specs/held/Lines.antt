@@ -55,7 +55,7 @@ pub record LineOf (cards : List Card) (i : ℕ) (line : Line) : Type 0 where
   pub figures : figures_in line ≡ figures_at cards (suc i)
   pub mass : flow_at cards (suc i) * (line.head_bod + line.head_nitrogenous) ≤ 1000 * mass_at cards (suc i)
 
--- what a line needs: there is an accepted river with flows and what its reaches bring, one of which has this card and these flows and is brought
+-- what a line needs: there is an accepted river with flows and what its reaches bring, one of which has this card, Qu, flow and depth and is brought
 -- this
 pub record LineAt (card : Card) (reach : ReachFlows) (brought : Brought) : Type 0 where
   pub cards : List Card
@@ -66,7 +66,9 @@ pub record LineAt (card : Card) (reach : ReachFlows) (brought : Brought) : Type 
   pub brought_tabled : BroughtTabled cards by_reach i
   pub within : i < length cards
   pub own : card ≡ card_of cards (suc i)
-  pub flows_are : reach ≡ flows_by flows i
+  pub upstream_is : reach.upstream ≡ (flows_by flows i).upstream
+  pub flow_is : reach.flow ≡ (flows_by flows i).flow
+  pub depth_is : reach.depth ≡ (flows_by flows i).depth
   pub brought_is : brought ≡ brought_by_feeders flows by_reach i
 
 -- what the place of reach i + 1 in a river is known by: the river with its flows, and what the reaches before it bring
