@@ -99,7 +99,13 @@ pub fn render_means(file: &[u8], out: &mut [u8; MEANS_TEXT]) -> usize
     let mut means = [0u8; MEANS];
     let mut text = Cursor { out, at: 0 };
     match mean::mean(file, &mut means) {
-        Ok(river) => put_means(&mut text, &means, river),
+        Ok(river) => put_means(
+            &mut text,
+            &means,
+            river.count,
+            u64::from(river.units),
+            river.remainder,
+        ),
         Err(refusal) => put_refusal(&mut text, refusal),
     }
     text.at

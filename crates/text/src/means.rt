@@ -4,11 +4,11 @@ ghost use Rattle.flows.specs.held.Stored.{oxygen_of};
 ghost use Rattle.river.specs.held.Cursors.{Room};
 ghost use Rattle.report.specs.Mean.{mean_bytes, mean_read};
 ghost use Rattle.text.specs.MeanText.{mean_line, mean_lines, river_line};
-ghost use Rattle.text.specs.held.Words.{longest_mean_line, longest_river_line, mean_held, mean_told, PutsWithin};
+ghost use Rattle.text.specs.held.Words.{longest_mean_line, longest_river_line, mean_held, PutsWithin};
 
 use crate::line::plain;
 use crate::put::{put_line, put_number, put_signed, put_word};
-use report::mean::{MEAN_SIZE, RiverMean};
+use report::mean::MEAN_SIZE;
 use report::record::complement;
 use river::bytes::{Cursor, four_at};
 
@@ -49,25 +49,25 @@ fn put_mean_lines(text: &mut Cursor, means: &[u8], count: usize)
     }
 }
 
-// Puts the line of the river, by its mean.
-fn put_river(text: &mut Cursor, river: RiverMean)
+// Puts the line of the river, by its stored units and the remainder.
+fn put_river(text: &mut Cursor, units: u64, remainder: u64)
     requires { Room text.old longest_river_line }
-    ensures { PutsWithin longest_river_line (river_line (mean_told river)) text.old text.new }
+    ensures { PutsWithin longest_river_line (river_line (record { units = oxygen_of units; remainder = remainder })) text.old text.new }
 {
     put_word(text, b"river ");
-    put_signed(text, u64::from(river.units));
+    put_signed(text, units);
     put_word(text, b" ");
-    put_number(text, river.remainder);
+    put_number(text, remainder);
     put_word(text, b"\n");
 }
 
 // Puts the lines of the first reaches, and that of the river.
-pub fn put_means(text: &mut Cursor, means: &[u8], river: RiverMean)
-    requires few { river.count ≤ 128 }
-    requires held { mean_bytes * river.count ≤ length means.now }
-    requires room { Room text.old (longest_mean_line * river.count + longest_river_line) }
-    ensures { PutsWithin (longest_mean_line * river.count + longest_river_line) (mean_lines (mean_held means.now) river.count ++ river_line (mean_told river)) text.old text.new }
+pub fn put_means(text: &mut Cursor, means: &[u8], count: usize, units: u64, remainder: u64)
+    requires few { count ≤ 128 }
+    requires held { mean_bytes * count ≤ length means.now }
+    requires room { Room text.old (longest_mean_line * count + longest_river_line) }
+    ensures { PutsWithin (longest_mean_line * count + longest_river_line) (mean_lines (mean_held means.now) count ++ river_line (record { units = oxygen_of units; remainder = remainder })) text.old text.new }
 {
-    put_mean_lines(text, means, river.count);
-    put_river(text, river);
+    put_mean_lines(text, means, count);
+    put_river(text, units, remainder);
 }

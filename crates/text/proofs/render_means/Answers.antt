@@ -15,7 +15,7 @@ use Rattle.text.proofs.Rendering.{renders}
 use Rattle.text.proofs.render_means.Goals.{in-Ok, in-Err}
 use Rattle.text.proofs.render_means.Goals as goal
 
-fit : (c : goal.After-means-in-Ok-1) → (c.in-Ok.river.count ≤ 128) × (mean_bytes * c.in-Ok.river.count ≤ length c.mean.new.means)
+fit : (c : goal.After-from) → (c.in-Ok.river.count ≤ 128) × (mean_bytes * c.in-Ok.river.count ≤ length c.mean.new.means)
 fit c =
     let bytes : AreBytes c.args.file.now = record { below = λ k. (c.type_inv.file k).fits } in
     means_fit bytes _ (means_given _ bytes (rw c.in-Ok.is at c.mean.ensures)) c.mean.auto.means
@@ -37,7 +37,7 @@ rendered c =
       | in-Ok w ↦
           let told = means_given _ bytes (rw w.in-Ok.is at c.mean.ensures) in
           let few = (means_fit bytes _ told c.mean.auto.means).0 in
-          rw w.text-is (renders refl w.put_means.ensures (means_are _ _ (omega arith) told) (omega (arith, few, c.told-out)))
+          rw w.text-is (renders refl w.put_means.ensures (rw w.from.ensures (means_are _ _ (omega arith) told)) (omega (arith, few, c.told-out)))
       | in-Err w ↦
           let refused = refusal_told _ (rw w.in-Err.is at c.mean.ensures) in
           rw w.text-is (renders refl w.put_refusal.ensures (refusal_is _ (omega arith) refused) (omega (arith, c.told-out)))

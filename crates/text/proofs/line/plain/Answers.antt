@@ -1,5 +1,5 @@
 -- `text::line::plain` meets its contract. Assumes nothing.
-use mathlib.Core.Path.{◌≡◌, ap, ◌∙◌}
+use mathlib.Core.Path.{ap, ◌∙◌}
 use Prim.Native.Nat.{ℕ, ◌+◌}
 use Rattle.flows.specs.held.Stored.{oxygen_of}
 use Rattle.flows.proofs.head.Stored.{saturated_stored}

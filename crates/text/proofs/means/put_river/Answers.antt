@@ -1,9 +1,8 @@
 -- `text::means::put_river` meets its contract: words, one behind the other. Assumes nothing.
-use mathlib.Core.Path.{◌≡◌, ap, ◌∙◌}
+use mathlib.Core.Path.{◌≡◌}
 use mathlib.Core.List.{◌++◌, append_assoc}
 use Prim.Native.Nat.{ℕ}
 use lib.IntN.{ℤ}
-use Rattle.flows.specs.held.Stored.{oxygen_of}
 use Rattle.text.specs.Text.{ascii, number, signed, after_word, line}
 use Rattle.text.specs.MeanText.{river_line}
 use Rattle.text.proofs.put.Puts.{both, reworded}
@@ -16,5 +15,5 @@ river_is units remainder = simp append_assoc
 
 pub returns : goal.returns
 returns c =
-    reworded (river_is _ _ ∙ ap (λ (u : ℕ). river_line (record { units = oxygen_of u; remainder = c.args.river.remainder })) c.from.ensures)
+    reworded (river_is _ _)
     (both (both (both (both c.put_word.ensures c.put_signed.ensures) c.put_word-2.ensures) c.put_number.ensures) c.put_word-3.ensures)
