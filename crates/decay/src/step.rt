@@ -103,7 +103,8 @@ fn terms_of(e: Exponents) -> [u64; MOST_TERMS]
     all
 }
 
-// The series of exponents. It stops at the first term after the leading one that is 0, or at its end, and makes no term after that, which `terms_of` would.
+// The series of exponents. It stops at the first term after the leading one that is 0, or at its end. It makes no term after that, where `terms_of`
+// makes all.
 pub fn series(e: Exponents) -> SeriesSum
     ensures { SumsExactly e.y e.z result }
 {

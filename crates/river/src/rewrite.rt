@@ -11,7 +11,7 @@ use crate::writer::{write, write_cards};
 pub fn rewrite(file: &[u8], out: &mut [u8]) -> Result<(), Refusal>
     ensures { WritesBack file.now out.old result out.new }
 {
-    // This is a `?` written out: so an answer that is wrong for a refused file fails at what is promised, and not at the names in its proof.
+    // The `?` is written out, so that an answer that is wrong for a refused file fails at what is promised, and not at a name in its proof.
     let reading = match read_file(file) {
         Ok(reading) => reading,
         Err(refusal) => return Err(refusal),

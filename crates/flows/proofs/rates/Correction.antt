@@ -1,6 +1,6 @@
 -- How far a correction goes: a rate stays small enough for the program's arithmetic; and what changes no rate.
-use mathlib.Core.Path.{◌≡◌, refl, ap}
-use Prim.Native.Nat.{ℕ, zero, suc, ◌+◌, ◌-◌, ◌*◌, ◌/◌, ◌<◌, ◌≤◌}
+use mathlib.Core.Path.{◌≡◌, refl}
+use Prim.Native.Nat.{ℕ, zero, suc, ◌+◌, ◌-◌, ◌*◌, ◌≤◌}
 use native.Mathlib.Nat.{le_trans, mul-le-mul, mul-le-mul_left, mul_comm, div-le_of_le-mul, mul-div_cancel}
 use native.Mathlib.Omega.{arith}
 use lib.Dec.{lit<, lit≤}
@@ -40,15 +40,6 @@ cooled_small factor zero rate f = omega arith
 cooled_small factor (suc d) rate f =
     let before = cooled factor d rate in
     le_trans (div-le_of_le-mul factor (rw (mul_comm factor before) (mul-le-mul_left before f))) (cooled_small factor d rate f)
-
--- the corrected rate below 20 degrees, and from 20 on
-pub below_twenty : (factor T rate : ℕ) → T < 20 → corrected_rate factor T rate ≡ cooled factor (20 - T) (rate * 1_000_000) / 1_000_000
-unfolding corrected_rate scaled
-below_twenty factor T rate h = ap (λ (d : ℕ). warmed factor d (cooled factor (20 - T) (rate * 1_000_000)) / 1_000_000) (let e : T - 20 ≡ 0 = omega arith in e)
-
-pub from_twenty : (factor T rate : ℕ) → 20 ≤ T → corrected_rate factor T rate ≡ warmed factor (T - 20) (rate * 1_000_000) / 1_000_000
-unfolding corrected_rate scaled
-from_twenty factor T rate h = ap (λ (d : ℕ). warmed factor (T - 20) (cooled factor d (rate * 1_000_000)) / 1_000_000) (let e : 20 - T ≡ 0 = omega arith in e)
 
 -- THEOREM: at 20 degrees a rate stays as it is, whatever the factor
 pub at_twenty : (factor rate : ℕ) → corrected_rate factor 20 rate ≡ rate

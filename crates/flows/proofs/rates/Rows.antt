@@ -1,11 +1,14 @@
--- The bench values of the river file paper for corrected rates, proved from the definitions by computation.
-use mathlib.Core.Path.{◌≡◌, refl}
+-- The bench values of the river file paper for corrected rates, proved from the definitions by computation, and a corrected rate on either side of
+-- 20 degrees.
+use mathlib.Core.Path.{◌≡◌, refl, ap}
+use Prim.Native.Nat.{ℕ, ◌-◌, ◌*◌, ◌/◌, ◌<◌, ◌≤◌}
+use native.Mathlib.Omega.{arith}
 use Rattle.std.specs.Prelude.{Some, None}
 use Rattle.river.specs.declared.card.Card.{Card}
 use Rattle.river.specs.declared.source.Demand.TheVariants.{Nitrogenous}
 use Rattle.river.specs.Card.{no_optionals, with_nitrification}
 use Rattle.river.specs.Source.{rate_of}
-use Rattle.flows.specs.Rates.{scaled, corrected_rate, decay_in_force, aeration_in_force, card_in_force}
+use Rattle.flows.specs.Rates.{scaled, warmed, cooled, corrected_rate, decay_in_force, aeration_in_force, card_in_force}
 
 -- a card at 25 degrees, all of whose rates are 1,000, with rates in force by two factors
 abbrev warm : Card
@@ -54,3 +57,12 @@ rate_rows =
       decay = refl;
       aeration = refl;
     }
+
+-- the corrected rate below 20 degrees, and from 20 on
+pub below_twenty : (factor T rate : ℕ) → T < 20 → corrected_rate factor T rate ≡ cooled factor (20 - T) (rate * 1_000_000) / 1_000_000
+unfolding corrected_rate scaled
+below_twenty factor T rate h = ap (λ (d : ℕ). warmed factor d (cooled factor (20 - T) (rate * 1_000_000)) / 1_000_000) (let e : T - 20 ≡ 0 = omega arith in e)
+
+pub from_twenty : (factor T rate : ℕ) → 20 ≤ T → corrected_rate factor T rate ≡ warmed factor (T - 20) (rate * 1_000_000) / 1_000_000
+unfolding corrected_rate scaled
+from_twenty factor T rate h = ap (λ (d : ℕ). warmed factor (T - 20) (cooled factor d (rate * 1_000_000)) / 1_000_000) (let e : 20 - T ≡ 0 = omega arith in e)
