@@ -1,17 +1,24 @@
 // Results, figures of reaches and means, printed.
 use crate::given::{file_in, has_status, most_off_in, name_in, shown_in};
 use flows::head::{STORED_ZERO, signed};
-use printing::Out;
+use printing::{Out, Signed};
 use report::mean::MEAN_SIZE;
 use report::record::{Line, RP_SIZE, read_record, record_bytes};
 use std::fmt;
 use std::fmt::Write;
 use text::means::read_mean;
 
+// Stored oxygen as it is printed.
+fn oxygen(stored: u32) -> Signed {
+    Signed {
+        value: signed(stored),
+    }
+}
+
 // Prints a reach below its head, with nitrogenous BOD where its river has nitrification, and its status where that is asked for.
 fn print_reach(out: &mut Out, line: Line, nitrified: bool, status: bool) -> fmt::Result {
-    let foot = signed(line.foot_oxygen);
-    let critical = signed(line.critical_oxygen);
+    let foot = oxygen(line.foot_oxygen);
+    let critical = oxygen(line.critical_oxygen);
     write!(
         out,
         "{} {foot} {} {critical}",
@@ -102,7 +109,7 @@ pub fn show_size(out: &mut Out, case: &[u8]) -> fmt::Result {
 // Prints the means of the first reaches, each on a line of its own.
 fn print_means(out: &mut Out, means: &[u8], reaches: usize) -> fmt::Result {
     for mean in means.chunks_exact(MEAN_SIZE).take(reaches) {
-        writeln!(out, "{}", signed(read_mean(mean, 0)))?;
+        writeln!(out, "{}", oxygen(read_mean(mean, 0)))?;
     }
     Ok(())
 }
@@ -114,5 +121,6 @@ pub fn show_means(out: &mut Out, case: &[u8], means: &mut [u8]) -> fmt::Result {
     let result = report::xylandreo_mean(file_in(case), means, &mut units, &mut remainder);
     print_result(out, case, result)?;
     print_means(out, means, shown_in(case))?;
+    let units = Signed { value: units };
     writeln!(out, "{units} {remainder}")
 }

@@ -17,6 +17,11 @@ use std::fmt::Write;
 // The instants that are printed, each with how many steps it lies below the one before, which the proof of the loop need not subtract.
 const INSTANTS: [(u32, u32); 4] = [(0, 0), (1, 1), (512, 511), (1_024, 512)];
 
+// A label and three numbers, on a line.
+fn line(out: &mut Out, label: &str, a: u64, b: u64, c: u64) -> fmt::Result {
+    writeln!(out, "{label} {a} {b} {c}")
+}
+
 // The factors so many steps further down.
 fn after(pace: Pace, from: Factors, steps: u32) -> Factors
     requires { AreShares from }
@@ -46,7 +51,7 @@ fn terms(out: &mut Out, rates: Rates) -> fmt::Result {
     let lost = step::series(e.bod()).count;
     let spent = step::series(e).count;
     let filled = step::series(e.deficit()).count;
-    writeln!(out, "terms {lost} {spent} {filled}")
+    line(out, "terms", lost, spent, filled)
 }
 
 // A reach: its card's numbers, the shares of its step with their terms, and four instants.
@@ -58,10 +63,10 @@ fn reach(out: &mut Out, rates: Rates) -> fmt::Result {
         flow,
     } = rates;
     writeln!(out, "flow {flow}")?;
-    writeln!(out, "card {k1} {k2} {volume}")?;
+    line(out, "card", u64::from(k1), u64::from(k2), u64::from(volume))?;
     let pace = step::step_of(rates);
     let s = pace.step;
-    writeln!(out, "step {} {} {}", s.lost, s.spent, s.filled)?;
+    line(out, "step", s.lost, s.spent, s.filled)?;
     terms(out, rates)?;
     instants(out, pace)
 }

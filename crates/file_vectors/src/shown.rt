@@ -12,18 +12,27 @@ use std::fmt::Write;
 // The length of the buffer to which a file that was read is written back.
 const REWRITE_ROOM: usize = 100;
 
+// A word, and each number behind a space.
+fn numbers(out: &mut Out, word: &str, list: &[u32]) -> fmt::Result {
+    write!(out, "{word}")?;
+    for n in list {
+        write!(out, " {n}")?;
+    }
+    Ok(())
+}
+
 // A dam. Each record is printed by itself, since it has a word and numbers of its own.
 fn dam(out: &mut Out, d: Option<Dam>) -> fmt::Result {
     if let Some(Dam { share, generating }) = d {
-        write!(out, " dam {share} {generating}")?;
+        numbers(out, " dam", &[u32::from(share), generating])?;
     }
     Ok(())
 }
 
 // An optional record of one number.
-fn amount(out: &mut Out, name: &str, a: Option<u32>) -> fmt::Result {
+fn amount(out: &mut Out, word: &str, a: Option<u32>) -> fmt::Result {
     if let Some(n) = a {
-        write!(out, " {name} {n}")?;
+        numbers(out, word, &[n])?;
     }
     Ok(())
 }
@@ -37,7 +46,7 @@ fn nitrification(out: &mut Out, n: Option<Nitrification>) -> fmt::Result {
         },
     ) = n
     {
-        write!(out, " ammonia {rate} {concentration} {load}")?;
+        numbers(out, " ammonia", &[rate, concentration, load])?;
     }
     Ok(())
 }
@@ -54,9 +63,9 @@ fn card(out: &mut Out, c: Card) -> fmt::Result {
     reach(out, c)?;
     dam(out, c.dam)?;
     let o = c.optionals;
-    amount(out, "take", o.take)?;
-    amount(out, "pressure", o.pressure)?;
-    amount(out, "sludge", o.sludge)?;
+    amount(out, " take", o.take)?;
+    amount(out, " pressure", o.pressure)?;
+    amount(out, " sludge", o.sludge)?;
     nitrification(out, o.nitrification)?;
     writeln!(out)
 }
@@ -64,7 +73,8 @@ fn card(out: &mut Out, c: Card) -> fmt::Result {
 // The rate factors of a river, on a line where there are some.
 fn rate_factors(out: &mut Out, f: Option<RateFactors>) -> fmt::Result {
     if let Some(RateFactors { decay, aeration }) = f {
-        writeln!(out, "factors {decay} {aeration}")?;
+        numbers(out, "factors", &[u32::from(decay), u32::from(aeration)])?;
+        writeln!(out)?;
     }
     Ok(())
 }

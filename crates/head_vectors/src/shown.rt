@@ -5,7 +5,8 @@ ghost use Rattle.flows.specs.held.Accepts.{IsAccepted};
 use flows::accept::{Acceptance, accept};
 use flows::flow::{ReachFlows, reach_count};
 use flows::head::{Head, brought_by, brought_to, head_of, nothing_brought, signed};
-use printing::Out;
+use printing::{Out, Signed};
+use river::refusal::Refusal;
 use std::fmt;
 use std::fmt::Write;
 
@@ -22,11 +23,19 @@ fn line(out: &mut Out, number: usize, reach: ReachFlows, head: Head) -> fmt::Res
         nitrogenous,
         oxygen,
     } = head;
-    let oxygen = signed(oxygen);
+    let oxygen = Signed {
+        value: signed(oxygen),
+    };
     writeln!(
         out,
         "{number} {depth} {flow} {mass} {bod} {nitrogenous} {oxygen}"
     )
+}
+
+// A refusal. Word, number and the space behind it are writes of their own here, as in the lines of reaches, where its `Display` joins two.
+fn refusal(out: &mut Out, r: Refusal) -> fmt::Result {
+    write!(out, "refused {} ", r.rule.number())?;
+    writeln!(out, "reach {}", r.reach)
 }
 
 // Seven eighths.
@@ -74,7 +83,7 @@ fn reaches(out: &mut Out, accepted: Acceptance, first: u32, step: u32) -> fmt::R
 // Prints what a river file yields. Feet have stored oxygen from the first, and a step more for each reach.
 pub fn show(out: &mut Out, file: &[u8], first: u32, step: u32) -> fmt::Result {
     match accept(file) {
-        Err(refusal) => writeln!(out, "{refusal}"),
+        Err(told) => refusal(out, told),
         Ok(accepted) => reaches(out, accepted, first, step),
     }
 }
