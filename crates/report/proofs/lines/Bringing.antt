@@ -188,12 +188,23 @@ module _ (site : Site) (p : Here site) where
       head_of_reach p.ready p.brought_tabled p.within (rw (p.brought_is, qu_here tabled, fed_here tabled, p.own) at at_tables)
       (head_within tabled p.own refl p.brought_is at_tables)
 
-  module _ {reach : Reach} (of : HeadBy site reach) where
+  -- a reach below its head in this river; `HeadBy` says it of every river that the site may be of, which is more to ask
+  pub record ReachHere (reach : Reach) : Type 0 where
+    pub card : reach.card ≡ site.card
+    pub flow : reach.flow ≡ site.flows.flow
+    pub depth : reach.depth ≡ site.flows.depth
+    pub used : reach.used ≡ site.brought.used
+    pub head : HeadOfReach p.cards p.i reach.head
+
+  pub reach_here : {reach : Reach} → HeadBy site reach → ReachHere reach
+  reach_here of = record { card = of.card; flow = of.flow; depth = of.depth; used = of.used; head = of.head p }
+
+  module _ {reach : Reach} (of : ReachHere reach) where
     -- the figures below it are those of the reach
     pub figures_here : figures_of_reach reach ≡ figures_at p.cards (suc p.i)
     unfolding figures_of
     figures_here =
-        let here = of.head p in
+        let here = of.head in
         rw (of.used, used_here, of.card, p.own, of.depth, depth_here, of.flow, flow_here, here.bod, here.nitrogenous, here.oxygen) refl
 
     -- and so the line below it is that of the reach
@@ -201,7 +212,7 @@ module _ (site : Site) (p : Here site) where
     line_of_reach line e =
         record {
           figures = e ∙ figures_here;
-          mass = rw (ap (λ (f : Figures). f.head_bod) e, ap (λ (f : Figures). f.head_nitrogenous) e) (of.head p).mass;
+          mass = rw (ap (λ (f : Figures). f.head_bod) e, ap (λ (f : Figures). f.head_nitrogenous) e) of.head.mass;
         }
 
   pub line_ready : LineReady site.card site.flows.flow

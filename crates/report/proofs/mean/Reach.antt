@@ -18,13 +18,13 @@ use Rattle.report.specs.Mean.{mean_oxygen}
 use Rattle.report.specs.held.Along.{AlongBelow, AlongReach}
 use Rattle.report.specs.held.MeanLines.{ReachAveraged}
 use Rattle.report.specs.held.Lines.{brought_by_figures}
-use Rattle.report.specs.held.Reaches.{Here, HeadBy, figures_of_reach}
+use Rattle.report.specs.held.Reaches.{Here, figures_of_reach}
 use Rattle.report.specs.declared.reach.Reach.{Reach}
 use Rattle.report.specs.declared.reach.Site.{Site}
 use Rattle.report.specs.declared.along.ReachAlong.{ReachAlong}
 use Rattle.report.specs.declared.mean.ReachMean.{ReachMean}
 use Rattle.report.proofs.River.{falls}
-use Rattle.report.proofs.lines.Bringing.{stored_of_lem, is_river, flow_here, used_here, figures_here}
+use Rattle.report.proofs.lines.Bringing.{stored_of_lem, is_river, flow_here, used_here, ReachHere, figures_here}
 
 -- reach i + 1 along its way: its foot brings what its figures say, in bounds, and its mean
 pub record AlongOf (cards : List Card) (i : ℕ) (p : ReachAlong) : Type 0 where
@@ -32,12 +32,12 @@ pub record AlongOf (cards : List Card) (i : ℕ) (p : ReachAlong) : Type 0 where
   pub within : BroughtWithin cards i (brought_by_figures (flow_at cards (suc i)) (figures_at cards (suc i)))
   pub mean : oxygen_of p.mean ≡ mean_oxygen (card_of cards (suc i)) (above cards (suc i))
 
-module _ (site : Site) (p : Here site) {reach : Reach} (of : HeadBy site reach) where
+module _ (site : Site) (p : Here site) {reach : Reach} (of : ReachHere site p reach) where
   -- the reach along its way below its head
   pub along_of_reach : {along : ReachAlong} → AlongReach reach along → along.foot_oxygen < 4_294_967_296 → AlongOf p.cards p.i along
   unfolding figures_of mean_oxygen
   along_of_reach {along} below fits =
-      let here = of.head p in
+      let here = of.head in
       let h = reach.head in
       let card' = card_of p.cards (suc p.i) in
       let up = above p.cards (suc p.i) in
